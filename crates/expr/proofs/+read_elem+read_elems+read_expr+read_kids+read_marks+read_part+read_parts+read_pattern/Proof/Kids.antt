@@ -1,0 +1,34 @@
+-- n expressions in a row: a loop over `kidRows`.
+use Prim.Native.Nat.{ℕ}
+use borrow.Author.Needs.{needs}
+use native.Mathlib.Omega.{arith}
+use borrow.Fn.Kinds.{In}
+use mathlib.Core.Path.{refl}
+use Rattle.words.specs.Words.{words}
+use Rattle.expr.specs.Read.{reader}
+use Rattle.expr.proofs.Rows.{Row, kidRows, row-next, row-stop, row-done}
+use Rattle.expr.proofs.read_expr.Reads as read-expr
+use Rattle.expr.proofs.read_kids.Reads as read-kids
+use Rattle.expr.proofs.+read_elem+read_elems+read_expr+read_kids+read_marks+read_part+read_parts+read_pattern.Lts-read_kids.{Claims, Closed, ps, spec}
+use Rattle.expr.proofs.+read_elem+read_elems+read_expr+read_kids+read_marks+read_part+read_parts+read_pattern.Proof.Measures.{is, below, μ-expr, μ-kids}
+
+abbrev calls : ℕ → Claims
+calls t = (below μ-expr read-expr.Pre t, read-expr.Post)
+
+abbrev asks : ℕ → In 1 ps
+asks = is μ-kids read-kids.Pre
+
+pub holds : {M : Type 1} (t : ℕ) → Closed (calls t) (asks t) read-kids.Post M
+holds t =
+    spec (calls t) (asks t) read-kids.Post
+    (λ s names rows k at room n p₀ left₀ p left. Row (kidRows (reader (words s) names rows k room)) (words s) at n p left)  -- the loop's invariant
+    (λ s names rows k at room n p₀ left₀ p left. left)  -- and its measure
+    (λ c. record { same = refl; from = omega arith; within = omega arith })  -- loop-holds
+    (λ c κs. omega arith)  -- read-expr-requires
+    (λ c. search needs)  -- enum-known-r
+    (λ c. search needs)  -- enum-told
+    (λ c. row-stop (c .before .before .before .before .loop .inv) (omega arith) (c .enum-told .given .1) (c .before .before .read-expr .ensures))  -- returns
+    (λ c. omega arith)  -- sub-left
+    (λ c. omega arith)  -- loop-less
+    (λ c. row-next (c .before .before .before .before .before .loop .inv) (omega arith) (c .before .r .given .1) (c .before .before .before .read-expr .ensures))  -- loop-again
+    (λ c. row-done (c .before .loop .inv) (omega arith))  -- returns-2

@@ -1,0 +1,11 @@
+pub mod Shapes
+pub mod Rows
+pub mod Past
+pub mod After
+pub mod Strict
+pub mod Inverse
+pub mod Heads
+pub mod Sort
+pub mod ReadsBack
+pub mod Written
+pub mod Erased

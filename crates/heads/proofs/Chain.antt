@@ -1,0 +1,53 @@
+-- Reading in a row: a definition as the readers that it runs one after the other, and how far the code has come with it.
+-- What was read moves on (`past`), what was not is the definition's refusal (`stop`), and at the end stands its answer (`done`).
+use Prim.Native.Nat.{ℕ, _^_, _<_, _≤_}
+use native.Mathlib.Omega.{arith}
+use mathlib.Core.Path.{_≡_, _∙_}
+use mathlib.Core.List.{List}
+use lib.ListN.{length, drop}
+use mir.Syntax.{w64}
+use mir.Val.{Fits}
+use Rattle.words.specs.Words.{words}
+use Rattle.words.proofs.Words.{length-words}
+use Rattle.heads.specs.Got.{Got, ok, no, bind}
+use Rattle.heads.specs.Answer.{Ans}
+
+pub data Chain (A : Type 0) : Type 1 where
+  step : {B : Type 0} → (List ℕ → Got B) → (B → Chain A) → Chain A
+  last : (List ℕ → Got A) → Chain A
+
+abbrev pub run : {A : Type 0} → Chain A → List ℕ → Got A
+run (step f k) r = bind (f r) (λ x r2. run (k x) r2)
+run (last f) r = f r
+
+-- the definition g, from at on, is read up to p, and rest is left to read
+pub record Past {A : Type 0} (ws : List ℕ) (at : ℕ) (g : Got A) (p : ℕ) (rest : Chain A) : Type 0 where
+  pub same : g ≡ run rest (drop p ws)
+  pub from : at ≤ p
+  pub within : p ≤ length ws
+  pub small : length ws < 2 ^ 64
+
+-- a fact of a place k of the code: its type is read off its proof
+pub fact : {T : Type 0} {P : T → Type 0} → ((k : T) → P k) → (k : T) → P k
+fact h = h
+
+pub begin : {A : Type 0} (f : List ℕ → Got A) (c : Chain A) → ((r : List ℕ) → f r ≡ run c r) → (s : List ℕ) (at : ℕ) → at ≤ length (words s) → length s < 2 ^ 64 → Past (words s) at (f (drop at (words s))) at c
+begin f c e s at h l = record { same = e (drop at (words s)); from = omega arith; within = h; small = omega (arith, length-words s) }
+
+module _ {A : Type 0} {ws : List ℕ} {at : ℕ} {g : Got A} {p : ℕ} where
+  pub fits : {c : Chain A} → Past ws at g p c → Fits w64 p
+  fits o = omega arith
+
+  -- what is left, put another way
+  pub turn : {c : Chain A} (d : Chain A) → Past ws at g p c → run c (drop p ws) ≡ run d (drop p ws) → Past ws at g p d
+  turn d o e = record { same = o .same ∙ e; from = o .from; within = o .within; small = o .small }
+
+  pub done : {f : List ℕ → Got A} → Past ws at g p (last f) → Ans ws at g (f (drop p ws)) p
+  done o = record { same = o .same; from = o .from; within = o .within }
+
+  module _ {B : Type 0} {f : List ℕ → Got B} {k : B → Chain A} (o : Past ws at g p (step f k)) where
+    pub past : {x : B} {q : ℕ} → Ans ws p (f (drop p ws)) (ok x (drop q ws)) q → Past ws at g q (k x)
+    past a = record { same = rw (o .same, a .same); from = omega arith; within = a .within; small = o .small }
+
+    pub stop : {c e : ℕ} → Ans ws p (f (drop p ws)) (no c) e → Ans ws at g (no c) at
+    stop a = record { same = rw (o .same, a .same); from = omega arith; within = omega arith }

@@ -1,0 +1,4 @@
+pub mod Later
+pub mod Chain
+pub mod Opened
+pub mod Bindings
