@@ -13,7 +13,7 @@ use Rattle.heads.specs.declared.FormRead.{FormRead}
 use Rattle.heads.specs.declared.FormRead.the-variants as form-read
 use Rattle.expr.specs.Tree.{tree}
 use Rattle.expr.specs.Read.{Reader, noMore, times, marks, maybePattern, afterForm, readExpr}
-use Rattle.expr.proofs.Shapes.{bare-bind, bare-head, bare-map}
+use Rattle.heads.proofs.Shapes.{bare-bind, bare-head, bare-map}
 use Rattle.expr.proofs.Rows.{times-rest}
 use Rattle.expr.proofs.Past.{Plan, last, step, go, Past}
 

@@ -9,7 +9,7 @@ use Rattle.heads.specs.Answer.{Reads}
 use Rattle.heads.proofs.Later.{readLater}
 use Rattle.heads.specs.declared.Read.{Read}
 use Rattle.heads.specs.declared.Read.the-variants as read
-use Rattle.expr.proofs.Shapes.{Rest}
+use Rattle.heads.proofs.Shapes.{Rest}
 
 -- what is still to be read: the last thing, or one and then more
 pub data Plan : Type 0 where

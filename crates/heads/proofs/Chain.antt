@@ -2,14 +2,14 @@
 -- What was read moves on (`past`), what was not is the definition's refusal (`stop`), and at the end stands its answer (`done`).
 use Prim.Native.Nat.{ℕ, _^_, _<_, _≤_}
 use native.Mathlib.Omega.{arith}
-use mathlib.Core.Path.{_≡_, _∙_}
+use mathlib.Core.Path.{_≡_, refl, _∙_}
 use mathlib.Core.List.{List}
 use lib.ListN.{length, drop}
 use mir.Syntax.{w64}
 use mir.Val.{Fits}
 use Rattle.words.specs.Words.{words}
 use Rattle.words.proofs.Words.{length-words}
-use Rattle.heads.specs.Got.{Got, ok, no, bind}
+use Rattle.heads.specs.Got.{Got, ok, no, bind, bare}
 use Rattle.heads.specs.Answer.{Ans}
 
 pub data Chain (A : Type 0) : Type 1 where
@@ -19,6 +19,24 @@ pub data Chain (A : Type 0) : Type 1 where
 abbrev pub run : {A : Type 0} → Chain A → List ℕ → Got A
 run (step f k) r = bind (f r) (λ x r2. run (k x) r2)
 run (last f) r = f r
+
+-- a chain of which only what follows it matters
+abbrev pub bared : {A : Type 0} → Chain A → Chain (Unit {0})
+bared (step f k) = step f (λ x. bared (k x))
+bared (last f) = last (λ r. bare (f r))
+
+bare-each : {B : Type 0} (k l : B → List ℕ → Got (Unit {0})) (g : Got B) → ((x : B) (r : List ℕ) → k x r ≡ l x r) → bind g k ≡ bind g l
+bare-each k l (ok x r) e = e x r
+bare-each k l (no c) e = refl
+
+bare-step : {A B : Type 0} (g : Got B) (k : B → List ℕ → Got A) → bare (bind g k) ≡ bind g (λ x r. bare (k x r))
+bare-step (ok x r) k = refl
+bare-step (no c) k = refl
+
+pub bare-run : {A : Type 0} (c : Chain A) (r : List ℕ) → bare (run c r) ≡ run (bared c) r
+bare-run (step f k) r =
+    bare-step (f r) (λ x r2. run (k x) r2) ∙ bare-each (λ x r2. bare (run (k x) r2)) (λ x r2. run (bared (k x)) r2) (f r) (λ x r2. bare-run (k x) r2)
+bare-run (last f) r = refl
 
 -- the definition g, from at on, is read up to p, and rest is left to read
 pub record Past {A : Type 0} (ws : List ℕ) (at : ℕ) (g : Got A) (p : ℕ) (rest : Chain A) : Type 0 where

@@ -1,4 +1,5 @@
 -- n expressions in a row: a loop over `kidRows`.
+use Rattle.heads.proofs.Rows.{Row, row-next, row-stop, row-done}
 use Prim.Native.Nat.{ℕ}
 use borrow.Author.Needs.{needs}
 use native.Mathlib.Omega.{arith}
@@ -6,7 +7,7 @@ use borrow.Fn.Kinds.{In}
 use mathlib.Core.Path.{refl}
 use Rattle.words.specs.Words.{words}
 use Rattle.expr.specs.Read.{reader}
-use Rattle.expr.proofs.Rows.{Row, kidRows, row-next, row-stop, row-done}
+use Rattle.expr.proofs.Rows.{kidRows}
 use Rattle.expr.proofs.read_expr.Reads as read-expr
 use Rattle.expr.proofs.read_kids.Reads as read-kids
 use Rattle.expr.proofs.+read_elem+read_elems+read_expr+read_kids+read_marks+read_part+read_parts+read_pattern.Lts-read_kids.{Claims, Closed, ps, spec}

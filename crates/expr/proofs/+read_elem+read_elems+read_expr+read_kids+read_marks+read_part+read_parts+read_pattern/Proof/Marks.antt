@@ -1,4 +1,5 @@
 -- n marks of a kind, each with its expressions: a loop over `markRows`, whose turn is a word and then as many expressions as it says.
+use Rattle.heads.proofs.Rows.{Row, row-stop, row-next, row-done}
 use Prim.Native.Nat.{ℕ}
 use borrow.Author.Needs.{needs}
 use native.Mathlib.Omega.{arith}
@@ -9,7 +10,7 @@ use Rattle.words.specs.Words.{words}
 use Rattle.words.proofs.Words.{length-words}
 use Rattle.heads.specs.Answer.{Reads}
 use Rattle.expr.specs.Read.{reader}
-use Rattle.expr.proofs.Rows.{Row, markRows, markOne, mark-none, mark-one, row-stop, row-next, row-done}
+use Rattle.expr.proofs.Rows.{markRows, markOne, mark-none, mark-one}
 use Rattle.heads.proofs.mark_low.Reads as mark-low
 use Rattle.heads.proofs.mark_high.Reads as mark-high
 use Rattle.heads.proofs.word_in.Reads as word-in

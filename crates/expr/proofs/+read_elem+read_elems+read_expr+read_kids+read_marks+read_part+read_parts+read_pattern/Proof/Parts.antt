@@ -1,4 +1,5 @@
 -- n parts of a pattern: a loop over `partRows`.
+use Rattle.heads.proofs.Rows.{Row, row-next, row-stop, row-done}
 use Prim.Native.Nat.{ℕ}
 use borrow.Author.Needs.{needs}
 use native.Mathlib.Omega.{arith}
@@ -7,7 +8,7 @@ use mathlib.Core.Path.{refl}
 use Rattle.words.specs.Words.{words}
 use Rattle.heads.specs.Answer.{tables}
 use Rattle.expr.specs.Read.{reader}
-use Rattle.expr.proofs.Rows.{Row, partRows, row-next, row-stop, row-done}
+use Rattle.expr.proofs.Rows.{partRows}
 use Rattle.expr.proofs.read_part.Reads as read-part
 use Rattle.expr.proofs.read_parts.Reads as read-parts
 use Rattle.expr.proofs.+read_elem+read_elems+read_expr+read_kids+read_marks+read_part+read_parts+read_pattern.Lts-read_parts.{Claims, Closed, ps, spec}

@@ -1,0 +1,82 @@
+-- A clause without its spans is as well-formed as the clause: erasing changes no count and no word but a span's, and 0 to 0 is a span.
+-- So clauses that differ in no word but a span's are the same without their spans.
+use Prim.Native.Nat.{ℕ}
+use native.Mathlib.Omega.{arith}
+use mathlib.Core.Path.{_≡_, _∙_}
+use mathlib.Core.List.{List, [], _∷_, _++_, flatMap, map}
+use lib.ListN.{length, length-map}
+use Rattle.heads.specs.Got.{Got, ok}
+use Rattle.heads.specs.Head.{Tables}
+use Rattle.expr.specs.Tree.{Exprs, Steps}
+use Rattle.expr.specs.Erase.{erases, eraseS}
+use Rattle.expr.specs.Well.{WellPattern}
+use Rattle.expr.proofs.Erased.{erase-kids, erase-marks, erase-elems, erase-parts, erase-well, erase-wells, erase-wellS}
+use Rattle.clauses.specs.Tree.{Projection, projection, Reading, where', set, remove, delete, Clause, opening, reading, with', return, unwind, call, Arm, arm}
+use Rattle.clauses.specs.Read.{maxDepth, readClause, readArm}
+use Rattle.clauses.specs.Write.{writeClause, writeArm}
+use Rattle.clauses.specs.Well.{Each, WellProjection, WellReading, WellMany, WellClause, WellArm}
+use Rattle.clauses.specs.Erase.{eraseP, eraseC, eraseA}
+use Rattle.clauses.proofs.ReadsBackClause.{same-many, clause-back, arm-back}
+
+module _ {A : Type 0} (Well : A → Type 0) (erase : A → A) (keeps : (x : A) → Well x → Well (erase x)) where
+  pub erase-each : (xs : List A) → Each Well xs → Each Well (map erase xs)
+  unfolding Each
+  erase-each [] h = tt
+  erase-each (x ∷ xs) h = (keeps x (h .0), erase-each xs (h .1))
+
+  erase-many : (xs : List A) → WellMany Well xs → WellMany Well (map erase xs)
+  unfolding WellMany
+  erase-many xs h = (omega (arith, length-map xs erase), erase-each xs (h .1))
+
+-- lists that differ in no word but a span's are one list without their spans
+erase-words : {A : Type 0} (one : List ℕ → Got A) (write : A → List ℕ) (Well : A → Type 0) →
+    ((x : A) (r : List ℕ) → Well x → one (write x ++ r) ≡ ok x r) →
+    (erase : A → A) → ((x : A) → Well x → Well (erase x)) →
+    (xs ys : List A) → Each Well xs → Each Well ys →
+    flatMap write (map erase xs) ≡ flatMap write (map erase ys) → length xs ≡ length ys → map erase xs ≡ map erase ys
+erase-words one write Well back erase keeps xs ys h i p n =
+    same-many one write Well back _ _ (erase-each Well erase keeps xs h) (erase-each Well erase keeps ys i) p (simp length-map n)
+
+module _ (w : Tables) where
+  erase-projection : (p : Projection) → WellProjection w p → WellProjection w (eraseP p)
+  unfolding eraseP WellProjection
+  erase-projection (projection a e) h = (h .0, erase-well w e maxDepth (h .1))
+
+  erase-reading : (r : Reading) (es : Exprs) → WellReading w r es → WellReading w r (erases es)
+  unfolding WellReading
+  erase-reading where' es h = (erase-kids es ∙ h .0, erase-marks es ∙ h .1, erase-wells w 0 es maxDepth (h .2))
+  erase-reading set es h = (erase-kids es ∙ h .0, rw (erase-marks es) (h .1), erase-wells w 1 es maxDepth (h .2))
+  erase-reading remove es h = (erase-kids es ∙ h .0, rw (erase-marks es) (h .1), erase-wells w 2 es maxDepth (h .2))
+  erase-reading delete es h = (erase-marks es ∙ h .0, rw (erase-kids es) (h .1), erase-wells w 0 es maxDepth (h .2))
+
+  erase-pattern : (s : Steps) → WellPattern w s maxDepth → WellPattern w (eraseS s) maxDepth
+  unfolding WellPattern
+  erase-pattern s h = (rw (erase-elems s, erase-parts s) (h .0), erase-wellS w s maxDepth (h .1))
+
+  pub erase-clause-well : (c : Clause) → WellClause w c → WellClause w (eraseC c)
+  unfolding eraseC WellClause
+  erase-clause-well (opening o a b s) h = (omega arith, h .1, erase-pattern s (h .2))
+  erase-clause-well (reading r a b es) h = (omega arith, erase-reading r es (h .1))
+  erase-clause-well (with' a b ps f) h =
+      (omega arith, erase-many (WellProjection w) eraseP erase-projection ps (h .1), rw (erase-kids f) (h .2), erase-marks f ∙ h .3, erase-wells w 0 f maxDepth (h .4))
+  erase-clause-well (return a b ps) h = (omega arith, erase-many (WellProjection w) eraseP erase-projection ps (h .1))
+  erase-clause-well (unwind a b v e) h = (omega arith, h .1, h .2, erase-well w e maxDepth (h .3))
+  erase-clause-well (call a b es ys) h = (omega arith, erase-reading delete es (h .1), h .2)
+
+  pub erase-arm-well : (a : Arm) → WellArm w a → WellArm w (eraseA a)
+  unfolding eraseA WellArm
+  erase-arm-well (arm a b cs) h = (omega arith, erase-many (WellClause w) eraseC erase-clause-well cs (h .1))
+
+  pub erase-clauses-well : (cs : List Clause) → Each (WellClause w) cs → Each (WellClause w) (map eraseC cs)
+  erase-clauses-well = erase-each (WellClause w) eraseC erase-clause-well
+
+  pub erase-arms-well : (xs : List Arm) → Each (WellArm w) xs → Each (WellArm w) (map eraseA xs)
+  erase-arms-well = erase-each (WellArm w) eraseA erase-arm-well
+
+  pub erase-clauses-words : (cs ds : List Clause) → Each (WellClause w) cs → Each (WellClause w) ds →
+      flatMap writeClause (map eraseC cs) ≡ flatMap writeClause (map eraseC ds) → length cs ≡ length ds → map eraseC cs ≡ map eraseC ds
+  erase-clauses-words = erase-words (readClause w) writeClause (WellClause w) (clause-back w) eraseC erase-clause-well
+
+  pub erase-arms-words : (xs ys : List Arm) → Each (WellArm w) xs → Each (WellArm w) ys →
+      flatMap writeArm (map eraseA xs) ≡ flatMap writeArm (map eraseA ys) → length xs ≡ length ys → map eraseA xs ≡ map eraseA ys
+  erase-arms-words = erase-words (readArm w) writeArm (WellArm w) (arm-back w) eraseA erase-arm-well

@@ -1,0 +1,39 @@
+-- Each arm is the definition's entry for its kind, of which the `..-bare` laws leave what its reader reads.
+use native.Mathlib.Omega.{arith}
+use borrow.Author.Needs.{needs}
+use borrow.Author.Tests.{ne-eqb}
+use Rattle.clauses.specs.Read.{readBody}
+use Rattle.clauses.proofs.Plans.{where-bare, return-bare, opening-bare, marked-bare, delete-bare}
+use Rattle.clauses.proofs.read_body.Statement.{statement}
+use Rattle.clauses.proofs.read_body.Tie as tie
+
+pub read-body-spec : {M : Type 1} → statement M
+unfolding readBody
+read-body-spec =
+    tie.close
+    (tie.spec
+    (λ c κs. search needs)  -- read-match-requires
+    (λ c κs. search needs)  -- read-kids-requires
+    (λ c κs. search needs)  -- read-with-requires
+    (λ c κs. search needs)  -- counted-projections-requires
+    (λ c κs. search needs)  -- read-unwind-requires
+    (λ c κs. search needs)  -- read-pattern-requires
+    (λ c κs. search needs)  -- read-pattern-requires-2
+    (λ c κs. search needs)  -- counted-marks-requires
+    (λ c κs. search needs)  -- counted-marks-requires-2
+    (λ c κs. search needs)  -- counted-exprs-requires
+    (λ c κs. search needs)  -- read-call-requires
+    (λ c. rw (c .before .match .keys1) (c .read-match .ensures))  -- returns
+    (λ c. rw (c .before .match .keys2, where-bare) (c .read-kids .ensures))  -- returns-2
+    (λ c. rw (c .before .match .keys3) (c .read-with .ensures))  -- returns-3
+    (λ c. rw (c .before .match .keys4, return-bare) (c .counted-projections .ensures))  -- returns-4
+    (λ c. rw (c .before .match .keys5) (c .read-unwind .ensures))  -- returns-5
+    (λ c. rw (c .before .match .keys6, opening-bare) (c .read-pattern .ensures))  -- returns-6
+    (λ c. rw (c .before .match .keys7, opening-bare) (c .read-pattern2 .ensures))  -- returns-7
+    (λ c. rw (c .before .match .keys8, marked-bare) (c .counted-marks .ensures))  -- returns-8
+    (λ c. rw (c .before .match .keys9, marked-bare) (c .counted-marks2 .ensures))  -- returns-9
+    (λ c. rw (c .before .match .keys10, delete-bare) (c .counted-exprs .ensures))  -- returns-10
+    (λ c. rw (c .before .match .keys11) (c .read-call .ensures))  -- returns-11
+    (λ c.  -- returns-12
+    let r = c .match .rest in
+    record { same = simp (ne-eqb _ 1 (r .0 .0 .0 .0 .0 .0 .0 .0 .0 .0 .1), ne-eqb _ 2 (r .0 .0 .0 .0 .0 .0 .0 .0 .0 .1), ne-eqb _ 3 (r .0 .0 .0 .0 .0 .0 .0 .0 .1), ne-eqb _ 4 (r .0 .0 .0 .0 .0 .0 .0 .1), ne-eqb _ 5 (r .0 .0 .0 .0 .0 .0 .1), ne-eqb _ 6 (r .0 .0 .0 .0 .0 .1), ne-eqb _ 7 (r .0 .0 .0 .0 .1), ne-eqb _ 8 (r .0 .0 .0 .1), ne-eqb _ 9 (r .0 .0 .1), ne-eqb _ 10 (r .0 .1), ne-eqb _ 11 (r .1)); from = omega arith; within = omega arith }))

@@ -1,0 +1,26 @@
+-- n projections in a row: a loop over `manyRows`.
+use borrow.Author.Needs.{needs}
+use native.Mathlib.Omega.{arith}
+use mathlib.Core.Path.{refl}
+use Rattle.words.specs.Words.{words}
+use Rattle.heads.specs.Answer.{tables}
+use Rattle.clauses.specs.Read.{readProjection}
+use Rattle.heads.proofs.Rows.{Row, row-next, row-stop, row-done, manyRows}
+use Rattle.clauses.proofs.read_projections.Statement.{statement}
+use Rattle.clauses.proofs.read_projections.Tie as tie
+
+pub read-projections-spec : {M : Type 1} → statement M
+read-projections-spec =
+    tie.close
+    (tie.spec
+    (λ s names rows k at n p₀ left₀ p left. Row (manyRows (readProjection (tables (words s) names rows k))) (words s) at n p left)  -- the loop's invariant
+    (λ s names rows k at n p₀ left₀ p left. left)  -- and its measure
+    (λ c. record { same = refl; from = omega arith; within = omega arith })  -- loop-holds
+    (λ c κs. omega arith)  -- read-projection-requires
+    (λ c. search needs)  -- enum-known-r
+    (λ c. search needs)  -- enum-told
+    (λ c. row-stop (c .before .before .before .before .loop .inv) (omega arith) (c .enum-told .given .1) (c .before .before .read-projection .ensures))  -- returns
+    (λ c. omega arith)  -- sub-left
+    (λ c. omega arith)  -- loop-less
+    (λ c. row-next (c .before .before .before .before .before .loop .inv) (omega arith) (c .before .r .given .1) (c .before .before .before .read-projection .ensures))  -- loop-again
+    (λ c. row-done (c .before .loop .inv) (omega arith)))  -- returns-2

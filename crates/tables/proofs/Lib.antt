@@ -1,0 +1,5 @@
+pub mod Front
+pub mod Fresh
+pub mod Text
+pub mod Scan
+pub mod Ids

@@ -1,0 +1,75 @@
+-- Laws of a name in the bytes of a section: its text, its length's word, and what reading it gives.
+use Prim.Native.Nat.{ℕ, _+_, _-_, _<_, _≤_}
+use native.Mathlib.Omega.{arith}
+use mathlib.Core.Path.{_≡_, refl}
+use mathlib.Core.Bool.{_&&_}
+use mathlib.Core.List.{List, [], _∷_}
+use borrow.Author.Tests.{le-leb, lt-leb}
+use lib.ListN.{length, take, drop, length-drop}
+use lib.Seq.{drop-drop}
+use Rattle.words.specs.Utf8.{isUtf8}
+use Rattle.words.proofs.Words.{drop-word}
+use Rattle.heads.specs.Got.{Got, ok, no, pick}
+use Rattle.heads.specs.Answer.{Ans, readEnd}
+use Rattle.heads.specs.declared.Read.{Read}
+use Rattle.heads.specs.declared.Read.the-variants as read
+use Rattle.tables.specs.Name.{padded, allZero, nameBody, readName, textAt, lengthAt, nameAt}
+use Rattle.tables.specs.Answer.{textGot, nameGot, nameLonger}
+
+-- a refusal ends where it began
+pub refuse : {s : List ℕ} {at : ℕ} {g : Got (List ℕ)} → at ≤ length s → g ≡ no 3 → Ans s at g (no 3) at
+refuse h e = record { same = e; from = omega arith; within = h }
+
+-- the text at p, where it ends within s, and where it doesn't
+pub text-whole : (s : List ℕ) (p n : ℕ) → n ≡ lengthAt s p → p + 4 + n ≤ length s → take (p + 4 + n - (p + 4)) (drop (p + 4) s) ≡ nameAt s p
+unfolding nameAt textAt
+text-whole s p n e h =
+    let same : p + 4 + n - (p + 4) ≡ n = omega arith in
+    rw (same, ← e, le-leb (p + 4 + n) (length s) h)
+
+pub text-none : (s : List ℕ) (p : ℕ) → length s < p + 4 + lengthAt s p → [] ≡ nameAt s p
+unfolding nameAt textAt
+text-none s p h = rw (lt-leb (p + 4 + lengthAt s p) (length s) h)
+
+-- a name that is too long, one that doesn't end within s, and any other
+pub body-long : (s : List ℕ) (at n : ℕ) → 255 < n → nameBody n (drop at s) ≡ no 3
+unfolding nameBody
+body-long s at n h = rw (lt-leb n 255 h)
+
+pub body-short : (s : List ℕ) (at n : ℕ) → n ≤ 255 → length s - at < padded n → nameBody n (drop at s) ≡ no 3
+unfolding nameBody
+body-short s at n h k = rw (le-leb n 255 h, length-drop at s, lt-leb (padded n) (length s - at) k)
+
+pub body-fits : (s : List ℕ) (at n : ℕ) → n ≤ 255 → at + padded n ≤ length s → nameBody n (drop at s) ≡ pick (allZero (take (at + padded n - (at + n)) (drop (at + n) s)) && isUtf8 (take (at + n - at) (drop at s))) (ok (textAt s at n) (drop (at + padded n) s)) (no 3)
+unfolding nameBody textAt
+body-fits s at n h k =
+    let text : at + n - at ≡ n = omega arith in
+    let rest : at + padded n - (at + n) ≡ padded n - n = omega arith in
+    rw
+    (text, rest, le-leb n 255 h, length-drop at s, le-leb (padded n) (length s - at) (omega arith), drop-drop n at s, drop-drop (padded n) at s, le-leb (at + n) (length s) (omega arith))
+
+-- the first four bytes of what is left make the length; fewer are refused
+pub name-short : (s : List ℕ) → length s < 4 → readName s ≡ no 3
+unfolding readName
+name-short [] h = refl
+name-short (a ∷ []) h = refl
+name-short (a ∷ (b ∷ [])) h = refl
+name-short (a ∷ (b ∷ (c ∷ []))) h = refl
+name-short (a ∷ (b ∷ (c ∷ (d ∷ s)))) h = absurd (omega arith)
+
+name-body : (s : List ℕ) (at : ℕ) → at + 4 ≤ length s → readName (drop at s) ≡ nameBody (lengthAt s at) (drop (at + 4) s)
+unfolding readName
+name-body s at h =
+    let two : at + 1 + 1 ≡ at + 2 = omega arith in
+    let three : at + 2 + 1 ≡ at + 3 = omega arith in
+    let four : at + 3 + 1 ≡ at + 4 = omega arith in
+    rw
+    (drop-word s at (omega arith), drop-word s (at + 1) (omega arith), two, drop-word s (at + 2) (omega arith), three, drop-word s (at + 3) (omega arith), four)
+
+-- what is read after the length is the name
+pub named : (s : List ℕ) (at n : ℕ) (r : Read) → n ≡ lengthAt s at → at + 4 ≤ length s → Ans s (at + 4) (nameBody n (drop (at + 4) s)) (textGot s (at + 4) n r) (readEnd (at + 4) r) → nameLonger at r × Ans s at (readName (drop at s)) (nameGot s at r) (readEnd at r)
+unfolding nameAt
+named s at n (read.Next p) e h a =
+    (a .from, record { same = rw (name-body s at h, ← e, a .same); from = omega arith; within = a .within })
+named s at n (read.Refused k) e h a =
+    (tt, record { same = rw (name-body s at h, ← e, a .same); from = omega arith; within = omega arith })

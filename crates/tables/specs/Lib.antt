@@ -1,0 +1,4 @@
+pub mod Distinct
+pub mod Name
+pub mod Row
+pub mod Answer
