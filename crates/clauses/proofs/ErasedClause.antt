@@ -2,10 +2,10 @@
 -- So clauses that differ in no word but a span's are the same without their spans.
 use Prim.Native.Nat.{ℕ}
 use native.Mathlib.Omega.{arith}
-use mathlib.Core.Path.{_≡_, _∙_}
+use mathlib.Core.Path.{_≡_, refl, _∙_}
 use mathlib.Core.List.{List, [], _∷_, _++_, flatMap, map}
-use lib.ListN.{length, length-map}
-use Rattle.heads.specs.Got.{Got, ok}
+use lib.ListN.{length-map}
+use Rattle.heads.specs.Got.{Got, ok, no, wordIn}
 use Rattle.heads.specs.Head.{Tables}
 use Rattle.expr.specs.Tree.{Exprs, Steps}
 use Rattle.expr.specs.Erase.{erases, eraseS}
@@ -29,13 +29,12 @@ module _ {A : Type 0} (Well : A → Type 0) (erase : A → A) (keeps : (x : A) �
   erase-many xs h = (omega (arith, length-map xs erase), erase-each xs (h .1))
 
 -- lists that differ in no word but a span's are one list without their spans
-erase-words : {A : Type 0} (one : List ℕ → Got A) (write : A → List ℕ) (Well : A → Type 0) →
+erase-words : {A : Type 0} (one : List ℕ → Got A) {c : ℕ} → one [] ≡ no c → (write : A → List ℕ) (Well : A → Type 0) →
     ((x : A) (r : List ℕ) → Well x → one (write x ++ r) ≡ ok x r) →
     (erase : A → A) → ((x : A) → Well x → Well (erase x)) →
-    (xs ys : List A) → Each Well xs → Each Well ys →
-    flatMap write (map erase xs) ≡ flatMap write (map erase ys) → length xs ≡ length ys → map erase xs ≡ map erase ys
-erase-words one write Well back erase keeps xs ys h i p n =
-    same-many one write Well back _ _ (erase-each Well erase keeps xs h) (erase-each Well erase keeps ys i) p (simp length-map n)
+    (xs ys : List A) → Each Well xs → Each Well ys → flatMap write (map erase xs) ≡ flatMap write (map erase ys) → map erase xs ≡ map erase ys
+erase-words one e write Well back erase keeps xs ys h i p =
+    same-many one write Well back e _ _ (erase-each Well erase keeps xs h) (erase-each Well erase keeps ys i) p
 
 module _ (w : Tables) where
   erase-projection : (p : Projection) → WellProjection w p → WellProjection w (eraseP p)
@@ -74,9 +73,11 @@ module _ (w : Tables) where
   erase-arms-well = erase-each (WellArm w) eraseA erase-arm-well
 
   pub erase-clauses-words : (cs ds : List Clause) → Each (WellClause w) cs → Each (WellClause w) ds →
-      flatMap writeClause (map eraseC cs) ≡ flatMap writeClause (map eraseC ds) → length cs ≡ length ds → map eraseC cs ≡ map eraseC ds
-  erase-clauses-words = erase-words (readClause w) writeClause (WellClause w) (clause-back w) eraseC erase-clause-well
+      flatMap writeClause (map eraseC cs) ≡ flatMap writeClause (map eraseC ds) → map eraseC cs ≡ map eraseC ds
+  unfolding readClause wordIn
+  erase-clauses-words = erase-words (readClause w) refl writeClause (WellClause w) (clause-back w) eraseC erase-clause-well
 
   pub erase-arms-words : (xs ys : List Arm) → Each (WellArm w) xs → Each (WellArm w) ys →
-      flatMap writeArm (map eraseA xs) ≡ flatMap writeArm (map eraseA ys) → length xs ≡ length ys → map eraseA xs ≡ map eraseA ys
-  erase-arms-words = erase-words (readArm w) writeArm (WellArm w) (arm-back w) eraseA erase-arm-well
+      flatMap writeArm (map eraseA xs) ≡ flatMap writeArm (map eraseA ys) → map eraseA xs ≡ map eraseA ys
+  unfolding readArm wordIn
+  erase-arms-words = erase-words (readArm w) refl writeArm (WellArm w) (arm-back w) eraseA erase-arm-well

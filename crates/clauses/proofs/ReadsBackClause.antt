@@ -1,23 +1,40 @@
 -- What is written reads back: the words of a well-formed clause or arm, and whatever follows them, read as it and what follows.
--- The same of many of a kind, so that the same words are of one list.
-use Prim.Native.Nat.{ℕ, suc, _<_}
+-- The same of many of a kind; and words that are read to their end say how many there are, so that the same words are of one list.
+use Prim.Native.Nat.{ℕ, zero, suc, _<_}
 use native.Mathlib.Omega.{arith}
-use mathlib.Core.Path.{_≡_, refl, sym, _∙_}
+use mathlib.Core.Path.{_≡_, refl, ap}
 use mathlib.Core.List.{List, [], _∷_, _++_, append-assoc, flatMap}
 use mathlib.Core.Option.{Option, none, some}
 use lib.ListN.{length}
-use Rattle.heads.specs.Got.{Got, ok, many, counted}
+use Rattle.heads.specs.Got.{Got, ok, no, many, counted}
 use Rattle.heads.specs.Head.{Tables}
 use Rattle.expr.specs.Tree.{Exprs, kidCount, markCount}
 use Rattle.expr.specs.Read.{times}
 use Rattle.expr.specs.Write.{writes}
 use Rattle.expr.specs.Well.{IsWord, IsSpan, Wells}
-use Rattle.expr.proofs.Inverse.{word-back, low-back}
+use Rattle.expr.proofs.Inverse.{never, Gives, gave, after, word-back, low-back}
 use Rattle.expr.proofs.ReadsBack.{reads-back, row-back, plain-row-back, pattern-back}
 use Rattle.clauses.specs.Tree.{Projection, projection, Yield, yield, match, create, merge, where', set, remove, delete, Clause, opening, reading, with', return, unwind, call, Arm, arm}
 use Rattle.clauses.specs.Read.{maxDepth, aliasOf, readProjection, readYield, countedExprs, countedMarks, readBody, readClause, readArm, clausal}
 use Rattle.clauses.specs.Write.{aliasWord, writeProjection, writeYield, countedWords, openingCode, openingFlag, readingCode, readingCount, writeClause, writeArm}
 use Rattle.clauses.specs.Well.{Each, WellAlias, WellProjection, WellYield, WellOpening, WellReading, WellMany, WellClause, WellArm}
+
+itself : {A : Type 0} (g : Got A) → Gives g (λ x r. g ≡ ok x r)
+itself g = record { given = λ x r e. e }
+
+-- Each takes at least a word: two readings of the same words to their end are one.
+module _ {A : Type 0} (one : List ℕ → Got A) {c : ℕ} (some : one [] ≡ no c) where
+  alike : (n m : ℕ) (ws : List ℕ) → Gives (many one n ws) (λ xs r. Gives (many one m ws) (λ ys s. r ≡ [] → s ≡ [] → (n ≡ m) × (xs ≡ ys)))
+  unfolding many
+  alike zero zero ws = gave (gave (λ p q. (refl, refl)))
+  alike zero (suc m) ws = gave (record { given = λ ys s e p q. never (let z = rw (p, some) at e in cc) })
+  alike (suc n) zero ws = record { given = λ xs r e. gave (λ p q. never (let z = rw (q, some) at e in cc)) }
+  alike (suc n) (suc m) ws =
+      after (itself (one ws))
+      (λ x r e. rw e (after (alike n m r) (λ xs s h. gave (after h (λ ys t i. gave (λ p q. (ap suc (i p q .0), ap (_∷_ x) (i p q .1))))))))
+
+  pub many-once : (n m : ℕ) (ws : List ℕ) (xs ys : List A) → many one n ws ≡ ok xs [] → many one m ws ≡ ok ys [] → (n ≡ m) × (xs ≡ ys)
+  many-once n m ws xs ys p q = alike n m ws .given xs [] p .given ys [] q refl refl
 
 module _ {A : Type 0} (one : List ℕ → Got A) (write : A → List ℕ) (Well : A → Type 0)
     (back : (x : A) (r : List ℕ) → Well x → one (write x ++ r) ≡ ok x r) where
@@ -31,9 +48,8 @@ module _ {A : Type 0} (one : List ℕ → Got A) (write : A → List ℕ) (Well 
   counted-back xs r h = rw (low-back 4294967296 (length xs) (flatMap write xs ++ r) (h .0)) (many-back xs r (h .1))
 
   -- the same words are of one list
-  pub same-many : (xs ys : List A) → Each Well xs → Each Well ys → flatMap write xs ≡ flatMap write ys → length xs ≡ length ys → xs ≡ ys
-  same-many xs ys h i p n =
-      let q : ok xs [] ≡ ok ys [] = sym (many-back xs [] h) ∙ rw (p, n) (many-back ys [] i) in cc
+  pub same-many : {c : ℕ} → one [] ≡ no c → (xs ys : List A) → Each Well xs → Each Well ys → flatMap write xs ≡ flatMap write ys → xs ≡ ys
+  same-many e xs ys h i p = many-once one e (length xs) (length ys) (flatMap write xs ++ []) xs ys (many-back xs [] h) (rw p (many-back ys [] i)) .1
 
 alias-low : (w : Tables) (a : Option ℕ) → WellAlias w a → aliasWord a < suc (w .names)
 unfolding WellAlias

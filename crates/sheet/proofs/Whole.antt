@@ -1,0 +1,122 @@
+-- The whole sheet from its pieces: where the places, the tables, or head and arms are refused, so is the sheet, and else it is accepted.
+use Prim.Native.Nat.{ℕ, _+_, _*_, _-_, _≤_}
+use native.Mathlib.Omega.{arith}
+use mathlib.Core.Path.{_≡_, refl, sym, ap, _∙_}
+use mathlib.Core.Bool.{Bool, true, false}
+use mathlib.Core.List.{List, [], _∷_, map}
+use lib.ListN.{length, take, drop, length-take, length-drop}
+use Rattle.words.specs.Words.{words}
+use Rattle.words.proofs.Words.{length-words}
+use Rattle.heads.specs.Got.{Got, ok, no, many}
+use Rattle.heads.specs.Answer.{rowIds, isIn}
+use Rattle.expr.proofs.Inverse.{never}
+use Rattle.clauses.specs.Tree.{Clause, Arm}
+use Rattle.tables.specs.Distinct.{distinct}
+use Rattle.tables.specs.Row.{Row, rowId, readRow}
+use Rattle.sheet.specs.Trailer.{placesOf, section}
+use Rattle.sheet.specs.Statement.{Statement}
+use Rattle.sheet.specs.Read.{Sheet, accepted, refused, then', unless, entire, readNames, readRows, readClauses, locate, readSections, readSheet}
+use Rattle.sheet.specs.Answer.{InPlaces, openedAs, verdict, tablesOf}
+use Rattle.sheet.specs.declared.trailer.Places.{Places}
+use Rattle.sheet.specs.declared.trailer.Opened.{Opened}
+use Rattle.sheet.specs.declared.trailer.Opened.the-variants as opened
+use Rattle.sheet.specs.declared.sections.Verdict.{Verdict}
+use Rattle.sheet.specs.declared.sections.Verdict.the-variants.{Accepted, Refused}
+use Rattle.sheet.proofs.Placing.{places-of}
+use Rattle.sheet.proofs.Cutting.{ids-take}
+use Rattle.sheet.proofs.Reading.{rows-read}
+
+-- ---- the places
+
+pub places-refused : (s : List ℕ) {a : Opened} {c : ℕ} → a ≡ opened.Refused c → locate s ≡ refused c → a ≡ openedAs (readSheet s) s
+unfolding readSheet
+places-refused s e f = e ∙ rw f
+
+-- ---- the tables
+
+-- the pieces of the definition
+abbrev namesOf : List ℕ → Places → Sheet (List (List ℕ))
+namesOf s p = readNames (p .names) (take (p .rows * 4) s)
+
+abbrev rowsOf : List ℕ → Places → Sheet (List Row)
+rowsOf s p = readRows (p .names) (p .bindings) (section (words s) (p .rows) (p .head))
+
+abbrev pub clausesOf : List ℕ → Places → Sheet (List Clause × List Arm)
+clausesOf s p = readClauses (words s) p (rowIds (p .bindings) (drop (p .rows) (words s)))
+
+abbrev statementOf : Places → List (List ℕ) → List Row → List Clause × List Arm → Statement
+statementOf p ns rs x = record { names = ns; bindings = rs; head = x .0; arms = x .1; start = p .start; stop = p .end }
+
+-- what the two tables hold where they are right
+record TablesRead (s : List ℕ) (p : Places) : Type 0 where
+  names : List (List ℕ)
+  rows : List Row
+  named : namesOf s p ≡ accepted names
+  rowed : rowsOf s p ≡ accepted rows
+
+rows-sized : (names n : ℕ) (ws : List ℕ) (rs : List Row) → readRows names n ws ≡ accepted rs → (map rowId rs ≡ rowIds n ws) × (length ws ≡ n * 5)
+unfolding readRows
+rows-sized names n ws rs e = read (many (readRow names) n ws) refl e
+  where
+    kept : (b : Bool) (qs : List Row) → unless 4 b (accepted qs) ≡ accepted rs → qs ≡ rs
+    kept true qs e = cc
+    kept false qs e = never (cc)
+
+    read : (g : Got (List Row)) → many (readRow names) n ws ≡ g → then' (entire 4 g) (λ qs. unless 4 (distinct isIn (map rowId qs)) (accepted qs)) ≡ accepted rs → (map rowId rs ≡ rowIds n ws) × (length ws ≡ n * 5)
+    read (ok qs []) f e = rows-read names n ws rs (f ∙ ap (λ (x : List Row). ok x []) (kept (distinct isIn (map rowId qs)) qs e))
+    read (ok qs (w ∷ r)) f e = never (cc)
+    read (no c) f e = never (cc)
+
+module _ (s : List ℕ) (p : Places) where
+  tables-read : verdict (tablesOf s p) ≡ Accepted → TablesRead s p
+  tables-read e = go _ refl _ refl e
+    where
+      go : (x : Sheet (List (List ℕ))) → namesOf s p ≡ x → (y : Sheet (List Row)) → rowsOf s p ≡ y → verdict (then' x (λ ns. y)) ≡ Accepted → TablesRead s p
+      go (accepted ns) f (accepted rs) g e = record { names = ns; rows = rs; named = f; rowed = g }
+      go (accepted ns) f (refused c) g e = never (cc)
+      go (refused c) f y g e = never (cc)
+
+  tables-stop : (k : List (List ℕ) → List Row → Sheet Statement) (x : Sheet (List (List ℕ))) (y : Sheet (List Row)) {c : ℕ} → Refused c ≡ verdict (then' x (λ ns. y)) → opened.Refused c ≡ openedAs (then' x (λ ns. then' y (λ rs. k ns rs))) s
+  tables-stop k (accepted ns) (accepted rs) e = never (cc)
+  tables-stop k (accepted ns) (refused d) e = cc
+  tables-stop k (refused d) y e = cc
+
+  clauses-stop : (k : List Clause × List Arm → Statement) (x : Sheet (List Clause × List Arm)) {c : ℕ} → Refused c ≡ verdict x → opened.Refused c ≡ openedAs (then' x (λ h. accepted (k h))) s
+  clauses-stop k (accepted h) e = never (cc)
+  clauses-stop k (refused d) e = cc
+
+  clauses-done : (k : List Clause × List Arm → Statement) (x : Sheet (List Clause × List Arm)) → Accepted ≡ verdict x → opened.At (placesOf (words s)) ≡ openedAs (then' x (λ h. accepted (k h))) s
+  clauses-done k (accepted h) e = refl
+  clauses-done k (refused d) e = never (cc)
+
+  module _ (placed : locate s ≡ accepted p) where
+    at-places : readSheet s ≡ readSections s (words s) p
+    unfolding readSheet
+    at-places = rw placed
+
+    pub tables-refused : {c : ℕ} → Refused c ≡ verdict (tablesOf s p) → opened.Refused c ≡ openedAs (readSheet s) s
+    unfolding readSections
+    tables-refused g = rw at-places (tables-stop (λ ns rs. then' (readClauses (words s) p (map rowId rs)) (λ x. accepted (statementOf p ns rs x))) (namesOf s p) (rowsOf s p) g)
+
+    module _ (h : InPlaces s p) (t : Accepted ≡ verdict (tablesOf s p)) where
+      pub rows-fit : p .rows + p .bindings * 5 ≤ p .head
+      rows-fit =
+          let r = tables-read (sym t) in
+          let l = rows-sized _ _ _ _ (r .rowed) .1 in
+          omega (arith, l, length-drop (p .rows) (take (p .head) (words s)), length-take (p .head) (words s), length-words s)
+
+      tables : TablesRead s p
+      tables = tables-read (sym t)
+
+      sections-read : readSheet s ≡ then' (clausesOf s p) (λ x. accepted (statementOf p (tables .names) (tables .rows) x))
+      unfolding readSections
+      sections-read =
+          let r = tables in
+          let ids = rows-sized _ _ _ _ (r .rowed) .0 ∙ ids-take (p .bindings) (p .rows) (p .head) (words s) rows-fit (omega (arith, length-words s)) in
+          at-places ∙ rw (r .named, r .rowed, ids)
+
+      pub clauses-refused : {c : ℕ} → Refused c ≡ verdict (clausesOf s p) → opened.Refused c ≡ openedAs (readSheet s) s
+      clauses-refused g = rw sections-read (clauses-stop (statementOf p (tables .names) (tables .rows)) (clausesOf s p) g)
+
+      pub whole-accepted : Accepted ≡ verdict (clausesOf s p) → opened.At p ≡ openedAs (readSheet s) s
+      whole-accepted g = rw sections-read (ap opened.At (places-of s p placed) ∙ clauses-done (statementOf p (tables .names) (tables .rows)) (clausesOf s p) g)

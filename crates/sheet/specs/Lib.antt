@@ -1,0 +1,5 @@
+pub mod Trailer
+pub mod Statement
+pub mod Read
+pub mod Answer
+pub mod Cases
