@@ -1,5 +1,5 @@
 -- Document 01's label-desk cases on acceptance that are marked +, one table.
-use Prim.Native.Nat.{ℕ, _/_, _%_}
+use Prim.Native.Nat.{ℕ}
 use mathlib.Core.Path.{_≡_, refl}
 use mathlib.Core.List.{List, [], _∷_, map, flatMap}
 use lib.ListN.{replicate}
@@ -20,11 +20,7 @@ use Rattle.tables.specs.Row.{rowId, readRow}
 use Rattle.sheet.specs.Trailer.{sized, inPlace, placesOf}
 use Rattle.sheet.specs.Read.{readNames, readRows, readClauses, locate, readSections, readSheet}
 use Rattle.sheet.specs.Answer.{causeOf}
-
--- the bytes of words
-unfoldable pub bytesOf : List ℕ → List ℕ
-bytesOf [] = []
-bytesOf (w ∷ ws) = w % 256 ∷ w / 256 % 256 ∷ w / 65536 % 256 ∷ w / 16777216 ∷ bytesOf ws
+use Rattle.sheet.specs.Write.{bytesOf}
 
 -- `MATCH (a) WITH a RETURN b`
 abbrev pub example : List ℕ

@@ -2,4 +2,5 @@ pub mod Trailer
 pub mod Statement
 pub mod Read
 pub mod Answer
+pub mod Write
 pub mod Cases

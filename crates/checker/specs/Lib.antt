@@ -1,0 +1,10 @@
+pub mod Lists
+pub mod Room
+pub mod Compare
+pub mod Site
+pub mod With
+pub mod Sheets
+pub mod Agree
+pub mod Fits
+pub mod Uses
+pub mod Cases

@@ -1,0 +1,21 @@
+-- The name `*` by its length and its byte.
+use Prim.Native.Nat.{ℕ}
+use native.Mathlib.Omega.{arith}
+use mathlib.Core.Path.{_≡_, refl}
+use mathlib.Core.Bool.{false}
+use mathlib.Core.List.{List, [], _∷_}
+use lib.Dec.{eqb}
+use lib.ListN.{length, getD}
+use Rattle.resolve.specs.Resolve.{isStar}
+
+pub star-one : (s : List ℕ) → length s ≡ 1 → eqb (getD s 0 0) 42 ≡ isStar s
+unfolding isStar
+star-one [] h = absurd (omega arith)
+star-one (b ∷ []) h = refl
+star-one (b ∷ c ∷ s) h = absurd (omega arith)
+
+pub star-none : (s : List ℕ) → (length s ≡ 1 → ⊥) → false ≡ isStar s
+unfolding isStar
+star-none [] h = refl
+star-none (b ∷ []) h = absurd (h refl)
+star-none (b ∷ c ∷ s) h = refl
