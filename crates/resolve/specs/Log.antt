@@ -4,19 +4,46 @@ use mathlib.Core.List.{List, [], _∷_, flatMap}
 use lib.ListN.{length}
 use Rattle.scope.specs.Graph.{Scope, Carried}
 
-pub data Finding : Type 0 where
-  finding : (code start stop name one two : ℕ) → Finding  -- name + 1 or 0
+-- "Code is the four-digit number"
+abbrev pub e1001 : ℕ
+e1001 = 1001
 
+abbrev pub e1002 : ℕ
+e1002 = 1002
+
+abbrev pub e2007 : ℕ
+e2007 = 2007
+
+abbrev pub e2008 : ℕ
+e2008 = 2008
+
+abbrev pub e2011 : ℕ
+e2011 = 2011
+
+abbrev pub e5010 : ℕ
+e5010 = 5010
+
+abbrev pub e5011 : ℕ
+e5011 = 5011
+
+-- "finding records: code, start, end, name + 1 or 0, two details"
+pub data Finding : Type 0 where
+  finding : (code start stop name one two : ℕ) → Finding
+
+-- "answer (variable, kind, via_projection, or unresolved)"
 pub data Answer : Type 0 where
   found : (variable kind via : ℕ) → Answer
   missing : Answer
 
+-- a name bound in a scope
 pub data Bound : Type 0 where
   bound : (scope name variable kind : ℕ) → Bound
 
+-- "Recorded: use id, answer"
 pub data Write : Type 0 where
   write : (id : ℕ) → Answer → Write
 
+-- what a walk does, one thing at a time
 pub data Event : Type 0 where
   open' : Scope → Event  -- a scope is added; its number is the count of those before it
   bind : Bound → Event  -- a name is bound in a scope

@@ -6,7 +6,7 @@ use mathlib.Core.List.{List, [], _∷_}
 use mathlib.Core.Option.{Option, none, some}
 use lib.Dec.{eqb, leb, ltb}
 use lib.ListN.{length, getD}
-use Rattle.scope.specs.Graph.{Scope, scope, Entry, entry, Carried, carried}
+use Rattle.scope.specs.Graph.{withBarrier, Scope, scope, Entry, entry, Carried, carried}
 use Rattle.scope.specs.Flat.{scopeWidth, bindingWidth, carriedWidth, room, scopesOf, bindingsOf, carriedsOf}
 
 pub data Looked : Type 0 where
@@ -34,10 +34,7 @@ kindAt [] s = 0
 kindAt (scope k p a b ∷ ss) zero = k
 kindAt (scope k p a b ∷ ss) (suc s) = kindAt ss s
 
--- the kind of a WithBarrier, and whether a scope of a kind lets a name go on to its parent, by whether it carries it
-abbrev pub withBarrier : ℕ
-withBarrier = 7
-
+-- "a WithBarrier lets through only names it carries"
 abbrev pub letsOn : (kind : ℕ) (has : Bool) → Bool
 letsOn kind has = cond (eqb kind withBarrier) has true
 
