@@ -10,7 +10,7 @@ use Rattle.resolve.specs.Log.{Finding, Answer, Bound, bound, Write, write, scop
 use Rattle.resolve.specs.Resolve.{Seen, seen, worldOf, log}
 use Rattle.kinds.specs.Kinds.{kinds}
 
--- The first making gives the place, the last one the rest.
+-- "in order of first making": the first making gives the place, the last one the variable and the kind; what it replaced is kept
 unfoldable pub put : Bound → List Entry → List Entry
 put (bound s x v k) [] = entry s x v k none ∷ []
 put (bound s x v k) (entry t y u j r ∷ es) = cond (eqb s t && eqb x y) (entry s x v k (some u) ∷ es) (entry t y u j r ∷ put (bound s x v k) es)
@@ -19,7 +19,7 @@ unfoldable pub puts : List Bound → List Entry → List Entry
 puts [] es = es
 puts (b ∷ bs) es = puts bs (put b es)
 
--- The first write gives the place, the last one the answer.
+-- "ordered by first write, the last write's answer"
 unfoldable pub note : Write → List Write → List Write
 note (write i a) [] = write i a ∷ []
 note (write i a) (write j b ∷ ws) = cond (eqb i j) (write i a ∷ ws) (write j b ∷ note (write i a) ws)
@@ -29,18 +29,23 @@ notes [] ws = ws
 notes (x ∷ xs) ws = notes xs (note x ws)
 
 module _ (warns : Bool) (s : Statement) where
+  -- "Scopes: kind, parent, span"
   unfoldable pub scopes : List Scope
   scopes = scopesIn (log warns s)
 
+  -- "Bindings: scope, name, variable, kind, the variable replaced if any"
   unfoldable pub bindings : List Entry
   bindings = puts (bindsIn (log warns s)) []
 
+  -- "Carried: barrier, name, variable"
   unfoldable pub carriedList : List Carried
   carriedList = carriesIn (log warns s)
 
+  -- "Recorded: use id, answer"
   unfoldable pub recorded : List Write
   recorded = notes (answersIn (log warns s)) []
 
+  -- "the `resolve` ones before the `check_kinds` ones"
   unfoldable pub findings : List Finding
   findings = findsIn (log warns s) ++ kinds (worldOf warns s) (s .head)
 

@@ -14,12 +14,13 @@ use Rattle.checker.specs.Lists.{answerFor, pairsAt, scopes, bindings, re
 use Rattle.checker.specs.Compare.{blankScope, blankFinding, numberScope, numberEntry, from, moved}
 use Rattle.checker.specs.Site.{Site, inHead, inArm, isHead, cutOf, Stands, laterArms, barrierOf, partLog}
 
--- The findings that the part gives, the `resolve` ones first.
+-- "Findings that the part gives, `resolve` ones first"; arms get no kind check
 unfoldable pub partFindings : Bool → Statement → Site → List Finding
 partFindings warns s (inHead c) = findsIn (partLog warns s (inHead c)) ++ kinds (worldOf warns s) (c .after)
 partFindings warns s (inArm e a b c l) = findsIn (partLog warns s (inArm e a b c l))
 
--- One WITH in each of two statements: what is equal.
+-- "Demand 3 takes one WITH, whichever, in each of two accepted sheets, both in the head or both in arms. Equal are: both tables ..; the
+-- pairs of name and variable the two barriers carry, in order; the part after the WITH, word for word but for spans". For sheets see Sheets.
 pub record Agree (warns : Bool) (s₁ s₂ : Statement) (p₁ p₂ : Site) : Type 0 where
   pub stands₁ : Stands s₁ p₁
   pub stands₂ : Stands s₂ p₂
