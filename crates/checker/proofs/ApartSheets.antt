@@ -20,8 +20,8 @@ use Rattle.sheet.specs.Write.{bytesOf}
 use Rattle.checker.specs.Site.{Site, inHead, inArm, cutOf, Stands, laterArms, newRoot, whole}
 use Rattle.checker.specs.With.{Agree, Same}
 use Rattle.checker.specs.Sheets.{namesSection, bindingsSection, laterClauseWords, laterArmWords, AgreeSheets}
-use Rattle.checker.proofs.Accepted.{accepted-words}
-use Rattle.checker.proofs.NameBytes.{names-told}
+use Rattle.sheet.proofs.Accepted.{accepted-words}
+use Rattle.sheet.proofs.NameBytes.{names-told}
 use Rattle.checker.proofs.Apart.{apart}
 
 -- what holds of every one holds of those after one

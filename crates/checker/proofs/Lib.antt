@@ -12,8 +12,6 @@ pub mod Walks
 pub mod Mets
 pub mod Inners
 pub mod Agrees
-pub mod Accepted
-pub mod NameBytes
 pub mod ApartSheets
 pub mod Sizes
 pub mod Codes

@@ -28,7 +28,7 @@ use Rattle.resolve.specs.Resolve.{World, Seen, seen, lookup, rowOf, variable, i
 use Rattle.kinds.specs.Kinds.{Setting, general, arithmetic, property, boolean, listed, Pair, both, plain, typeOf, settings, atType, atRow, misplaced, rowFor, named-id, kindsE, kindsEs, kindsS, kindsC, kinds}
 use Rattle.checker.specs.Lists.{put, puts, note, notes, lists}
 use Rattle.checker.specs.Fits.{Fits}
-use Rattle.checker.proofs.Accepted.{accepted-words}
+use Rattle.sheet.proofs.Accepted.{accepted-words}
 
 -- One step of a walk: what it says against its own words.
 cond-few : {A : Type 0} (b : Bool) (l m : List A) → length l ≤ 1 → length m ≤ 1 → length (cond b l m) ≤ 1

@@ -4,3 +4,8 @@ pub mod Cutting
 pub mod Causes
 pub mod Reading
 pub mod Whole
+pub mod Bytes
+pub mod NameBytes
+pub mod Accepted
+pub mod WrittenSheet
+pub mod ReadsBackSheet

@@ -5,7 +5,7 @@ use native.Mathlib.Omega.{arith}
 use mathlib.Core.Path.{_≡_, refl, sym, subst}
 use mathlib.Core.Bool.{Bool, true, false, false≢true, _&&_}
 use mathlib.Core.List.{List}
-use borrow.Author.Tests.{leb-true, eqb-true}
+use borrow.Author.Tests.{leb-true, eqb-true, le-leb, eq-eqb}
 use lib.Dec.{leb, eqb}
 use lib.ListN.{length, getD}
 use Rattle.words.specs.Words.{words}
@@ -17,7 +17,7 @@ use Rattle.sheet.specs.declared.trailer.Places.{Places}
 use Rattle.sheet.specs.declared.trailer.Opened.{Opened}
 use Rattle.sheet.specs.declared.trailer.Opened.the-variants as opened
 
-both : (a b : Bool) → a && b ≡ true → (a ≡ true) × (b ≡ true)
+pub both : (a b : Bool) → a && b ≡ true → (a ≡ true) × (b ≡ true)
 both true b e = (refl, e)
 both false b e = absurd (false≢true e)
 
@@ -34,26 +34,37 @@ size-of s e =
     let b = both (leb 40 (length s)) (leb (length s) 8192) (a .1) in
     record { whole = eqb-true _ _ (a .0); least = leb-true _ _ (b .0); most = leb-true _ _ (b .1) }
 
--- cause 2's test, where the trailer's first word is t: how far back each section begins
+pub is-sized : (s : List ℕ) → Sized s → sized s ≡ true
+unfolding sized
+is-sized s z = rw (eq-eqb (length s % 4) 0 (z .whole), le-leb 40 (length s) (z .least), le-leb (length s) 8192 (z .most))
+
+-- cause 2's test, where the trailer's first word is t: how far back each section begins, and the span
 pub record Falling (ws : List ℕ) (t : ℕ) : Type 0 where
   pub names : getD ws (t + 0) 0 ≡ t
   pub rows : getD ws (t + 2) 0 ≤ getD ws (t + 0) 0
   pub head : getD ws (t + 4) 0 ≤ getD ws (t + 2) 0
   pub tail : getD ws (t + 6) 0 ≤ getD ws (t + 4) 0
+  pub span : getD ws (t + 8) 0 ≤ getD ws (t + 9) 0
 
-is-falling : (ws : List ℕ) → inPlace ws ≡ true → Falling ws (trailerAt ws)
+pub is-falling : (ws : List ℕ) → inPlace ws ≡ true → Falling ws (trailerAt ws)
 unfolding inPlace
 is-falling ws e =
     let a = both (eqb (trailer ws 0) (trailerAt ws)) _ e in
     let b = both (leb (trailer ws 2) (trailer ws 0)) _ (a .1) in
     let d = both (leb (trailer ws 4) (trailer ws 2)) _ (b .1) in
-    let f = both (leb (trailer ws 6) (trailer ws 4)) _ (d .1) in
+    let f = both (leb (trailer ws 6) (trailer ws 4)) (leb (trailer ws 8) (trailer ws 9)) (d .1) in
     record {
       names = eqb-true _ _ (a .0);
       rows = leb-true _ _ (b .0);
       head = leb-true _ _ (d .0);
       tail = leb-true _ _ (f .0);
+      span = leb-true _ _ (f .1);
     }
+
+pub falls-in-place : (ws : List ℕ) → Falling ws (trailerAt ws) → inPlace ws ≡ true
+unfolding inPlace
+falls-in-place ws f =
+    rw (eq-eqb _ _ (f .names), le-leb _ _ (f .rows), le-leb _ _ (f .head), le-leb _ _ (f .tail), le-leb _ _ (f .span))
 
 pub falling : (ws : List ℕ) (t : ℕ) → (t + 10 ≡ length ws) × (inPlace ws ≡ true) → Falling ws t
 falling ws t pre = let at : trailerAt ws ≡ t = omega arith in subst (Falling ws) at (is-falling ws (pre .1))

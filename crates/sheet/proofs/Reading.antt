@@ -1,10 +1,10 @@
 -- Laws of the two tables: bindings that are read give their variables, and what stops them is cause 4; names are refused by 3 alone.
-use Prim.Native.Nat.{ℕ, zero, suc, _+_, _*_, _<_, _≤_}
+use Prim.Native.Nat.{ℕ, _+_, _*_, _<_, _≤_}
 use native.Mathlib.Omega.{arith}
-use mathlib.Core.Path.{_≡_, refl, sym, ap, _∙_}
+use mathlib.Core.Path.{_≡_, refl, ap}
 use mathlib.Core.Bool.{Bool, true, false}
 use mathlib.Core.List.{List, [], _∷_, _++_, map, flatMap, append-nil}
-use lib.ListN.{length, drop, length-append}
+use lib.ListN.{length, drop}
 use Rattle.words.proofs.Words.{drop-word, drop-none}
 use Rattle.heads.specs.Got.{Got, ok, no, bare, pick, many}
 use Rattle.heads.specs.Answer.{rowIds, isIn}
@@ -15,16 +15,16 @@ use Rattle.tables.specs.Distinct.{nameIn, distinct}
 use Rattle.tables.specs.Row.{Row, row, rowId, rowWords, readRow}
 use Rattle.sheet.specs.Read.{Sheet, accepted, refused, then', unless, entire, readNames, readRows}
 use Rattle.sheet.specs.Answer.{causeOf, verdict}
-use Rattle.sheet.specs.declared.sections.Verdict.{Verdict}
+use Rattle.sheet.specs.Write.{WellRow}
 use Rattle.sheet.specs.declared.sections.Verdict.the-variants.{Accepted, Refused}
 
-row-gives : (names : ℕ) (ws : List ℕ) → Gives (readRow names ws) (Is rowWords (λ x. Unit {0}) ws)
-unfolding readRow rowWords
+pub row-gives : (names : ℕ) (ws : List ℕ) → Gives (readRow names ws) (Is rowWords (WellRow names) ws)
+unfolding readRow rowWords WellRow
 row-gives names ws =
     after (word-gives 0 4294967296 ws)
     (λ i r p. after (word-gives 0 names r)
     (λ x r2 p2. after (word-gives 1 5 r2)
-    (λ k r3 p3. after (word-gives 0 4294967296 r3) (λ a r4 p4. after (word-gives a 4294967296 r4) (λ b r5 p5. gave (cc, tt))))))
+    (λ k r3 p3. after (word-gives 0 4294967296 r3) (λ a r4 p4. after (word-gives a 4294967296 r4) (λ b r5 p5. gave (cc, (p .2, p2 .2, omega arith, (p5 .1, p5 .2))))))))
 
 ids-written : (rs : List Row) (r : List ℕ) → map rowId rs ≡ rowIds (length rs) (flatMap rowWords rs ++ r)
 unfolding rowId rowWords rowIds flatMap
@@ -39,7 +39,7 @@ words-written (row i x k a b ∷ rs) = omega (arith, words-written rs)
 -- n bindings that are read to the end
 pub rows-read : (names n : ℕ) (ws : List ℕ) (rs : List Row) → many (readRow names) n ws ≡ ok rs [] → (map rowId rs ≡ rowIds n ws) × (length ws ≡ n * 5)
 rows-read names n ws rs e =
-    let h = many-gives rowWords (λ x. Unit {0}) (row-gives names) n ws .given rs [] e in
+    let h = many-gives rowWords (WellRow names) (row-gives names) n ws .given rs [] e in
     (rw (← h .2, h .0) (ids-written rs []), rw (h .0, append-nil) (omega (arith, words-written rs)))
 
 module _ (names n : ℕ) (ws : List ℕ) where

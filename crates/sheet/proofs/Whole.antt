@@ -2,29 +2,26 @@
 use Prim.Native.Nat.{ℕ, _+_, _*_, _-_, _≤_}
 use native.Mathlib.Omega.{arith}
 use mathlib.Core.Path.{_≡_, refl, sym, ap, _∙_}
-use mathlib.Core.Bool.{Bool, true, false}
-use mathlib.Core.List.{List, [], _∷_, map}
+use mathlib.Core.List.{List, map}
 use lib.ListN.{length, take, drop, length-take, length-drop}
 use Rattle.words.specs.Words.{words}
 use Rattle.words.proofs.Words.{length-words}
-use Rattle.heads.specs.Got.{Got, ok, no, many}
-use Rattle.heads.specs.Answer.{rowIds, isIn}
+use Rattle.heads.specs.Answer.{rowIds}
 use Rattle.expr.proofs.Inverse.{never}
 use Rattle.clauses.specs.Tree.{Clause, Arm}
-use Rattle.tables.specs.Distinct.{distinct}
-use Rattle.tables.specs.Row.{Row, rowId, readRow}
+use Rattle.tables.specs.Row.{Row, rowId}
 use Rattle.sheet.specs.Trailer.{placesOf, section}
 use Rattle.sheet.specs.Statement.{Statement}
-use Rattle.sheet.specs.Read.{Sheet, accepted, refused, then', unless, entire, readNames, readRows, readClauses, locate, readSections, readSheet}
+use Rattle.sheet.specs.Read.{Sheet, accepted, refused, then', readNames, readRows, readClauses, locate, readSections, readSheet}
 use Rattle.sheet.specs.Answer.{InPlaces, openedAs, verdict, tablesOf}
 use Rattle.sheet.specs.declared.trailer.Places.{Places}
 use Rattle.sheet.specs.declared.trailer.Opened.{Opened}
 use Rattle.sheet.specs.declared.trailer.Opened.the-variants as opened
-use Rattle.sheet.specs.declared.sections.Verdict.{Verdict}
 use Rattle.sheet.specs.declared.sections.Verdict.the-variants.{Accepted, Refused}
 use Rattle.sheet.proofs.Placing.{places-of}
 use Rattle.sheet.proofs.Cutting.{ids-take}
 use Rattle.sheet.proofs.Reading.{rows-read}
+use Rattle.sheet.proofs.Accepted.{rows-hold}
 
 -- ---- the places
 
@@ -55,17 +52,7 @@ record TablesRead (s : List ℕ) (p : Places) : Type 0 where
   rowed : rowsOf s p ≡ accepted rows
 
 rows-sized : (names n : ℕ) (ws : List ℕ) (rs : List Row) → readRows names n ws ≡ accepted rs → (map rowId rs ≡ rowIds n ws) × (length ws ≡ n * 5)
-unfolding readRows
-rows-sized names n ws rs e = read (many (readRow names) n ws) refl e
-  where
-    kept : (b : Bool) (qs : List Row) → unless 4 b (accepted qs) ≡ accepted rs → qs ≡ rs
-    kept true qs e = cc
-    kept false qs e = never (cc)
-
-    read : (g : Got (List Row)) → many (readRow names) n ws ≡ g → then' (entire 4 g) (λ qs. unless 4 (distinct isIn (map rowId qs)) (accepted qs)) ≡ accepted rs → (map rowId rs ≡ rowIds n ws) × (length ws ≡ n * 5)
-    read (ok qs []) f e = rows-read names n ws rs (f ∙ ap (λ (x : List Row). ok x []) (kept (distinct isIn (map rowId qs)) qs e))
-    read (ok qs (w ∷ r)) f e = never (cc)
-    read (no c) f e = never (cc)
+rows-sized names n ws rs e = rows-read names n ws rs (rows-hold names n ws .held rs e .0)
 
 module _ (s : List ℕ) (p : Places) where
   tables-read : verdict (tablesOf s p) ≡ Accepted → TablesRead s p

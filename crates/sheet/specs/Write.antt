@@ -75,5 +75,5 @@ pub record WellStatement (st : Statement) : Type 0 where
   pub head : Each (WellClause (anyBinder (length (st .names)))) (st .head)
   pub arms : Each (WellArm (anyBinder (length (st .names)))) (st .arms)
   pub bound : allKnown (λ v. isIn v (map rowId (st .bindings))) (flatMap bindersC (st .head) ++ flatMap bindersA (st .arms)) ≡ true
-  pub span : IsSpan (st .start) (st .stop)
+  pub span : st .start ≤ st .stop
   pub size : length (sheetWords st) * 4 ≤ maxBytes

@@ -1,13 +1,11 @@
 -- What an accepted sheet holds: its tables are read to their end, the words of its head and arms are those of the statement's clauses
--- and arms, and these are well-formed.
-use Prim.Native.Nat.{ℕ, _*_, _%_, _≤_}
+-- and arms, and these are well-formed; and every test is passed.
+use Prim.Native.Nat.{ℕ, _*_, _≤_}
 use native.Mathlib.Omega.{arith}
 use mathlib.Core.Path.{_≡_, refl, _∙_}
-use mathlib.Core.Bool.{Bool, true, false, _&&_}
+use mathlib.Core.Bool.{Bool, true, false}
 use mathlib.Core.List.{List, [], _∷_, _++_, map, flatMap, append-nil}
-use lib.Dec.{leb, eqb}
 use lib.ListN.{length, take}
-use borrow.Author.Tests.{leb-true}
 use Rattle.words.specs.Words.{words}
 use Rattle.words.proofs.Words.{length-words}
 use Rattle.heads.specs.Got.{Got, ok, no, many}
@@ -22,13 +20,14 @@ use Rattle.clauses.proofs.WrittenClause.{many-gives, clause-gives, arm-gives}
 use Rattle.tables.specs.Distinct.{nameIn, distinct}
 use Rattle.tables.specs.Name.{readName}
 use Rattle.tables.specs.Row.{Row, rowId, readRow}
-use Rattle.sheet.specs.Trailer.{sized, inPlace, placesOf, section}
+use Rattle.sheet.specs.Trailer.{sized, trailerAt, inPlace, placesOf, section}
 use Rattle.sheet.specs.Statement.{Statement}
 use Rattle.sheet.specs.Read.{Sheet, accepted, refused, then', unless, entire, usedUp, anyBinder, readNames, readRows, readClauses, locate, readSections, readSheet}
 use Rattle.sheet.specs.declared.trailer.Places.{Places}
+use Rattle.sheet.proofs.Placing.{Sized, size-of, Falling, is-falling}
 
 -- What holds of what is accepted: the inverse of `then'`, of a test and of a section that is used up.
-record Holds {A : Type 0} (x : Sheet A) (Q : A → Type 0) : Type 0 where
+pub record Holds {A : Type 0} (x : Sheet A) (Q : A → Type 0) : Type 0 where
   pub held : (a : A) → x ≡ accepted a → Q a
 
 holds : {A : Type 0} {Q : A → Type 0} {a : A} → Q a → Holds (accepted a) Q
@@ -61,28 +60,20 @@ read-whole c (ok a []) = holds refl
 read-whole c (ok a (w ∷ ws)) = not-held
 read-whole c (no d) = not-held
 
-pub both-true : (a b : Bool) → (a && b) ≡ true → (a ≡ true) × (b ≡ true)
-both-true true b e = (refl, e)
-both-true false b e = never (cc)
-
-long-enough : (s : List ℕ) → sized s ≡ true → 10 ≤ length (words s)
-unfolding sized
-long-enough s e =
-    let h = both-true (leb 40 (length s)) (leb (length s) 8192) (both-true (eqb (length s % 4) 0) _ e .1) in
-    omega (arith, length-words s, leb-true 40 (length s) (h .0))
-
--- the names and the bindings are what their sections give
+-- the names and the bindings are what their sections give, and none stands twice
 pub record Tabled (s ws : List ℕ) (p : Places) (names : List (List ℕ)) (rows : List Row) : Type 0 where
   pub namesRead : many readName (p .names) (take (p .rows * 4) s) ≡ ok names []
   pub rowsRead : many (readRow (p .names)) (p .bindings) (section ws (p .rows) (p .head)) ≡ ok rows []
+  pub apart : distinct nameIn names ≡ true
+  pub once : distinct isIn (map rowId rows) ≡ true
 
-names-hold : (n : ℕ) (s : List ℕ) → Holds (readNames n s) (λ ns. many readName n s ≡ ok ns [])
+names-hold : (n : ℕ) (s : List ℕ) → Holds (readNames n s) (λ ns. (many readName n s ≡ ok ns []) × (distinct nameIn ns ≡ true))
 unfolding readNames
-names-hold n s = next (read-whole 3 (many readName n s)) (λ ns h. tested 3 (distinct nameIn ns) (λ one. holds h))
+names-hold n s = next (read-whole 3 (many readName n s)) (λ ns h. tested 3 (distinct nameIn ns) (λ one. holds (h, one)))
 
-rows-hold : (names n : ℕ) (ws : List ℕ) → Holds (readRows names n ws) (λ rs. many (readRow names) n ws ≡ ok rs [])
+pub rows-hold : (names n : ℕ) (ws : List ℕ) → Holds (readRows names n ws) (λ rs. (many (readRow names) n ws ≡ ok rs []) × (distinct isIn (map rowId rs) ≡ true))
 unfolding readRows
-rows-hold names n ws = next (read-whole 4 (many (readRow names) n ws)) (λ rs h. tested 4 (distinct isIn (map rowId rs)) (λ one. holds h))
+rows-hold names n ws = next (read-whole 4 (many (readRow names) n ws)) (λ rs h. tested 4 (distinct isIn (map rowId rs)) (λ one. holds (h, one)))
 
 -- the words of the head's clauses and of the arms stand where the places say, and these are within the tables
 pub record Sections (ws : List ℕ) (p : Places) (head : List Clause) (arms : List Arm) : Type 0 where
@@ -90,25 +81,42 @@ pub record Sections (ws : List ℕ) (p : Places) (head : List Clause) (arms : Li
   pub armWords : section ws (p .tail) (p .trailer) ≡ flatMap writeArm arms
   pub headWell : Each (WellClause (anyBinder (p .names))) head
   pub armsWell : Each (WellArm (anyBinder (p .names))) arms
+  pub clauses : length head ≡ p .clauses
+  pub armed : length arms ≡ p .arms
 
-clauses-hold : (ws : List ℕ) (p : Places) (ids : List ℕ) → Holds (readClauses ws p ids) (λ x. Sections ws p (x .0) (x .1))
+-- every variable that head and arms bind is one of these
+abbrev Bound : List ℕ → List Clause → List Arm → Type 0
+Bound ids head arms = allKnown (λ v. isIn v ids) (flatMap bindersC head ++ flatMap bindersA arms) ≡ true
+
+clauses-hold : (ws : List ℕ) (p : Places) (ids : List ℕ) → Holds (readClauses ws p ids) (λ x. Sections ws p (x .0) (x .1) × Bound ids (x .0) (x .1))
 unfolding readClauses
 clauses-hold ws p ids =
     let w = anyBinder (p .names) in
     next (used-up (many-gives writeClause (WellClause w) (clause-gives w) (p .clauses) (section ws (p .head) (p .tail))))
     (λ head h. next (used-up (many-gives writeArm (WellArm w) (arm-gives w) (p .arms) (section ws (p .tail) (p .trailer))))
-    (λ arms g. tested 7 (allKnown (λ v. isIn v ids) (flatMap bindersC head ++ flatMap bindersA arms)) (λ known. holds (record { headWords = h .0 ∙ append-nil _; armWords = g .0 ∙ append-nil _; headWell = h .1; armsWell = g .1 }))))
+    (λ arms g. tested 7 (allKnown (λ v. isIn v ids) (flatMap bindersC head ++ flatMap bindersA arms)) (λ known. holds (record { headWords = h .0 ∙ append-nil _; armWords = g .0 ∙ append-nil _; headWell = h .1; armsWell = g .1; clauses = h .2; armed = g .2 }, known))))
 
-sections-hold : (s ws : List ℕ) (p : Places) → Holds (readSections s ws p) (λ st. Sections ws p (st .head) (st .arms) × Tabled s ws p (st .names) (st .bindings))
+-- the span is the trailer's, and every binder has a binding
+pub record Framed (p : Places) (st : Statement) : Type 0 where
+  pub start : st .start ≡ p .start
+  pub stop : st .stop ≡ p .end
+  pub bound : Bound (map rowId (st .bindings)) (st .head) (st .arms)
+
+sections-hold : (s ws : List ℕ) (p : Places) → Holds (readSections s ws p) (λ st. Sections ws p (st .head) (st .arms) × Tabled s ws p (st .names) (st .bindings) × Framed p st)
 unfolding readSections
 sections-hold s ws p =
     next (names-hold (p .names) (take (p .rows * 4) s))
     (λ names n. next (rows-hold (p .names) (p .bindings) (section ws (p .rows) (p .head)))
-    (λ rs r. next (clauses-hold ws p (map rowId rs)) (λ x h. holds (h, record { namesRead = n; rowsRead = r }))))
+    (λ rs r. next (clauses-hold ws p (map rowId rs))
+    (λ x h. holds (h .0, record { namesRead = n .0; rowsRead = r .0; apart = n .1; once = r .1 }, record { start = refl; stop = refl; bound = h .1 }))))
 
-place-holds : (s : List ℕ) → Holds (locate s) (λ p. (10 ≤ length (words s)) × (p ≡ placesOf (words s)))
+-- causes 1 and 2 are not given
+abbrev Placed : List ℕ → Type 0
+Placed s = Sized s × Falling (words s) (trailerAt (words s))
+
+place-holds : (s : List ℕ) → Holds (locate s) (λ p. Placed s × (p ≡ placesOf (words s)))
 unfolding locate
-place-holds s = tested 1 (sized s) (λ h. tested 2 (inPlace (words s)) (λ g. holds (long-enough s h, refl)))
+place-holds s = tested 1 (sized s) (λ h. tested 2 (inPlace (words s)) (λ g. holds ((size-of s h, is-falling (words s) g), refl)))
 
 -- what is known of a sheet s that holds the statement st
 abbrev pub Accepted : List ℕ → Statement → Type 0
@@ -116,11 +124,14 @@ Accepted s st =
     (10 ≤ length (words s))
     × Sections (words s) (placesOf (words s)) (st .head) (st .arms)
     × Tabled s (words s) (placesOf (words s)) (st .names) (st .bindings)
+    × Framed (placesOf (words s)) st
+    × Placed s
 
 sheet-holds : (s : List ℕ) → Holds (readSheet s) (Accepted s)
 unfolding readSheet
 sheet-holds s =
-    next (place-holds s) (λ p h. record { held = λ st e. (let x = rw (h .1) at (sections-hold s (words s) p .held st e) in (h .0, x .0, x .1)) })
+    next (place-holds s)
+    (λ p h. record { held = λ st e. (let x = rw (h .1) at (sections-hold s (words s) p .held st e) in (omega (arith, length-words s, h .0 .0), x .0, x .1, x .2, h .0)) })
 
 pub accepted-words : (s : List ℕ) (st : Statement) → readSheet s ≡ accepted st → Accepted s st
 accepted-words s = sheet-holds s .held
