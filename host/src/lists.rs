@@ -1,0 +1,115 @@
+//! What program `lists` writes for a sheet, from the Rust's answers.
+use crate::record::record;
+use crate::sheet::{KINDS, Sheet};
+use cyrs_diag::{Diagnostic, DiagnosticsSink};
+use cyrs_hir::{BindingKind, HirSpan, Resolution, ResolvedNames, ScopeGraph, ScopeKind, VarId, VarKind};
+use cyrs_sema::kinds::check_kinds;
+use cyrs_sema::resolve::resolve;
+use std::fmt::Display;
+
+/// The program's page, in bytes.
+const PAGE: usize = 65_536;
+
+pub fn answers(sheet: &Sheet, warnings: bool) -> String {
+    let mut sink = DiagnosticsSink::default();
+    let resolved = resolve(&sheet.statement, warnings, &mut sink);
+    check_kinds(&sheet.statement, &mut sink);
+    let graph = &resolved.scope_graph;
+    [
+        listing(&sink.pushed),
+        list("scopes", scopes(graph)),
+        list("bindings", bindings(graph, &sheet.names)),
+        list("carried", carried(graph, &sheet.names)),
+        list("recorded", recorded(&resolved.resolved_names)),
+        list("records", sink.pushed.iter().map(|d| record(d, &sheet.names)).collect()),
+    ]
+    .concat()
+}
+
+fn list(name: &str, entries: Vec<String>) -> String {
+    let count = format!("{name} {}", entries.len());
+    std::iter::once(count).chain(entries).map(|line| line + "\n").collect()
+}
+
+fn listing(findings: &[Diagnostic]) -> String {
+    let lines = findings.iter().map(|d| format!("E{} {} {}", d.code as u32, ends(d.span), d.message)).collect();
+    let text = list("findings", lines);
+    if text.len() <= PAGE { text } else { "refused 10\n".to_owned() }
+}
+
+pub fn ends(span: HirSpan) -> String {
+    format!("{} {}", u32::from(span.start()), u32::from(span.end()))
+}
+
+fn or_dash(value: Option<impl Display>) -> String {
+    value.map_or_else(|| "-".to_owned(), |v| v.to_string())
+}
+
+pub fn name_index(name: &str, names: &[String]) -> usize {
+    names.iter().position(|n| n == name).expect("a name of the sheet")
+}
+
+fn scopes(graph: &ScopeGraph) -> Vec<String> {
+    graph.iter().map(|s| format!("{} {} {}", scope_kind(&s.kind), or_dash(s.parent.map(|p| p.0)), ends(s.span))).collect()
+}
+
+fn scope_kind(kind: &ScopeKind) -> u32 {
+    match kind {
+        ScopeKind::Root => 1,
+        ScopeKind::Match { .. } => 2,
+        ScopeKind::Create => 3,
+        ScopeKind::Merge => 4,
+        ScopeKind::Unwind => 5,
+        ScopeKind::Call => 6,
+        ScopeKind::WithBarrier { .. } => 7,
+        ScopeKind::Return => 8,
+        ScopeKind::PatternComprehension => 9,
+    }
+}
+
+/// In order of first making, which each scope's keys remember.
+fn bindings(graph: &ScopeGraph, names: &[String]) -> Vec<String> {
+    let mut entries = Vec::new();
+    for scope in graph.iter() {
+        for (name, (variable, kind, replaced)) in scope.bindings.iter() {
+            let (at, kind, replaced) = (name_index(name, names), var_kind(*kind), or_dash(replaced.map(|v: VarId| v.0)));
+            entries.push((name.made(), format!("{} {at} {} {kind} {replaced}", scope.id.0, variable.0)));
+        }
+    }
+    entries.sort();
+    entries.into_iter().map(|(_, line)| line).collect()
+}
+
+fn var_kind(kind: VarKind) -> usize {
+    1 + KINDS.iter().position(|k| *k == kind).expect("one of four")
+}
+
+fn carried(graph: &ScopeGraph, names: &[String]) -> Vec<String> {
+    let mut entries = Vec::new();
+    for scope in graph.iter() {
+        if let ScopeKind::WithBarrier { projected } = &scope.kind {
+            entries.extend(projected.iter().map(|(name, v)| format!("{} {} {}", scope.id.0, name_index(name, names), v.0)));
+        }
+    }
+    entries
+}
+
+fn recorded(names: &ResolvedNames) -> Vec<String> {
+    names.iter().map(|(id, answer)| format!("{} {}", id.0, resolution(answer))).collect()
+}
+
+fn resolution(answer: &Resolution) -> String {
+    match answer {
+        Resolution::Resolved(b) => format!("resolved {} {} {}", b.defining_var.0, binding_kind(&b.kind), u32::from(b.via_projection)),
+        Resolution::Unresolved => "unresolved".to_owned(),
+    }
+}
+
+fn binding_kind(kind: &BindingKind) -> u32 {
+    match kind {
+        BindingKind::Node => 1,
+        BindingKind::Relationship => 2,
+        BindingKind::Path => 3,
+        BindingKind::Value => 4,
+    }
+}

@@ -1,0 +1,1 @@
+//! Stands in for the desugaring of syntax: a sheet is made after it.

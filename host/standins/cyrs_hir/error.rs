@@ -1,0 +1,3 @@
+//! Stands in for the failure of lowering.
+#[derive(Debug)]
+pub enum HirLowerError {}

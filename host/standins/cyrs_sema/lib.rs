@@ -1,0 +1,3 @@
+//! Stands in for cyrs-sema's own lib.rs: the two passes.
+pub mod kinds;
+pub mod resolve;
