@@ -1,6 +1,4 @@
-pub mod Heads
-pub mod Many
-pub mod Plans
+pub mod Body
 pub mod StrictClause
 pub mod WrittenClause
 pub mod ReadsBackClause

@@ -1,7 +1,4 @@
-pub mod Shapes
 pub mod Rows
-pub mod Past
-pub mod After
 pub mod Strict
 pub mod Inverse
 pub mod Heads

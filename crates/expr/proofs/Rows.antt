@@ -1,22 +1,14 @@
 -- The rows of an expression and a pattern: expressions, marks with their expressions, elements, parts.
 use Rattle.heads.proofs.Rows.{Rows, rows-rest}
-use Rattle.heads.proofs.Shapes.{Rest, bare-bind, bare-row, bare-map, bare-pick-row}
-use Prim.Native.Nat.{ℕ, zero, suc, _+_, _-_, _<_, _≤_}
-use native.Mathlib.Omega.{arith}
-use mathlib.Core.Path.{_≡_, refl, ap, _∙_}
+use Rattle.heads.proofs.Shapes.{Rest, bare-bind, bare-row, bare-map, next-bind, bare-end, bare-pick-row}
+use Rattle.heads.proofs.Chain.{step, test, last, Past, turn, bare-run}
+use Prim.Native.Nat.{ℕ, suc}
+use mathlib.Core.Path.{_≡_, refl, sym, _∙_}
 use mathlib.Core.List.{List}
-use lib.ListN.{length, drop}
-use Rattle.heads.specs.Got.{Got, ok, no, bind, next, bare, wordIn}
+use Rattle.heads.specs.Got.{Got, ok, no, bind, next, bare, pick, wordIn}
 use Rattle.heads.specs.Head.{Tables, allowed, readPart, markLow, markHigh, markKids}
-use Rattle.heads.specs.Answer.{Ans, Reads, wordGot, wordEnd}
-use Rattle.heads.proofs.Later.{readLater}
-use Rattle.heads.specs.declared.Word.{Word}
-use Rattle.heads.specs.declared.Word.the-variants as word
-use Rattle.heads.specs.declared.Read.{Read}
-use Rattle.heads.specs.declared.Read.the-variants as read
 use Rattle.expr.specs.Tree.{more, mark, elem, part}
 use Rattle.expr.specs.Read.{Reader, RestE, RestS, noMore, noSteps, times, marks, elemOne, elems, partOne, parts}
-use Rattle.expr.proofs.Shapes.{part-one}
 
 -- expressions
 module _ (P : Reader) where
@@ -34,6 +26,11 @@ module _ (P : Reader) where
   pub times-rest : (K : RestE) (n : ℕ) (ws : List ℕ) → bare (times n P K ws) ≡ next (bare (times n P noMore ws)) (λ r. bare (K r))
   times-rest K = rows-rest kidRows (λ n r. bare (times n P K r)) (λ r. bare (K r)) (times-more K) (times-end K)
 
+-- in a chain, expressions and what follows them are two steps
+pub times-then : {ws : List ℕ} {at p : ℕ} {g : Got (Unit {0})} (n : ℕ) (P : Reader) (K : RestE) → Past ws at g p (step (times n P K) (λ es. last (λ r. ok tt r))) → Past ws at g p (step (λ r. bare (times n P noMore r)) (λ u. last (λ r. bare (K r))))
+times-then n P K o =
+    turn (step (λ r. bare (times n P noMore r)) (λ u. last (λ r. bare (K r)))) o (sym (bare-end (times n P K _)) ∙ times-rest P K n _ ∙ next-bind (bare (times n P noMore _)) (λ r. bare (K r)))
+
 -- marks of a kind, each with its expressions
 abbrev pub markOne : ℕ → Reader → Rest
 markOne kind P ws = bind (wordIn (markLow kind) (markHigh kind) ws) (λ w r. bare (times (markKids kind w) P noMore r))
@@ -50,17 +47,6 @@ marks-end kind P ws = refl
 
 abbrev pub markRows : ℕ → Reader → Rows
 markRows kind P = record { all = λ n r. bare (marks kind n P r); one = markOne kind P; more = marks-more kind P; end = marks-end kind P }
-
-module _ (kind : ℕ) (P : Reader) {ws : List ℕ} {at lo hi : ℕ} {w : Word} (l : lo ≡ markLow kind) (h : hi ≡ markHigh kind) (x : Ans ws at (wordIn lo hi (drop at ws)) (wordGot ws at w) (wordEnd at w)) where
-  pub mark-one : (r : Read) {g n : ℕ} → w ≡ word.Is g → n ≡ markKids kind g → Reads ws (at + 1) (bare (times n P noMore (drop (at + 1) ws))) r → Reads ws at (markOne kind P (drop at ws)) r
-  mark-one r e k y =
-      let z = rw e at x in
-      rw (← l, ← h, z .same, ← k) (readLater _ _ _ _ r (z .from) (z .within) y)
-
-  pub mark-none : w ≡ word.No → Reads ws at (markOne kind P (drop at ws)) (read.Refused 5)
-  mark-none e =
-      let z = rw e at x in
-      record { same = rw (← l, ← h, z .same); from = z .from; within = z .within }
 
 -- elements
 module _ (w : Tables) (P : Reader) where
@@ -80,6 +66,10 @@ module _ (w : Tables) (P : Reader) where
   elems-rest K = rows-rest elemRows (λ n r. bare (elems n w P K r)) (λ r. bare (K r)) (elems-more K) (elems-end K)
 
   -- parts
+  part-one : (ws : List ℕ) → bare (partOne w P ws) ≡ bind (readPart ws) (λ h r. pick (allowed w (h .path)) (bare (elems (h .count) w P noSteps r)) (no 7))
+  unfolding partOne
+  part-one = bare-run (step readPart (λ h. test (allowed w (h .path)) 7 (last (elems (h .count) w P noSteps))))
+
   pub parts-more : (n : ℕ) (ws : List ℕ) → bare (parts (suc n) w P ws) ≡ next (bare (partOne w P ws)) (λ r. bare (parts n w P r))
   unfolding parts
   parts-more n ws =

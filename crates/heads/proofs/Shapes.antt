@@ -30,6 +30,25 @@ module _ {A B : Type 0} where
   bare-map (ok a r) f = refl
   bare-map (no c) f = refl
 
+  -- what follows, put another way
+  pub bind-each : (g : Got A) (k l : A → List ℕ → Got B) → ((a : A) (r : List ℕ) → k a r ≡ l a r) → bind g k ≡ bind g l
+  bind-each (ok a r) k l e = e a r
+  bind-each (no c) k l e = refl
+
+  pub bind-bind : {C : Type 0} (g : Got A) (k : A → List ℕ → Got B) (l : B → List ℕ → Got C) → bind (bind g k) l ≡ bind g (λ a r. bind (k a r) l)
+  bind-bind (ok a r) k l = refl
+  bind-bind (no c) k l = refl
+
+-- `next` and `bare` are binds
+module _ {A : Type 0} where
+  pub next-bind : (g : Got A) (h : Rest) → next g h ≡ bind g (λ a r. h r)
+  next-bind (ok a r) h = refl
+  next-bind (no c) h = refl
+
+  pub bare-end : (g : Got A) → bare g ≡ bind g (λ a r. ok tt r)
+  bare-end (ok a r) = refl
+  bare-end (no c) = refl
+
 -- a test that refuses
 module _ {A : Type 0} (c : ℕ) where
   pub bare-pick : (b : Bool) (g : Got A) (x : Got (Unit {0})) → bare g ≡ x → bare (pick b g (no c)) ≡ pick b x (no c)

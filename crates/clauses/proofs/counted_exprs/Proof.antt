@@ -1,23 +1,26 @@
--- A count, and as many expressions: `exprs-begin`, a word and the rest.
-use native.Mathlib.Omega.{arith}
+-- The definition reads a count (`one` stands after it) and as many expressions, which the callee reads. A count that is not there is
+-- its refusal.
 use borrow.Author.Needs.{needs}
-use Rattle.words.proofs.Words.{length-words}
-use Rattle.clauses.proofs.Heads.{begin, word-end, word-then, word-no, word-last}
-use Rattle.clauses.proofs.Plans.{exprs-begin}
+use mathlib.Core.Path.{refl}
+use Rattle.words.specs.Words.{words}
+use Rattle.heads.specs.Got.{any}
+use Rattle.heads.specs.Answer.{tables}
+use Rattle.heads.proofs.Chain.{step, last, fact, begin-bare, fits}
+use Rattle.heads.proofs.Opened.{past-word, stop-word, last-read}
+use Rattle.expr.specs.Read.{times, noMore}
+use Rattle.clauses.specs.Read.{clauseExpr, countedExprs}
 use Rattle.clauses.proofs.counted_exprs.Statement.{statement}
 use Rattle.clauses.proofs.counted_exprs.Tie as tie
 
 pub counted-exprs-spec : {M : Type 1} → statement M
+unfolding countedExprs
 counted-exprs-spec =
+    let begun = fact (λ (k : tie.Start). let a = k .args in let w = tables (words (a .s .now)) (a .names) (a .rows) (a .k) in
+    begin-bare (countedExprs w) (step any λ n. last (times n (clauseExpr w) noMore)) (λ r. refl) (a .s .now) (a .at) (k .pre) (k .good .0 .0)) in
+    let one = fact (λ (k : tie.After-known-told). past-word (begun (k .before .before .before .before .before)) (k .before .n .given .1) (k .before .before .before .word-in .ensures)) in
     tie.close
     (tie.spec
-    (λ c κs. search needs)  -- word-in-requires
-    (λ c. search needs)  -- enum-known-n
-    (λ c. search needs)  -- enum-told
-    (λ c. word-no (begin (exprs-begin _)) (c .enum-told .given .1) (c .before .before .word-in .ensures))  -- returns
-    (λ c. omega (arith, rw length-words at (word-end (c .before .n .given .1) (c .before .before .before .word-in .ensures))))  -- add-read-kids
-    (λ c. search needs)  -- cast-read-kids
-    (λ c κs. word-end (c .before .n .given .1) (c .before .before .before .word-in .ensures))  -- read-kids-requires
-    (λ c.  -- returns-2
-    let k = c .before in
-    word-last (c .read-kids .result) (word-then (begin (exprs-begin _)) (k .before .n .given .1) (k .before .before .before .word-in .ensures)) (c .read-kids .ensures)))
+    (λ c κs. begun (c .before) .within) (λ c. search needs) (λ c. search needs)  -- word-in-requires, enum-known-n, enum-told
+    (λ c. stop-word (begun (c .before .before .before .before)) (c .enum-told .given .1) (c .before .before .word-in .ensures))  -- returns
+    (λ c. fits (one c)) (λ c. search needs) (λ c κs. one c .within)  -- add-read-kids, cast-read-kids, read-kids-requires
+    (λ c. last-read (c .read-kids .result) (one (c .before)) (c .read-kids .ensures)))  -- returns-2

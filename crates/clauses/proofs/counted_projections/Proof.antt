@@ -1,22 +1,25 @@
--- A count, and as many projections: `counted-begins`, a word and the rest.
-use native.Mathlib.Omega.{arith}
+-- The definition reads a count (`one` stands after it) and as many projections, which the callee reads. A count that is not there is
+-- its refusal.
 use borrow.Author.Needs.{needs}
-use Rattle.words.proofs.Words.{length-words}
-use Rattle.clauses.proofs.Heads.{begin, word-end, word-then, word-no, word-last}
-use Rattle.clauses.proofs.Many.{counted-begins}
+use mathlib.Core.Path.{refl}
+use Rattle.words.specs.Words.{words}
+use Rattle.heads.specs.Got.{any, many, counted}
+use Rattle.heads.specs.Answer.{tables}
+use Rattle.heads.proofs.Chain.{step, last, fact, begin-bare, fits}
+use Rattle.heads.proofs.Opened.{past-word, stop-word, last-read}
+use Rattle.clauses.specs.Read.{readProjection}
 use Rattle.clauses.proofs.counted_projections.Statement.{statement}
 use Rattle.clauses.proofs.counted_projections.Tie as tie
 
 pub counted-projections-spec : {M : Type 1} → statement M
+unfolding counted
 counted-projections-spec =
+    let begun = fact (λ (k : tie.Start). let a = k .args in let w = tables (words (a .s .now)) (a .names) (a .rows) (a .k) in
+    begin-bare (counted (readProjection w)) (step any λ n. last (many (readProjection w) n)) (λ r. refl) (a .s .now) (a .at) (k .pre) (k .good .0 .0)) in
+    let one = fact (λ (k : tie.After-known-told). past-word (begun (k .before .before .before .before .before)) (k .before .n .given .1) (k .before .before .before .word-in .ensures)) in
     tie.close
     (tie.spec
-    (λ c κs. search needs)  -- word-in-requires
-    (λ c. search needs)  -- enum-known-n
-    (λ c. search needs)  -- enum-told
-    (λ c. word-no (begin (counted-begins _)) (c .enum-told .given .1) (c .before .before .word-in .ensures))  -- returns
-    (λ c. omega (arith, rw length-words at (word-end (c .before .n .given .1) (c .before .before .before .word-in .ensures))))  -- add-read-projections
-    (λ c κs. word-end (c .before .n .given .1) (c .before .before .before .word-in .ensures))  -- read-projections-requires
-    (λ c.  -- returns-2
-    let k = c .before in
-    word-last (c .read-projections .result) (word-then (begin (counted-begins _)) (k .before .n .given .1) (k .before .before .before .word-in .ensures)) (c .read-projections .ensures)))
+    (λ c κs. begun (c .before) .within) (λ c. search needs) (λ c. search needs)  -- word-in-requires, enum-known-n, enum-told
+    (λ c. stop-word (begun (c .before .before .before .before)) (c .enum-told .given .1) (c .before .before .word-in .ensures))  -- returns
+    (λ c. fits (one c)) (λ c κs. one c .within)  -- add-read-projections, read-projections-requires
+    (λ c. last-read (c .read-projections .result) (one (c .before)) (c .read-projections .ensures)))  -- returns-2

@@ -1,9 +1,9 @@
--- Each arm is the definition's entry for its kind, of which the `..-bare` laws leave what its reader reads.
+-- Each arm is the definition's entry for its kind, of which the `..-bare` laws leave what the code reads.
 use native.Mathlib.Omega.{arith}
 use borrow.Author.Needs.{needs}
 use borrow.Author.Tests.{ne-eqb}
 use Rattle.clauses.specs.Read.{readBody}
-use Rattle.clauses.proofs.Plans.{where-bare, return-bare, opening-bare, marked-bare, delete-bare}
+use Rattle.clauses.proofs.Body.{where-bare, return-bare, opening-bare, marked-bare, delete-bare}
 use Rattle.clauses.proofs.read_body.Statement.{statement}
 use Rattle.clauses.proofs.read_body.Tie as tie
 
@@ -12,16 +12,8 @@ unfolding readBody
 read-body-spec =
     tie.close
     (tie.spec
-    (λ c κs. search needs)  -- read-match-requires
-    (λ c κs. search needs)  -- read-kids-requires
-    (λ c κs. search needs)  -- read-with-requires
-    (λ c κs. search needs)  -- counted-projections-requires
-    (λ c κs. search needs)  -- read-unwind-requires
-    (λ c κs. search needs)  -- read-pattern-requires
-    (λ c κs. search needs)  -- read-pattern-requires-2
-    (λ c κs. search needs)  -- counted-marks-requires
-    (λ c κs. search needs)  -- counted-marks-requires-2
-    (λ c κs. search needs)  -- counted-exprs-requires
+    (λ c κs. search needs) (λ c κs. search needs) (λ c κs. search needs) (λ c κs. search needs) (λ c κs. search needs)  -- read-match-requires, read-kids-requires, read-with-requires, counted-projections-requires, read-unwind-requires
+    (λ c κs. search needs) (λ c κs. search needs) (λ c κs. search needs) (λ c κs. search needs) (λ c κs. search needs)  -- read-pattern-requires, read-pattern-requires-2, counted-marks-requires, counted-marks-requires-2, counted-exprs-requires
     (λ c κs. search needs)  -- read-call-requires
     (λ c. rw (c .before .match .keys1) (c .read-match .ensures))  -- returns
     (λ c. rw (c .before .match .keys2, where-bare) (c .read-kids .ensures))  -- returns-2

@@ -18,12 +18,9 @@ read-case-spec =
     let two = fact (λ (k : tie.After-known-told2). past-word (one (k .before .before .before .before)) (k .before .n .given .1) (k .before .before .before .word-in2 .ensures)) in
     tie.close
     (tie.spec
-    (λ c κs. begun (c .before) .within)  -- word-in-requires
-    (λ c. search needs) (λ c. search needs)  -- enum-known-b, enum-told
+    (λ c κs. begun (c .before) .within) (λ c. search needs) (λ c. search needs)  -- word-in-requires, enum-known-b, enum-told
     (λ c. stop-word (begun (c .before .before .before .before)) (c .enum-told .given .1) (c .before .before .word-in .ensures))  -- returns
-    (λ c. fits (one c))  -- add-p
-    (λ c κs. one c .within)  -- word-in-requires-2
-    (λ c. search needs) (λ c. search needs)  -- enum-known-n, enum-told-2
+    (λ c. fits (one c)) (λ c κs. one c .within) (λ c. search needs) (λ c. search needs)  -- add-p, word-in-requires-2, enum-known-n, enum-told-2
     (λ c. stop-word (one (c .before .before .before)) (c .enum-told2 .given .1) (c .before .before .word-in2 .ensures))  -- returns-2
     (λ c. fits (two c))  -- add-t9
     (λ c. done (two c)))  -- returns-3

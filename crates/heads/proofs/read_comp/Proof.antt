@@ -19,16 +19,11 @@ read-comp-spec =
     let three = fact (λ (k : tie.After-known-told3). past-word (two (k .before .before .before .before)) (k .before .g .given .1) (k .before .before .before .word-in3 .ensures)) in
     tie.close
     (tie.spec
-    (λ c κs. begun (c .before) .within)  -- word-in-requires
-    (λ c. search needs) (λ c. search needs)  -- enum-known-a, enum-told
+    (λ c κs. begun (c .before) .within) (λ c. search needs) (λ c. search needs)  -- word-in-requires, enum-known-a, enum-told
     (λ c. stop-word (begun (c .before .before .before .before)) (c .enum-told .given .1) (c .before .before .word-in .ensures))  -- returns
-    (λ c. fits (one c))  -- add-p
-    (λ c κs. one c .within)  -- word-in-requires-2
-    (λ c. search needs) (λ c. search needs)  -- enum-known-b, enum-told-2
+    (λ c. fits (one c)) (λ c κs. one c .within) (λ c. search needs) (λ c. search needs)  -- add-p, word-in-requires-2, enum-known-b, enum-told-2
     (λ c. stop-word (one (c .before .before .before)) (c .enum-told2 .given .1) (c .before .before .word-in2 .ensures))  -- returns-2
-    (λ c. fits (two c))  -- add-q
-    (λ c κs. two c .within)  -- word-in-requires-3
-    (λ c. search needs) (λ c. search needs)  -- enum-known-g, enum-told-3
+    (λ c. fits (two c)) (λ c κs. two c .within) (λ c. search needs) (λ c. search needs)  -- add-q, word-in-requires-3, enum-known-g, enum-told-3
     (λ c. stop-word (two (c .before .before .before)) (c .enum-told3 .given .1) (c .before .before .word-in3 .ensures))  -- returns-3
     (λ c. fits (three c))  -- add-t12
     (λ c. done (three c)))  -- returns-4

@@ -23,23 +23,15 @@ read-elem-head-spec =
     let five = fact (λ (k : tie.After-known-told5). past-word (four (k .before .before .before .before)) (k .before .property .given .1) (k .before .before .before .word-in4 .ensures)) in
     tie.close
     (tie.spec
-    (λ c κs. begun (c .before) .within)  -- word-in-requires
-    (λ c. search needs) (λ c. search needs)  -- enum-known-kind, enum-told
+    (λ c κs. begun (c .before) .within) (λ c. search needs) (λ c. search needs)  -- word-in-requires, enum-known-kind, enum-told
     (λ c. stop-word (begun (c .before .before .before .before)) (c .enum-told .given .1) (c .before .before .word-in .ensures))  -- returns
-    (λ c. fits (one c))  -- add-a
-    (λ c κs. one c .within)  -- word-in-requires-2
-    (λ c. search needs) (λ c. search needs)  -- enum-known-start, enum-told-2
+    (λ c. fits (one c)) (λ c κs. one c .within) (λ c. search needs) (λ c. search needs)  -- add-a, word-in-requires-2, enum-known-start, enum-told-2
     (λ c. stop-word (one (c .before .before .before)) (c .enum-told2 .given .1) (c .before .before .word-in2 .ensures))  -- returns-2
-    (λ c. fits (two c))  -- add-b
-    (λ c κs. two c .within)  -- word-in-requires-3
-    (λ c. search needs) (λ c. search needs)  -- enum-known-end, enum-told-3
+    (λ c. fits (two c)) (λ c κs. two c .within) (λ c. search needs) (λ c. search needs)  -- add-b, word-in-requires-3, enum-known-end, enum-told-3
     (λ c. stop-word (two (c .before .before .before)) (c .enum-told3 .given .1) (c .before .before .word-in3 .ensures))  -- returns-3
-    (λ c. fits (three c))  -- add-read-maybe
-    (λ c κs. three c .within)  -- read-maybe-requires
-    (λ c. search needs) (λ c. search needs)  -- enum-known-variable, enum-told-4
+    (λ c. fits (three c)) (λ c κs. three c .within) (λ c. search needs) (λ c. search needs)  -- add-read-maybe, read-maybe-requires, enum-known-variable, enum-told-4
     (λ c. stop-maybe (three (c .before .before .before)) (c .enum-told4 .given .1) (c .before .before .read-maybe .ensures))  -- returns-4
-    (λ c κs. four c .within)  -- word-in-requires-4
-    (λ c. search needs) (λ c. search needs)  -- enum-known-property, enum-told-5
+    (λ c κs. four c .within) (λ c. search needs) (λ c. search needs)  -- word-in-requires-4, enum-known-property, enum-told-5
     (λ c. stop-word (four (c .before .before .before)) (c .enum-told5 .given .1) (c .before .before .word-in4 .ensures))  -- returns-5
     (λ c. fits (five c))  -- add-t15
     (λ c. done (five c)))  -- returns-6

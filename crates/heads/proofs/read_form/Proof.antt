@@ -17,11 +17,9 @@ read-form-spec =
     let one = fact (λ (k : tie.After-known-told). past-word (begun (k .before .before .before .before .before)) (k .before .code .given .1) (k .before .before .before .word-in .ensures)) in
     tie.close
     (tie.spec
-    (λ c κs. begun (c .before) .within)  -- word-in-requires
-    (λ c. search needs) (λ c. search needs)  -- enum-known-code, enum-told
+    (λ c κs. begun (c .before) .within) (λ c. search needs) (λ c. search needs)  -- word-in-requires, enum-known-code, enum-told
     (λ c. (tt, stop-word (begun (c .before .before .before .before)) (c .enum-told .given .1) (c .before .before .word-in .ensures)))  -- returns
-    (λ c. fits (one c))  -- add-read-rest
-    (λ c κs. one c .within)  -- read-rest-requires
+    (λ c. fits (one c)) (λ c κs. one c .within)  -- add-read-rest, read-rest-requires
     (λ c.  -- returns-2
     let o = one (c .before) in
     let r = c .read-rest in

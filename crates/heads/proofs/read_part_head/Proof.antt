@@ -17,11 +17,9 @@ read-part-head-spec =
     let two = fact (λ (k : tie.After-known-told2). past-word (one (k .before .before .before .before)) (k .before .count .given .1) (k .before .before .before .word-in .ensures)) in
     tie.close
     (tie.spec
-    (λ c κs. begun (c .before) .within)  -- read-maybe-requires
-    (λ c. search needs) (λ c. search needs)  -- enum-known-path, enum-told
+    (λ c κs. begun (c .before) .within) (λ c. search needs) (λ c. search needs)  -- read-maybe-requires, enum-known-path, enum-told
     (λ c. stop-maybe (begun (c .before .before .before .before)) (c .enum-told .given .1) (c .before .before .read-maybe .ensures))  -- returns
-    (λ c κs. one c .within)  -- word-in-requires
-    (λ c. search needs) (λ c. search needs)  -- enum-known-count, enum-told-2
+    (λ c κs. one c .within) (λ c. search needs) (λ c. search needs)  -- word-in-requires, enum-known-count, enum-told-2
     (λ c. stop-word (one (c .before .before .before)) (c .enum-told2 .given .1) (c .before .before .word-in .ensures))  -- returns-2
     (λ c. fits (two c))  -- add-t9
     (λ c. done (two c)))  -- returns-3

@@ -21,13 +21,9 @@ read-rest-spec =
     let one = fact (λ (k : tie.After-known-told). past-word (begun (k .before .before .before .before)) (k .before .a .given .1) (k .before .before .before .word-in .ensures)) in
     tie.close
     (tie.spec
-    (λ c κs. tt) (λ c κs. tt) (λ c κs. tt)  -- shape-of-requires, form-none-requires, limit-of-requires
-    (λ c κs. begun c .within)  -- word-in-requires
-    (λ c. search needs) (λ c. search needs)  -- enum-known-a, enum-told
+    (λ c κs. tt) (λ c κs. tt) (λ c κs. tt) (λ c κs. begun c .within) (λ c. search needs) (λ c. search needs)  -- shape-of-requires, form-none-requires, limit-of-requires, word-in-requires, enum-known-a, enum-told
     (λ c. stop-word (begun (c .before .before .before)) (c .enum-told .given .1) (c .before .before .word-in .ensures))  -- returns
-    (λ c κs. tt)  -- form-one-requires
-    (λ c. fits (one (c .before)))  -- add-t12
-    (λ c κs. search needs) (λ c κs. search needs)  -- read-case-requires, read-comp-requires
+    (λ c κs. tt) (λ c. fits (one (c .before))) (λ c κs. search needs) (λ c κs. search needs)  -- form-one-requires, add-t12, read-case-requires, read-comp-requires
     (λ c. record { same = rw (← c .before .before .shape-of .ensures, c .before .match .keys1, c .form-none .ensures); from = omega arith; within = omega arith })  -- returns-2
     (λ c. rw (c .form-one .ensures) (done (one (c .before))))  -- returns-3
     (λ c. rw (← c .before .before .shape-of .ensures, c .before .match .keys3) (c .read-case .ensures))  -- returns-4

@@ -1,15 +1,21 @@
--- An element of a part: its head, and then its property, if its variable may be bound.
+-- An element of a part: its head (`one`), and then its property, if its variable may be bound (`two`).
 use Prim.Native.Nat.{ℕ}
 use borrow.Author.Needs.{needs}
 use native.Mathlib.Omega.{arith}
 use borrow.Fn.Kinds.{In}
-use Rattle.heads.proofs.Later.{readLater}
-use Rattle.expr.proofs.Shapes.{elem-one}
+use mathlib.Core.Path.{refl}
+use Rattle.words.specs.Words.{words}
+use Rattle.heads.specs.Got.{ok}
+use Rattle.heads.specs.Head.{allowed, readElem}
+use Rattle.heads.specs.Answer.{tables}
+use Rattle.heads.proofs.Chain.{step, test, last, fact, begin-bare, past, stop, passed, failed}
+use Rattle.heads.proofs.Opened.{last-bare}
+use Rattle.expr.specs.Read.{reader, noMore, times, elemOne}
 use Rattle.heads.proofs.read_elem_head.Reads as read-elem-head
 use Rattle.heads.proofs.may_bind.Reads as may-bind
 use Rattle.expr.proofs.read_elem.Reads as read-elem
 use Rattle.expr.proofs.read_kids.Reads as read-kids
-use Rattle.expr.proofs.+read_elem+read_elems+read_expr+read_kids+read_marks+read_part+read_parts+read_pattern.Lts-read_elem.{Claims, Closed, ps, spec}
+use Rattle.expr.proofs.+read_elem+read_elems+read_expr+read_kids+read_marks+read_part+read_parts+read_pattern.Lts-read_elem.{Claims, Closed, ps, spec, Start, After-known-told, Then1}
 use Rattle.expr.proofs.+read_elem+read_elems+read_expr+read_kids+read_marks+read_part+read_parts+read_pattern.Proof.Measures.{is, below, μ-elem, μ-kids}
 
 abbrev calls : ℕ → Claims
@@ -19,27 +25,19 @@ abbrev asks : ℕ → In 1 ps
 asks = is μ-elem read-elem.Pre
 
 pub holds : {M : Type 1} (t : ℕ) → Closed (calls t) (asks t) read-elem.Post M
+unfolding elemOne
 holds t =
+    let begun = fact (λ (k : Start (calls t) (asks t) read-elem.Post). let a = k .args in
+    let w = tables (words (a .s .now)) (a .names) (a .rows) (a .k) in
+    let P = reader (words (a .s .now)) (a .names) (a .rows) (a .k) (a .room) in
+    begin-bare (elemOne w P) (step readElem λ h. test (allowed w (h .variable)) 7 (step (times (h .property) P noMore) λ es. last (ok (h, es))))
+    (λ r. refl) (a .s .now) (a .at) (k .pre .1) (k .good .0 .0)) in
+    let one = fact (λ (k : After-known-told (calls t) (asks t) read-elem.Post). past (begun (k .before .before .before .before .before)) (rw (k .before .h .given .1) at (k .before .before .before .read-elem-head .ensures))) in
+    let two = fact (λ (k : Then1 (calls t) (asks t) read-elem.Post). passed (one (k .before .before)) (k .before .may-bind .ensures) (k .if1 .taken)) in
     spec (calls t) (asks t) read-elem.Post
-    (λ c κs. omega arith)  -- read-elem-head-requires
-    (λ c. search needs)  -- enum-known-h
-    (λ c. search needs)  -- enum-told
-    (λ c.  -- returns
-    let x = rw (c .enum-told .given .1) at (c .before .before .read-elem-head .ensures) in
-    record { same = rw (elem-one, x .same); from = omega arith; within = omega arith })
-    (λ c κs. search needs)  -- may-bind-requires
-    (λ c. omega arith)  -- cast-read-kids
-    (λ c κs.  -- read-kids-requires
-    let k = c .before .before .before in
-    let x = rw (k .h .given .1) at (k .before .before .read-elem-head .ensures) in
-    omega arith)
-    (λ c.  -- returns-2
-    let b = c .before .before in
-    let k = b .before .before in
-    let x = rw (k .h .given .1) at (k .before .before .read-elem-head .ensures) in
-    rw (elem-one, x .same, ← (b .may-bind .ensures), c .before .if1 .taken) (readLater _ _ _ _ (c .read-kids .result) (x .from) (x .within) (c .read-kids .ensures)))
-    (λ c.  -- returns-3
-    let b = c .before in
-    let k = b .before .before in
-    let x = rw (k .h .given .1) at (k .before .before .read-elem-head .ensures) in
-    record { same = rw (elem-one, x .same, ← (b .may-bind .ensures), c .if1 .left); from = omega arith; within = omega arith })
+    (λ c κs. omega arith) (λ c. search needs) (λ c. search needs)  -- read-elem-head-requires, enum-known-h, enum-told
+    (λ c. stop (begun (c .before .before .before .before)) (rw (c .enum-told .given .1) at (c .before .before .read-elem-head .ensures)))  -- returns
+    (λ c κs. search needs) (λ c. omega arith)  -- may-bind-requires, cast-read-kids
+    (λ c κs. let o = two c in omega arith)  -- read-kids-requires
+    (λ c. last-bare (c .read-kids .result) (two (c .before)) (c .read-kids .ensures))  -- returns-2
+    (λ c. failed (one (c .before .before)) (c .before .may-bind .ensures) (c .if1 .left))  -- returns-3

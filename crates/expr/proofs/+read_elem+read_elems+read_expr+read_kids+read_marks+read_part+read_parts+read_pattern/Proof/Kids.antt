@@ -25,11 +25,8 @@ holds t =
     (λ s names rows k at room n p₀ left₀ p left. Row (kidRows (reader (words s) names rows k room)) (words s) at n p left)  -- the loop's invariant
     (λ s names rows k at room n p₀ left₀ p left. left)  -- and its measure
     (λ c. record { same = refl; from = omega arith; within = omega arith })  -- loop-holds
-    (λ c κs. omega arith)  -- read-expr-requires
-    (λ c. search needs)  -- enum-known-r
-    (λ c. search needs)  -- enum-told
+    (λ c κs. omega arith) (λ c. search needs) (λ c. search needs)  -- read-expr-requires, enum-known-r, enum-told
     (λ c. row-stop (c .before .before .before .before .loop .inv) (omega arith) (c .enum-told .given .1) (c .before .before .read-expr .ensures))  -- returns
-    (λ c. omega arith)  -- sub-left
-    (λ c. omega arith)  -- loop-less
+    (λ c. omega arith) (λ c. omega arith)  -- sub-left, loop-less
     (λ c. row-next (c .before .before .before .before .before .loop .inv) (omega arith) (c .before .r .given .1) (c .before .before .before .read-expr .ensures))  -- loop-again
     (λ c. row-done (c .before .loop .inv) (omega arith))  -- returns-2
