@@ -2,8 +2,8 @@
 -- is its refusal.
 use borrow.Author.Needs.{needs}
 use mathlib.Core.Path.{refl}
-use Rattle.heads.specs.Got.{ok, bare, wordIn, any}
-use Rattle.heads.proofs.Chain.{step, last, fact, begin, fits, done, bared, bare-run}
+use Rattle.heads.specs.Got.{ok, wordIn, any}
+use Rattle.heads.proofs.Chain.{step, last, fact, begin-bare, fits, done}
 use Rattle.heads.proofs.Opened.{past-word, stop-word}
 use Rattle.tables.specs.Row.{row, readRow}
 use Rattle.tables.proofs.rows.read_row.Statement.{statement}
@@ -13,10 +13,9 @@ pub read-row-spec : {M : Type 1} → statement M
 unfolding readRow
 read-row-spec =
     let begun = fact (λ (k : tie.Start).
-    begin (λ r. bare (readRow (k .args .names) r))
-    (bared (step any λ i. step (wordIn 0 (k .args .names)) λ x. step (wordIn 1 5) λ t. step any λ a. step (wordIn a 4294967296) λ b. last (ok (row i x t a b))))
-    (bare-run (step any λ i. step (wordIn 0 (k .args .names)) λ x. step (wordIn 1 5) λ t. step any λ a. step (wordIn a 4294967296) λ b. last (ok (row i x t a b))))
-    (k .args .s .now) (k .args .at) (k .pre) (k .good .0 .0)) in
+    begin-bare (readRow (k .args .names))
+    (step any λ i. step (wordIn 0 (k .args .names)) λ x. step (wordIn 1 5) λ t. step any λ a. step (wordIn a 4294967296) λ b. last (ok (row i x t a b)))
+    (λ r. refl) (k .args .s .now) (k .args .at) (k .pre) (k .good .0 .0)) in
     let one = fact (λ (k : tie.After-known-told). past-word (begun (k .before .before .before .before .before)) (k .before .id .given .1) (k .before .before .before .word-in .ensures)) in
     let two = fact (λ (k : tie.After-known-told2). past-word (one (k .before .before .before .before)) (k .before .name .given .1) (k .before .before .before .word-in2 .ensures)) in
     let three = fact (λ (k : tie.After-known-told3). past-word (two (k .before .before .before .before)) (k .before .kind .given .1) (k .before .before .before .word-in3 .ensures)) in
