@@ -1,1 +1,12 @@
 pub mod Tests
+pub mod Store
+pub mod Table
+pub mod Bounds
+pub mod Split
+pub mod Walks
+pub mod Found
+pub mod Steps
+pub mod Decoded
+pub mod Same
+pub mod Alike
+pub mod Clauses

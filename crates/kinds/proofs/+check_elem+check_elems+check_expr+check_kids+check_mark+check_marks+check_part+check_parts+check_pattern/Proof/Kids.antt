@@ -1,0 +1,52 @@
+-- n expressions in a row: a loop over `kidsOfRow`, in one setting and then in another.
+use Prim.Native.Nat.{ℕ}
+use borrow.Author.Needs.{needs}
+use native.Mathlib.Omega.{arith}
+use borrow.Fn.Kinds.{In}
+use mathlib.Core.Path.{refl}
+use lib.ListN.{drop}
+use Rattle.words.specs.Words.{words}
+use Rattle.heads.specs.Got.{bare}
+use Rattle.expr.specs.Read.{noMore, times}
+use Rattle.kinds.specs.Kinds.{kindsE}
+use Rattle.kinds.specs.Walk.{settingOf, worldAt, readerAt, found, ofE, ofEs}
+use Rattle.kinds.proofs.Walks.{Going, begin, turn, first-fine, finish, kept, ready-on, kidsOfRow}
+use Rattle.kinds.proofs.check_expr.Reads as check-expr
+use Rattle.kinds.proofs.check_kids.Reads as check-kids
+use Rattle.kinds.proofs.+check_elem+check_elems+check_expr+check_kids+check_mark+check_marks+check_part+check_parts+check_pattern.Lts-check_kids.{Claims, Closed, ps, spec, InvT-loop, MeasureT-loop}
+use Rattle.kinds.proofs.+check_elem+check_elems+check_expr+check_kids+check_mark+check_marks+check_part+check_parts+check_pattern.Proof.Measures.{is, below, μ-expr, μ-kids}
+
+abbrev calls : ℕ → Claims
+calls t = (below μ-expr check-expr.Pre t, check-expr.Post)
+
+abbrev asks : ℕ → In 2 ps
+asks = is μ-kids check-kids.Pre
+
+abbrev inv : InvT-loop
+inv s e at room n later out₀ count p₀ m₀ setting₀ left₀ out p m setting left =
+    let ws = words s in
+    let w = worldAt ws e in
+    Going (kidsOfRow (readerAt ws e room)) ws at count out₀ (bare (times n (readerAt ws e room) noMore (drop at ws))) (found (ofEs w (settingOf setting₀) (settingOf later)) (times n (readerAt ws e room) noMore (drop at ws))) p m out left (ofEs w (settingOf setting) (settingOf later))
+
+abbrev measure : MeasureT-loop
+measure s e at room n later out₀ count p₀ m₀ setting₀ left₀ out p m setting left = left
+
+pub holds : {M : Type 1} (t : ℕ) → Closed (calls t) (asks t) check-kids.Post M
+unfolding kindsE
+holds t =
+    spec (calls t) (asks t) check-kids.Post inv measure
+    (λ c. let o = c .before .before .pre .1 in begin _ _ _ _ _ _ (o .within) (o .fine))  -- loop-holds
+    (λ c κs.  -- check-expr-requires
+    let k = c .before .before in
+    let l = k .loop .inv in
+    let h = c .before .loop-test in
+    (omega (arith, l .far .from, l .far .within, k .before .before .before .pre .0), ready-on (k .before .before .before .pre .1) (l .far) _ (first-fine _ (omega arith) l)))
+    (λ c. omega arith)  -- sub-left
+    (λ c. omega arith)  -- loop-less
+    (λ c.  -- loop-again
+    let k = c .before .before .before .before .before in
+    let a = k .before .before .before .args in
+    let w = worldAt (words (a .s .now)) (a .e) in
+    turn _ (ofEs w (settingOf (k .loop .setting)) (settingOf (a .later))) (ofEs w (settingOf (a .later)) (settingOf (a .later))) (ofE w (settingOf (k .loop .setting))) (λ x y. refl) (omega arith) (k .loop .inv) (c .before .before .check-expr .ensures))
+    (λ c. kept (c .before .loop .inv .far))  -- same-length
+    (λ c. finish _ _ refl (omega arith) (c .before .loop .inv))  -- returns

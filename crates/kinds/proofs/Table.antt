@@ -1,0 +1,65 @@
+-- Laws of the bindings in a section: the first of those that are left, and none left.
+use Prim.Native.Nat.{ℕ, zero, suc, _+_, _-_, _*_, _<_, _≤_}
+use native.Mathlib.Nat.{add-zero}
+use native.Mathlib.Omega.{arith}
+use mathlib.Core.Path.{_≡_, refl, ap, sym, _∙_}
+use mathlib.Core.Bool.{Bool, true, false, cond, _&&_}
+use mathlib.Core.List.{List, [], _∷_}
+use mathlib.Core.Option.{Option, none, some}
+use borrow.Author.Tests.{leb-true, ltb-true, eq-eqb, ne-eqb}
+use lib.Dec.{eqb, leb, ltb}
+use lib.ListN.{length, getD, drop}
+use lib.Seq.{drop-drop, getD-drop}
+use Rattle.scope.specs.Flat.{entriesOf}
+use Rattle.tables.specs.Row.{Row, row, valueKind}
+use Rattle.resolve.specs.Resolve.{rowOf}
+use Rattle.kinds.specs.Walk.{tableAt, wellRows, BoundAt, boundOf}
+use Rattle.kinds.specs.declared.Bound.{Bound}
+use Rattle.kinds.specs.declared.Bound.the-variants as bound
+
+and-both : (a b : Bool) → (a && b) ≡ true → (a ≡ true) × (b ≡ true)
+and-both true b h = (refl, h)
+and-both false b h = absurd (let z : _≡_ {A = ℕ} 0 1 = cc in omega arith)
+
+-- the binding at p, and those after it
+abbrev here : List ℕ → ℕ → Row
+here ws p = row (getD ws p 0) (getD ws (p + 1) 0) (getD ws (p + 2) 0) (getD ws (p + 3) 0) (getD ws (p + 4) 0)
+
+table-more : (ws : List ℕ) (p left : ℕ) → 0 < left → tableAt ws p left ≡ here ws p ∷ tableAt ws (p + 5) (left - 1)
+unfolding entriesOf
+table-more ws p left h =
+    let l : left ≡ suc (left - 1) = omega arith in
+    ap (λ (k : ℕ). tableAt ws p k) l ∙ simp (getD-drop, drop-drop, add-zero)
+
+-- what the loop of `row_at` keeps: of the n bindings, left are left at p, and the variable's row is among them if it is there
+pub record Left (names v : ℕ) (ws : List ℕ) (rows n p left : ℕ) : Type 0 where
+  pub same : rowOf v (tableAt ws rows n) ≡ rowOf v (tableAt ws p left)
+  pub well : wellRows names (tableAt ws p left) ≡ true
+  pub end : p + left * 5 ≡ rows + n * 5
+
+module _ {names v : ℕ} {ws : List ℕ} {rows n p left : ℕ} (l : Left names v ws rows n p left) (h : 0 < left) where
+  fields : (getD ws (p + 1) 0 < names) × ((getD ws (p + 2) 0 ≤ valueKind) × (wellRows names (tableAt ws (p + 5) (left - 1)) ≡ true))
+  unfolding wellRows
+  fields =
+      let w = rw (table-more ws p left h) at (l .well) in
+      let a = and-both (ltb (getD ws (p + 1) 0) names) _ w in
+      let b = and-both (leb (getD ws (p + 2) 0) valueKind) _ (a .1) in
+      (ltb-true _ _ (a .0), (leb-true _ _ (b .0), b .1))
+
+  pub name-below : getD ws (p + 1) 0 < names
+  name-below = fields .0
+
+  pub row-here : (x k : ℕ) → v ≡ getD ws p 0 → x ≡ suc (getD ws (p + 1) 0) → k ≡ getD ws (p + 2) 0 → BoundAt (rowOf v (tableAt ws rows n)) (bound.Is x k)
+  unfolding rowOf
+  row-here x k e ex ek =
+      record { same = rw (l .same, table-more ws p left h, eq-eqb v _ e, ex, ek); fits = rw ek (fields .1 .0) }
+
+  pub row-other : (v ≡ getD ws p 0 → ⊥) → Left names v ws rows n (p + 5) (left - 1)
+  unfolding rowOf
+  row-other e = record { same = l .same ∙ rw (table-more ws p left h, ne-eqb v _ e); well = fields .1 .1; end = omega arith }
+
+pub row-none : {names v : ℕ} {ws : List ℕ} {rows n p left : ℕ} → Left names v ws rows n p left → left ≤ 0 → BoundAt (rowOf v (tableAt ws rows n)) bound.No
+unfolding rowOf entriesOf
+row-none {names} {v} {ws} {rows} {n} {p} {left} l h =
+    let z : left ≡ 0 = omega arith in
+    record { same = rw (l .same, z); fits = tt }
