@@ -3,8 +3,9 @@ use mathlib.Core.Path.{_≡_, refl}
 use mathlib.Core.Option.{Option, none, some}
 use Prim.Native.Nat.{ℕ}
 use Rattle.tables.specs.Row.{Row, row}
+use Rattle.resolve.specs.Table.{boundOf}
 use Rattle.kinds.specs.Kinds.{Setting, general, arithmetic, property, boolean, listed, atRow, misplaced}
-use Rattle.kinds.specs.Walk.{boundOf, atBound, misplacedBound}
+use Rattle.kinds.specs.Walk.{atBound, misplacedBound}
 
 pub bound-row : (c : Setting) (o : Option Row) → atBound c (boundOf o) ≡ atRow c o
 unfolding atRow

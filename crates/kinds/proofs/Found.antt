@@ -20,10 +20,11 @@ use Rattle.expr.specs.Read.{Reader, noMore, times, marks, maybePattern, afterFo
 use Rattle.tables.specs.Row.{pathKind, valueKind, Row, row}
 use Rattle.resolve.specs.Log.{e2007, e2008, e2011, Finding, finding}
 use Rattle.resolve.specs.Resolve.{World, rowOf, bytesOf}
+use Rattle.resolve.specs.Table.{BoundAt, boundOf}
+use Rattle.resolve.specs.declared.rows.Bound.{Bound}
+use Rattle.resolve.specs.declared.rows.Bound.the-variants as bound
 use Rattle.kinds.specs.Kinds.{Setting, general, arithmetic, property, boolean, listed, Pair, both, plain, isId, noType, intType, stringType, kindType, typeOf, settings, atType, atRow, misplaced, rowFor, named-id, kindsE, kindsEs, kindsS}
-use Rattle.kinds.specs.Walk.{idNames, Pushed, BoundAt, boundOf, atBound, misplacedBound, varOf, shownOf, ownFor, ownOf, isOk, found, ofE, ofEs}
-use Rattle.kinds.specs.declared.Bound.{Bound}
-use Rattle.kinds.specs.declared.Bound.the-variants as bound
+use Rattle.kinds.specs.Walk.{idNames, Pushed, atBound, misplacedBound, varOf, shownOf, ownFor, ownOf, isOk, found, ofE, ofEs}
 use Rattle.kinds.proofs.Bounds.{bound-row}
 use Rattle.kinds.proofs.Split.{joinE, times-split, after, kinds-join, plain-join}
 use Rattle.kinds.proofs.Walks.{inverse, ok-left, not-ok}

@@ -1,6 +1,5 @@
 pub mod Tests
 pub mod Store
-pub mod Table
 pub mod Bounds
 pub mod Split
 pub mod Walks

@@ -18,12 +18,13 @@ use mathlib.Core.Option.{Option}
 use Rattle.tables.specs.Row.{pathKind, Row}
 use Rattle.resolve.specs.Log.{Finding}
 use Rattle.resolve.specs.Resolve.{World}
+use Rattle.resolve.specs.Table.{BoundAt}
+use Rattle.resolve.specs.declared.rows.Bound.{Bound}
 use Rattle.kinds.specs.Kinds.{general, plain, misplaced, rowFor, kindsE, kindsEs, kindsS}
-use Rattle.kinds.specs.Walk.{Pushed, BoundAt, misplacedBound, Walks, isOk, found, ofEs, ofElem, markFull, partFull}
+use Rattle.kinds.specs.Walk.{Pushed, misplacedBound, Walks, isOk, found, ofEs, ofElem, markFull, partFull}
 use Rattle.kinds.proofs.Walks.{ok-left, not-ok, headed, told}
 use Rattle.kinds.proofs.Bounds.{bound-misplaced}
 use Rattle.kinds.proofs.Found.{misplaced-few}
-use Rattle.kinds.specs.declared.Bound.{Bound}
 
 ok-inverse : {A : Type 0} (g : Got A) → isOk g ≡ true → (a : A) × ((r : List ℕ) × (g ≡ ok a r))
 ok-inverse (ok a r) h = (a, (r, refl))

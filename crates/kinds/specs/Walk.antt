@@ -1,10 +1,10 @@
 -- What the code of the kinds walk works on and leaves, in the definition's terms.
 use Prim.Native.Nat.{ℕ, zero, suc, _+_, _-_, _*_, _≤_}
 use mathlib.Core.Path.{_≡_}
-use mathlib.Core.Bool.{Bool, true, false, cond, _&&_}
+use mathlib.Core.Bool.{Bool, true, false, cond}
 use mathlib.Core.List.{List, [], _∷_, _++_}
-use mathlib.Core.Option.{Option, none, some}
-use lib.Dec.{eqb, leb, ltb}
+use mathlib.Core.Option.{Option}
+use lib.Dec.{eqb}
 use lib.ListN.{length, getD, drop}
 use lib.Seq.{sets}
 use Rattle.scope.specs.Flat.{entriesOf}
@@ -21,15 +21,16 @@ use Rattle.expr.specs.Tree.{Expr, Exprs, done, mark, Steps, part}
 use Rattle.expr.specs.Read.{Reader, noMore, noSteps, times, elems, maybePattern, readExpr}
 use Rattle.clauses.specs.Tree.{Projection, projection, exprs}
 use Rattle.clauses.specs.Read.{clauseExpr}
-use Rattle.tables.specs.Row.{pathKind, valueKind, Row, row}
+use Rattle.tables.specs.Row.{pathKind, valueKind, Row}
 use Rattle.resolve.specs.Log.{e2007, e2008, Finding, finding}
 use Rattle.resolve.specs.Resolve.{World}
+use Rattle.resolve.specs.Table.{tableAt, wellRows, boundOf}
+use Rattle.resolve.specs.declared.rows.Bound.{Bound}
+use Rattle.resolve.specs.declared.rows.Bound.the-variants as bound
 use Rattle.kinds.specs.Kinds.{Setting, general, arithmetic, property, boolean, listed, Pair, both, plain, noType, mapType, patternType, kindType, leafTypes, atType, misplaced, rowFor, kindsE, kindsEs, kindsS}
 use Rattle.kinds.specs.declared.Setting as settings
 use Rattle.kinds.specs.declared.Setting.the-variants as setting
 use Rattle.kinds.specs.declared.Settings.{Settings}
-use Rattle.kinds.specs.declared.Bound.{Bound}
-use Rattle.kinds.specs.declared.Bound.the-variants as bound
 use Rattle.kinds.specs.declared.Env.{Env}
 use Rattle.kinds.specs.declared.Walked.{Walked}
 
@@ -65,18 +66,6 @@ pub record Pushed (old new : List ℕ) (n : ℕ) (fs : List Finding) (r : ℕ) :
   pub count : r ≡ n + length fs
   pub wrote : new ≡ stored old n fs
 
--- the n bindings from the word `rows` on
-abbrev pub rowIn : List ℕ → Row
-rowIn ws = row (getD ws 0 0) (getD ws 1 0) (getD ws 2 0) (getD ws 3 0) (getD ws 4 0)
-
-abbrev pub tableAt : List ℕ → ℕ → ℕ → List Row
-tableAt ws rows n = entriesOf 5 rowIn n (drop rows ws)
-
--- names below `names`, and kinds up to Value
-unfoldable pub wellRows : ℕ → List Row → Bool
-wellRows names [] = true
-wellRows names (row i x k a b ∷ t) = ltb x names && (leb k valueKind && wellRows names t)
-
 -- names of which only the one numbered `ident` is `id`
 unfoldable pub idNames : ℕ → List (List ℕ)
 idNames zero = (105 ∷ 100 ∷ []) ∷ []
@@ -86,19 +75,7 @@ idNames (suc n) = [] ∷ idNames n
 abbrev pub worldAt : List ℕ → Env → World
 worldAt ws e = record { names = idNames (e .ident); table = tableAt ws (e .rows) (e .bindings); warns = false }
 
--- a variable's row as the code finds it: its name + 1 and its kind
-abbrev pub boundOf : Option Row → Bound
-boundOf none = bound.No
-boundOf (some (row i x k a b)) = bound.Is (suc x) k
-
-abbrev pub boundFits : Bound → Type 0
-boundFits bound.No = Unit {0}
-boundFits (bound.Is y k) = k ≤ valueKind
-
-pub record BoundAt (o : Option Row) (b : Bound) : Type 0 where
-  pub same : b ≡ boundOf o
-  pub fits : boundFits b
-
+-- what is said of a variable's row as the code finds it
 abbrev pub atBound : Setting → Bound → List Finding
 atBound c bound.No = []
 atBound general (bound.Is y k) = []

@@ -13,6 +13,8 @@ use heads::mark_kids;
 use heads::read_elem_head;
 use heads::read_form;
 use heads::read_part_head;
+use resolve::Bound;
+use resolve::row_at;
 use words::word;
 ghost use mathlib.Core.Path.{_≡_};
 ghost use mathlib.Core.Bool.{Bool, true, cond};
@@ -26,9 +28,9 @@ ghost use Rattle.heads.specs.Got.{many, counted};
 ghost use Rattle.clauses.specs.Read.{readProjection, readWith, countedExprs, countedMarks, readCall, readBody, readClause};
 ghost use Rattle.expr.specs.Read.{noMore, noSteps, times, marks, elemOne, elems, parts, maybePattern};
 ghost use Rattle.resolve.specs.Log.{e5010, finding};
-ghost use Rattle.resolve.specs.Resolve.{rowOf};
+ghost use Rattle.resolve.specs.Table.{tableAt, wellRows, BoundAt, boundFits};
 ghost use Rattle.kinds.specs.Kinds.{passes, general, arithmetic, property, boolean, listed, leafTypes, isArithmetic, isId, settings, atType, plain, kindsS, kindsC, kinds, rowFor};
-ghost use Rattle.kinds.specs.Walk.{settingOf, pairOf, findingWords, Pushed, tableAt, wellRows, worldAt, BoundAt, boundFits, atBound, misplacedBound, varOf, shownOf, ownOf, tablesAt, readerAt, markFull, partFull, ofE, ofEs, ofElem, matchSteps, unwindExpr, filterExprs, ofProjection, ofProjections, Ready, Checked};
+ghost use Rattle.kinds.specs.Walk.{settingOf, pairOf, findingWords, Pushed, worldAt, atBound, misplacedBound, varOf, shownOf, ownOf, tablesAt, readerAt, markFull, partFull, ofE, ofEs, ofElem, matchSteps, unwindExpr, filterExprs, ofProjection, ofProjections, Ready, Checked};
 
 // Where an expression stands; Listed, with the code and the first detail of its finding, wants a list.
 pub enum Setting {
@@ -43,12 +45,6 @@ pub enum Setting {
 pub struct Settings {
     pub first: Setting,
     pub later: Setting,
-}
-
-// A variable's binding: its name + 1 and its kind.
-pub enum Bound {
-    Is(u32, u32),
-    No,
 }
 
 // The section's tables: how many names, the first word and the number of the bindings, and the number of the name `id`.
@@ -112,24 +108,6 @@ pub fn push(
     out[k + 4] = one;
     out[k + 5] = two;
     count + 1
-}
-
-// The binding of a variable.
-pub fn row_at(s: &[u8], names: u32, rows: usize, n: usize, v: u32) -> Bound
-    requires { ⌜ (rows + n * 5 ≤ length (words (now s))) × (wellRows names (tableAt (words (now s)) rows n) ≡ true) ⌝ }
-    ensures { λ r. ⌜ BoundAt (rowOf v (tableAt (words (now (s .entry))) rows n)) r ⌝ }
-{
-    let mut p = rows;
-    let mut left = n;
-    while 0 < left {
-        if word(s, p) == v {
-            let x = word(s, p + 1);
-            return Bound::Is(x + 1, word(s, p + 2));
-        }
-        p += 5;
-        left -= 1;
-    }
-    Bound::No
 }
 
 pub fn row_for(s: &[u8], e: Env, m: Maybe) -> Bound

@@ -1,4 +1,8 @@
-// The resolve walk (000). So far its definition stands in specs/, with the test for the name `*`.
+// The resolve walk (000). So far its definition stands in specs/, with the test for the name `*` and the lookup of a variable's row.
+mod rows;
+
+pub use rows::Bound;
+pub use rows::row_at;
 ghost use mathlib.Core.Path.{_≡_};
 ghost use Rattle.resolve.specs.Resolve.{isStar};
 

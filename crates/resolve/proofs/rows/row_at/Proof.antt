@@ -3,9 +3,9 @@ use native.Mathlib.Omega.{arith}
 use mathlib.Core.Path.{refl, sym, _∙_}
 use Rattle.words.specs.Words.{words}
 use Rattle.words.proofs.Words.{length-words}
-use Rattle.kinds.proofs.Table.{Left, name-below, row-here, row-other, row-none}
-use Rattle.kinds.proofs.row_at.Statement.{statement}
-use Rattle.kinds.proofs.row_at.Tie as tie
+use Rattle.resolve.proofs.Table.{Left, name-below, row-here, row-other, row-none}
+use Rattle.resolve.proofs.rows.row_at.Statement.{statement}
+use Rattle.resolve.proofs.rows.row_at.Tie as tie
 
 abbrev Inv-loop : tie.InvT-loop
 Inv-loop s names rows n v p₀ left₀ p left = Left names v (words s) rows n p left

@@ -1,21 +1,19 @@
 -- Laws of the bindings in a section: the first of those that are left, and none left.
-use Prim.Native.Nat.{ℕ, zero, suc, _+_, _-_, _*_, _<_, _≤_}
+use Prim.Native.Nat.{ℕ, suc, _+_, _-_, _*_, _<_, _≤_}
 use native.Mathlib.Nat.{add-zero}
 use native.Mathlib.Omega.{arith}
-use mathlib.Core.Path.{_≡_, refl, ap, sym, _∙_}
-use mathlib.Core.Bool.{Bool, true, false, cond, _&&_}
-use mathlib.Core.List.{List, [], _∷_}
-use mathlib.Core.Option.{Option, none, some}
+use mathlib.Core.Path.{_≡_, refl, ap, _∙_}
+use mathlib.Core.Bool.{Bool, true, false, _&&_}
+use mathlib.Core.List.{List, _∷_}
 use borrow.Author.Tests.{leb-true, ltb-true, eq-eqb, ne-eqb}
-use lib.Dec.{eqb, leb, ltb}
-use lib.ListN.{length, getD, drop}
+use lib.Dec.{leb, ltb}
+use lib.ListN.{getD}
 use lib.Seq.{drop-drop, getD-drop}
 use Rattle.scope.specs.Flat.{entriesOf}
 use Rattle.tables.specs.Row.{Row, row, valueKind}
 use Rattle.resolve.specs.Resolve.{rowOf}
-use Rattle.kinds.specs.Walk.{tableAt, wellRows, BoundAt, boundOf}
-use Rattle.kinds.specs.declared.Bound.{Bound}
-use Rattle.kinds.specs.declared.Bound.the-variants as bound
+use Rattle.resolve.specs.Table.{tableAt, wellRows, BoundAt}
+use Rattle.resolve.specs.declared.rows.Bound.the-variants as bound
 
 and-both : (a b : Bool) → (a && b) ≡ true → (a ≡ true) × (b ≡ true)
 and-both true b h = (refl, h)
