@@ -2,6 +2,9 @@ pub mod Rows
 pub mod Strict
 pub mod Inverse
 pub mod Heads
+pub mod Split
+pub mod Accepted
+pub mod Repeats
 pub mod Sort
 pub mod ReadsBack
 pub mod Written

@@ -1,7 +1,7 @@
 -- The findings of an expression by its parts: those of the head itself, of its pattern, of its expressions and of its items.
-use Prim.Native.Nat.{ℕ, zero, suc, _-_, _≤_, _<_}
+use Prim.Native.Nat.{ℕ, zero, suc, _≤_}
 use native.Mathlib.Omega.{arith}
-use mathlib.Core.Path.{_≡_, refl, ap, sym, _∙_}
+use mathlib.Core.Path.{_≡_, refl, ap}
 use mathlib.Core.Bool.{Bool, true, false, cond, _&&_}
 use mathlib.Core.List.{List, [], _∷_, _++_, append-assoc, append-nil}
 use mathlib.Core.Option.{Option, none, some}
@@ -9,14 +9,16 @@ use borrow.Author.Tests.{eqb-true, eqb-false}
 use lib.Dec.{eqb, leb}
 use lib.ListN.{length, getD}
 use Rattle.heads.specs.Got.{Got, ok, no, bind, bare}
-use Rattle.heads.specs.Form.{readForm, kidsOf, itemsOf, hasPattern}
-use Rattle.heads.specs.Head.{Tables, deepCause}
+use Rattle.heads.specs.Form.{kidsOf, itemsOf, hasPattern}
+use Rattle.heads.specs.Head.{Tables}
 use Rattle.heads.specs.declared.Form.{Form}
 use Rattle.heads.specs.declared.Form.the-variants.{Leaf, Var, Unresolved, Prop, Two, Slice, Many, BinOp, UnaryOp, Case, IsNull, PatternPredicate, ListComprehension, PatternComprehension, ListPredicate, MapProjection}
 use Rattle.heads.specs.declared.Maybe.{Maybe}
 use Rattle.heads.specs.declared.Maybe.the-variants as maybe
 use Rattle.expr.specs.Tree.{Expr, node, Exprs, done, more, mark, Steps, end, tree}
-use Rattle.expr.specs.Read.{Reader, noMore, times, marks, maybePattern, afterForm, readExpr}
+use Rattle.expr.specs.Read.{Reader, noMore, times, marks, maybePattern, afterForm}
+use Rattle.expr.proofs.Split.{joinE, times-split}
+use Rattle.expr.proofs.Accepted.{inverse}
 use Rattle.tables.specs.Row.{pathKind, valueKind, Row, row}
 use Rattle.resolve.specs.Log.{e2007, e2008, e2011, Finding, finding}
 use Rattle.resolve.specs.Resolve.{World, rowOf, bytesOf}
@@ -24,10 +26,9 @@ use Rattle.resolve.specs.Table.{BoundAt, boundOf}
 use Rattle.resolve.specs.declared.rows.Bound.{Bound}
 use Rattle.resolve.specs.declared.rows.Bound.the-variants as bound
 use Rattle.kinds.specs.Kinds.{Setting, general, arithmetic, property, boolean, listed, Pair, both, plain, isId, noType, intType, stringType, kindType, typeOf, settings, atType, atRow, misplaced, rowFor, named-id, kindsE, kindsEs, kindsS}
-use Rattle.kinds.specs.Walk.{idNames, Pushed, atBound, misplacedBound, varOf, shownOf, ownFor, ownOf, isOk, found, ofE, ofEs}
+use Rattle.kinds.specs.Walk.{idNames, Pushed, atBound, misplacedBound, varOf, shownOf, ownFor, ownOf, found, ofE, ofEs}
 use Rattle.kinds.proofs.Bounds.{bound-row}
-use Rattle.kinds.proofs.Split.{joinE, times-split, after, kinds-join, plain-join}
-use Rattle.kinds.proofs.Walks.{inverse, ok-left, not-ok}
+use Rattle.kinds.proofs.Split.{after, kinds-join, plain-join}
 
 -- a head has one finding at most
 none-or : (b : Bool) (x : Finding) → length (cond b [] (x ∷ [])) ≤ 1
@@ -179,60 +180,14 @@ module _ (w : World) where
   parts-found t P (ListPredicate g) r r2 r3 r4 s es ms c a b d = rw (no-steps t P r a, no-marks P r3 d) (node-done (ListPredicate g) es c)
   parts-found t P (MapProjection n) r r2 r3 r4 s es ms c a b d = rw (no-steps t P r a) (node-found (MapProjection n) es ms c (rw (one-kid P r2 es r3 property b)))
 
--- an expression that is accepted: room is left, and its head decides
-pub room-left : (t : Tables) (room : ℕ) (r : List ℕ) → isOk (readExpr t room r) ≡ true → 0 < room
-unfolding readExpr
-room-left t zero r o = absurd (let z : _≡_ {A = ℕ} 0 1 = cc in omega arith)
-room-left t (suc d) r o = omega arith
-
-expr-suc : (t : Tables) (room : ℕ) (r : List ℕ) → 0 < room → readExpr t room r ≡ bind (readForm (t .names) r) (λ f r1. afterForm t (readExpr t (room - 1)) f r1)
-unfolding readExpr
-expr-suc t room r h = let e : room ≡ suc (room - 1) = omega arith in ap (λ (d : ℕ). readExpr t d r) e
-
-pub expr-is : (t : Tables) (room : ℕ) (r : List ℕ) (f : Form) (r1 : List ℕ) → 0 < room → readForm (t .names) r ≡ ok f r1 → readExpr t room r ≡ afterForm t (readExpr t (room - 1)) f r1
-expr-is t room r f r1 h e = expr-suc t room r h ∙ ap (λ (g : Got Form). bind g (λ f r1. afterForm t (readExpr t (room - 1)) f r1)) e
-
-pub expr-none : {X : Type 0} (t : Tables) (room : ℕ) (r : List ℕ) → isOk (readExpr t room r) ≡ true → readForm (t .names) r ≡ no 5 → X
-expr-none t room r o e = not-ok (readExpr t room r) 5 o (expr-suc t room r (room-left t room r o) ∙ ap (λ (g : Got Form). bind g (λ f r1. afterForm t (readExpr t (room - 1)) f r1)) e)
-
--- what follows its head, part by part
-module _ (t : Tables) (P : Reader) (f : Form) (r : List ℕ) (o : isOk (afterForm t P f r) ≡ true) where
-  pub pattern-fine : isOk (maybePattern (hasPattern f) t P r) ≡ true
-  unfolding afterForm
-  pattern-fine = ok-left (maybePattern (hasPattern f) t P r) _ o
-
-  module _ (r2 : List ℕ) (e2 : bare (maybePattern (hasPattern f) t P r) ≡ ok tt r2) where
-    row-fine : isOk (times (kidsOf f) P (marks 0 (itemsOf f) P) r2) ≡ true
-    unfolding afterForm
-    row-fine =
-        let i = inverse (maybePattern (hasPattern f) t P r) r2 e2 in
-        ok-left (times (kidsOf f) P (marks 0 (itemsOf f) P) r2) _ (rw (i .1) at o)
-
-    pub kids-fine : isOk (times (kidsOf f) P noMore r2) ≡ true
-    kids-fine = ok-left (times (kidsOf f) P noMore r2) _ (rw (times-split P (marks 0 (itemsOf f) P) (kidsOf f) r2) at row-fine)
-
-    module _ (r3 : List ℕ) (e3 : bare (times (kidsOf f) P noMore r2) ≡ ok tt r3) where
-      pub marks-fine : isOk (marks 0 (itemsOf f) P r3) ≡ true
-      marks-fine =
-          let i = inverse (times (kidsOf f) P noMore r2) r3 e3 in
-          ok-left (marks 0 (itemsOf f) P r3) _ (rw (times-split P (marks 0 (itemsOf f) P) (kidsOf f) r2, i .1) at row-fine)
-
-      module _ (r4 : List ℕ) (e4 : bare (marks 0 (itemsOf f) P r3) ≡ ok tt r4) where
-        pub after-bare : bare (afterForm t P f r) ≡ ok tt r4
-        unfolding afterForm
-        after-bare =
-            let i2 = inverse (maybePattern (hasPattern f) t P r) r2 e2 in
-            let i3 = inverse (times (kidsOf f) P noMore r2) r3 e3 in
-            let i4 = inverse (marks 0 (itemsOf f) P r3) r4 e4 in
-            rw (i2 .1, times-split P (marks 0 (itemsOf f) P) (kidsOf f) r2, i3 .1, i4 .1)
-
-        pub after-found : (w : World) (c : Setting) (p : Pair) → p ≡ settings (named-id w) f c → found (ofE w c) (afterForm t P f r) ≡ ownOf w f c ++ (found (kindsS w) (maybePattern (hasPattern f) t P r) ++ (found (λ es. kindsEs w es p) (times (kidsOf f) P noMore r2) ++ found (ofEs w general general) (marks 0 (itemsOf f) P r3)))
-        unfolding afterForm
-        after-found w c p q =
-            let i2 = inverse (maybePattern (hasPattern f) t P r) r2 e2 in
-            let i3 = inverse (times (kidsOf f) P noMore r2) r3 e3 in
-            let i4 = inverse (marks 0 (itemsOf f) P r3) r4 e4 in
-            rw (i2 .1, times-split P (marks 0 (itemsOf f) P) (kidsOf f) r2, i3 .1, i4 .1, q) (parts-found w t P f r r2 r3 r4 (i2 .0) (i3 .0) (i4 .0) c (i2 .1) (i3 .1) (i4 .1))
+-- an expression that is accepted, by what follows its head
+pub after-found : (t : Tables) (P : Reader) (f : Form) (r r2 : List ℕ) → bare (maybePattern (hasPattern f) t P r) ≡ ok tt r2 → (r3 : List ℕ) → bare (times (kidsOf f) P noMore r2) ≡ ok tt r3 → (r4 : List ℕ) → bare (marks 0 (itemsOf f) P r3) ≡ ok tt r4 → (w : World) (c : Setting) (p : Pair) → p ≡ settings (named-id w) f c → found (ofE w c) (afterForm t P f r) ≡ ownOf w f c ++ (found (kindsS w) (maybePattern (hasPattern f) t P r) ++ (found (λ es. kindsEs w es p) (times (kidsOf f) P noMore r2) ++ found (ofEs w general general) (marks 0 (itemsOf f) P r3)))
+unfolding afterForm
+after-found t P f r r2 e2 r3 e3 r4 e4 w c p q =
+    let i2 = inverse (maybePattern (hasPattern f) t P r) r2 e2 in
+    let i3 = inverse (times (kidsOf f) P noMore r2) r3 e3 in
+    let i4 = inverse (marks 0 (itemsOf f) P r3) r4 e4 in
+    rw (i2 .1, times-split P (marks 0 (itemsOf f) P) (kidsOf f) r2, i3 .1, i4 .1, q) (parts-found w t P f r r2 r3 r4 (i2 .0) (i3 .0) (i4 .0) c (i2 .1) (i3 .1) (i4 .1))
 
 -- the findings that `check_head` stores
 pub own-var : (w : World) (f : Form) (c : Setting) {m : Maybe} {v : ℕ} {b : Bound} {old new : List ℕ} {n r : ℕ} → m ≡ varOf f → m ≡ maybe.Var v → BoundAt (rowFor w m) b → Pushed old new n (atBound c b) r → Pushed old new n (ownOf w f c) r

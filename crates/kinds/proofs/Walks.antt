@@ -1,34 +1,18 @@
--- Laws of walks: what an accepted reading says of its parts, and how walks are joined, one after the other or in a loop.
-use Prim.Native.Nat.{ℕ, zero, suc, _+_, _-_, _*_, _<_, _≤_}
+-- Laws of walks: how they are joined, one after the other or in a loop over a row.
+use Prim.Native.Nat.{ℕ, _-_, _<_, _≤_}
 use native.Mathlib.Omega.{arith}
 use mathlib.Core.Path.{_≡_, refl, ap, sym, _∙_}
-use mathlib.Core.Bool.{Bool, true, false}
-use mathlib.Core.List.{List, [], _∷_, _++_, append-assoc, append-nil}
+use mathlib.Core.Bool.{true}
+use mathlib.Core.List.{List, [], _++_, append-assoc, append-nil}
 use lib.ListN.{length, drop, length-append}
-use Rattle.heads.specs.Got.{Got, ok, no, bind, bare}
-use Rattle.expr.specs.Tree.{Expr, Exprs, done, more, Steps, end}
-use Rattle.heads.specs.declared.Elem.{Elem}
-use Rattle.heads.specs.Head.{Tables}
-use Rattle.expr.specs.Read.{Reader, noMore, noSteps, times, marks, elemOne, elems, parts}
+use Rattle.heads.specs.Got.{Got, ok, no, bind, bare, isOk}
+use Rattle.expr.proofs.Accepted.{inverse}
+use Rattle.expr.proofs.Repeats.{Repeats, more-of, none-of, first-of, rest-of}
 use Rattle.resolve.specs.Log.{Finding}
-use Rattle.kinds.specs.Walk.{stored, Pushed, isOk, found, Ready, Walks, markFull, partFull}
+use Rattle.kinds.specs.Walk.{stored, Pushed, found, Ready, Walks}
 use Rattle.kinds.specs.declared.Env.{Env}
 use Rattle.kinds.specs.declared.Walked.{Walked}
 use Rattle.kinds.proofs.Store.{stored-append, length-stored}
-use Rattle.kinds.proofs.Split.{joinE, joinS, elemThen, marks-step, parts-step}
-
--- a reading that is known but for its tree, and one that is accepted
-pub inverse : {A : Type 0} (g : Got A) (r : List ℕ) → bare g ≡ ok tt r → (a : A) × (g ≡ ok a r)
-inverse (ok a s) r h = let e : s ≡ r = cc in (a, ap (λ (x : List ℕ). ok a x) e)
-inverse (no c) r h = absurd (let z : _≡_ {A = ℕ} 0 1 = cc in omega arith)
-
-pub ok-left : {A B : Type 0} (g : Got A) (k : A → List ℕ → Got B) → isOk (bind g k) ≡ true → isOk g ≡ true
-ok-left (ok a r) k h = refl
-ok-left (no c) k h = h
-
-pub not-ok : {A : Type 0} {X : Type 0} (g : Got A) (c : ℕ) → isOk g ≡ true → g ≡ no c → X
-not-ok (ok a r) c h e = absurd (let z : _≡_ {A = ℕ} 0 1 = cc in omega arith)
-not-ok (no d) c h e = absurd (let z : _≡_ {A = ℕ} 0 1 = cc in omega arith)
 
 module _ {ws : List ℕ} {at n : ℕ} {old mid : List ℕ} {g : Got (Unit {0})} {fs : List Finding} {r : Walked} (v : Walks ws at n old mid g fs r) where
   pub kept : length mid ≡ length old
@@ -69,15 +53,6 @@ pub stands : {ws : List ℕ} (at p n : ℕ) (old : List ℕ) → at ≤ p → p 
 unfolding stored
 stands at p n old h k = record { rest = refl; from = h; within = k; few = omega arith; count = omega arith; wrote = refl }
 
--- ---- rows: n of a kind, and one
-pub record Repeats (A B : Type 0) : Type 0 where
-  pub all : ℕ → List ℕ → Got B
-  pub one : List ℕ → Got A
-  pub join : A → B → B
-  pub none : B
-  pub step : (k : ℕ) (ws : List ℕ) → all (suc k) ws ≡ bind (one ws) (λ a r. bind (all k r) (λ b r2. ok (join a b) r2))
-  pub stop : (ws : List ℕ) → all 0 ws ≡ ok none ws
-
 -- the loop's invariant: of a reading with its findings, what is before p is walked, and left are left, with the findings f
 pub record Going {A B : Type 0} (R : Repeats A B) (ws : List ℕ) (at n : ℕ) (old : List ℕ) (g : Got (Unit {0})) (fs : List Finding) (p m : ℕ) (new : List ℕ) (left : ℕ) (f : B → List Finding) : Type 0 where
   pub gone : List Finding
@@ -87,76 +62,35 @@ pub record Going {A B : Type 0} (R : Repeats A B) (ws : List ℕ) (at n : ℕ) (
   pub splits : fs ≡ gone ++ found f (R .all left (drop p ws))
 
 module _ {A B : Type 0} (R : Repeats A B) where
-  more-of : (left : ℕ) (r : List ℕ) → 0 < left → R .all left r ≡ bind (R .one r) (λ a r1. bind (R .all (left - 1) r1) (λ b r2. ok (R .join a b) r2))
-  more-of left r h = let e : left ≡ suc (left - 1) = omega arith in ap (λ (k : ℕ). R .all k r) e ∙ R .step (left - 1) r
-
   pub begin : {ws : List ℕ} (at n : ℕ) (old : List ℕ) (k : ℕ) (f : B → List Finding) → at ≤ length ws → isOk (R .all k (drop at ws)) ≡ true → Going R ws at n old (bare (R .all k (drop at ws))) (found f (R .all k (drop at ws))) at n old k f
   begin at n old k f h o = record { gone = []; far = stands at at n old (omega arith) h; fine = o; shape = refl; splits = refl }
 
   module _ (f f' : B → List Finding) (g : A → List Finding) (apart : (a : A) (b : B) → f (R .join a b) ≡ g a ++ f' b) where
-    tail : (a : A) (y : Got B) → isOk (bind y (λ b r2. ok (R .join a b) r2)) ≡ true → (isOk y ≡ true) × ((bare (bind y (λ b r2. ok (R .join a b) r2)) ≡ bare y) × (found f (bind y (λ b r2. ok (R .join a b) r2)) ≡ g a ++ found f' y))
-    tail a (ok b r2) o = (refl, (refl, apart a b))
+    tail : (a : A) (y : Got B) → isOk y ≡ true → found f (bind y (λ b r2. ok (R .join a b) r2)) ≡ g a ++ found f' y
+    tail a (ok b r2) o = apart a b
     tail a (no c) o = absurd (let z : _≡_ {A = ℕ} 0 1 = cc in omega arith)
 
-    -- what is left after one
-    one-of : (left : ℕ) (r r1 : List ℕ) → 0 < left → isOk (R .all left r) ≡ true → bare (R .one r) ≡ ok tt r1 → (isOk (R .all (left - 1) r1) ≡ true) × ((bare (R .all left r) ≡ bare (R .all (left - 1) r1)) × (found f (R .all left r) ≡ found g (R .one r) ++ found f' (R .all (left - 1) r1)))
-    one-of left r r1 h o e =
+    -- the first, and what is left
+    one-of : (left : ℕ) (r r1 : List ℕ) → isOk (R .all left r) ≡ true → 0 < left → bare (R .one r) ≡ ok tt r1 → found f (R .all left r) ≡ found g (R .one r) ++ found f' (R .all (left - 1) r1)
+    one-of left r r1 o h e =
         let i = inverse (R .one r) r1 e in
-        rw (more-of left r h, i .1) (tail (i .0) (R .all (left - 1) r1) (rw (more-of left r h, i .1) at o))
+        rw (more-of R left r h, i .1) (tail (i .0) (R .all (left - 1) r1) (rest-of R left r r1 o h e .0))
 
     pub turn : {ws : List ℕ} {at n : ℕ} {old : List ℕ} {whole : Got (Unit {0})} {fs : List Finding} {p m : ℕ} {log new : List ℕ} {left : ℕ} {r : Walked} → 0 < left → Going R ws at n old whole fs p m log left f → Walks ws p m log new (bare (R .one (drop p ws))) (found g (R .one (drop p ws))) r → Going R ws at n old whole fs (r .at) (r .count) new (left - 1) f'
     turn {ws} {at} {n} {old} {whole} {fs} {p} {m} {log} {new} {left} {r} h b w =
-        let o = one-of left (drop p ws) (drop (r .at) ws) h (b .fine) (w .rest) in
+        let o = rest-of R left (drop p ws) (drop (r .at) ws) (b .fine) h (w .rest) in
         record {
           gone = b .gone ++ found g (R .one (drop p ws));
           far = and-then (b .far) (told w refl refl);
           fine = o .0;
-          shape = b .shape ∙ o .1 .0;
-          splits = b .splits ∙ ap (λ (l : List Finding). b .gone ++ l) (o .1 .1) ∙ sym (append-assoc (b .gone) (found g (R .one (drop p ws))) (found f' (R .all (left - 1) (drop (r .at) ws))));
+          shape = b .shape ∙ o .1;
+          splits = b .splits ∙ ap (λ (l : List Finding). b .gone ++ l) (one-of left (drop p ws) (drop (r .at) ws) (b .fine) h (w .rest)) ∙ sym (append-assoc (b .gone) (found g (R .one (drop p ws))) (found f' (R .all (left - 1) (drop (r .at) ws))));
         }
 
   pub first-fine : {ws : List ℕ} {at n : ℕ} {old : List ℕ} {whole : Got (Unit {0})} {fs : List Finding} {p m : ℕ} {log : List ℕ} {left : ℕ} {f : B → List Finding} → 0 < left → Going R ws at n old whole fs p m log left f → isOk (R .one (drop p ws)) ≡ true
-  first-fine {ws} {at} {n} {old} {whole} {fs} {p} {m} {log} {left} {f} h b = ok-left (R .one (drop p ws)) _ (rw (more-of left (drop p ws) h) at (b .fine))
+  first-fine {ws} {at} {n} {old} {whole} {fs} {p} {m} {log} {left} {f} h b = first-of R left (drop p ws) (b .fine) h
 
   pub finish : {ws : List ℕ} {at n : ℕ} {old : List ℕ} {whole : Got (Unit {0})} {fs : List Finding} {p m : ℕ} {log : List ℕ} {left : ℕ} (f : B → List Finding) → f (R .none) ≡ [] → left ≤ 0 → Going R ws at n old whole fs p m log left f → Walks ws at n old log whole fs (record { at = p; count = m })
   finish {ws} {at} {n} {old} {whole} {fs} {p} {m} {log} {left} f z h b =
-      let e : left ≡ 0 = omega arith in
-      let l : R .all left (drop p ws) ≡ ok (R .none) (drop p ws) = ap (λ (k : ℕ). R .all k (drop p ws)) e ∙ R .stop (drop p ws) in
+      let l = none-of R left (drop p ws) h in
       told (b .far) (b .shape ∙ ap bare l) (b .splits ∙ ap (λ (x : Got B). b .gone ++ found f x) l ∙ ap (λ (x : List Finding). b .gone ++ x) z ∙ append-nil (b .gone))
-
--- the four rows
-pub kids-step : (P : Reader) (k : ℕ) (ws : List ℕ) → times (suc k) P noMore ws ≡ bind (P ws) (λ e r. bind (times k P noMore r) (λ es r2. ok (more e es) r2))
-unfolding times
-kids-step P k ws = refl
-
-pub kids-stop : (P : Reader) (ws : List ℕ) → times 0 P noMore ws ≡ ok done ws
-unfolding times
-kids-stop P ws = refl
-
-abbrev pub kidsOfRow : Reader → Repeats Expr Exprs
-kidsOfRow P = record { all = λ k r. times k P noMore r; one = P; join = more; none = done; step = kids-step P; stop = kids-stop P }
-
-pub marks-stop : (kind : ℕ) (P : Reader) (ws : List ℕ) → marks kind 0 P ws ≡ ok done ws
-unfolding marks
-marks-stop kind P ws = refl
-
-abbrev pub marksOfRow : ℕ → Reader → Repeats Exprs Exprs
-marksOfRow kind P = record { all = λ k r. marks kind k P r; one = markFull kind P; join = joinE; none = done; step = marks-step kind P; stop = marks-stop kind P }
-
-pub elems-step : (w : Tables) (P : Reader) (k : ℕ) (ws : List ℕ) → elems (suc k) w P noSteps ws ≡ bind (elemOne w P ws) (λ x r. bind (elems k w P noSteps r) (λ s r2. ok (elemThen x s) r2))
-unfolding elems
-elems-step w P k ws = refl
-
-pub elems-stop : (w : Tables) (P : Reader) (ws : List ℕ) → elems 0 w P noSteps ws ≡ ok end ws
-unfolding elems
-elems-stop w P ws = refl
-
-abbrev pub elemsOfRow : Tables → Reader → Repeats (Elem × Exprs) Steps
-elemsOfRow w P = record { all = λ k r. elems k w P noSteps r; one = elemOne w P; join = elemThen; none = end; step = elems-step w P; stop = elems-stop w P }
-
-pub parts-stop : (w : Tables) (P : Reader) (ws : List ℕ) → parts 0 w P ws ≡ ok end ws
-unfolding parts
-parts-stop w P ws = refl
-
-abbrev pub partsOfRow : Tables → Reader → Repeats Steps Steps
-partsOfRow w P = record { all = λ k r. parts k w P r; one = partFull w P; join = joinS; none = end; step = parts-step w P; stop = parts-stop w P }

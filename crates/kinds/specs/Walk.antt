@@ -8,17 +8,16 @@ use lib.Dec.{eqb}
 use lib.ListN.{length, getD, drop}
 use lib.Seq.{sets}
 use Rattle.scope.specs.Flat.{entriesOf}
-use Rattle.heads.specs.Got.{Got, ok, no, bind, bare, pick}
-use Rattle.heads.specs.Head.{Tables, allowed, readPart, markLow, markHigh, markKids}
-use Rattle.heads.specs.Got.{wordIn, any, flag}
+use Rattle.heads.specs.Got.{Got, ok, no, bind, bare, isOk, pick, any, flag}
+use Rattle.heads.specs.Head.{Tables}
 use Rattle.heads.specs.Answer.{tables}
 use Rattle.heads.specs.declared.Elem.{Elem}
 use Rattle.heads.specs.declared.Form.{Form}
 use Rattle.heads.specs.declared.Form.the-variants.{Leaf, Var, Unresolved, Prop, Two, Slice, Many, BinOp, UnaryOp, Case, IsNull, PatternPredicate, ListComprehension, PatternComprehension, ListPredicate, MapProjection}
 use Rattle.heads.specs.declared.Maybe.{Maybe}
 use Rattle.heads.specs.declared.Maybe.the-variants as maybe
-use Rattle.expr.specs.Tree.{Expr, Exprs, done, mark, Steps, part}
-use Rattle.expr.specs.Read.{Reader, noMore, noSteps, times, elems, maybePattern, readExpr}
+use Rattle.expr.specs.Tree.{Expr, Exprs, done, Steps}
+use Rattle.expr.specs.Read.{Reader, noMore, times, maybePattern, readExpr}
 use Rattle.clauses.specs.Tree.{Projection, projection, exprs}
 use Rattle.clauses.specs.Read.{clauseExpr}
 use Rattle.tables.specs.Row.{pathKind, valueKind, Row}
@@ -134,11 +133,7 @@ ownFor c maybe.Nothing o t = atType c t
 abbrev pub ownOf : World → Form → Setting → List Finding
 ownOf w f c = ownFor c (varOf f) (rowFor w (varOf f)) (shownOf f)
 
--- a reading that is no refusal, and the findings of what was read
-abbrev pub isOk : {A : Type 0} → Got A → Bool
-isOk (ok a r) = true
-isOk (no c) = false
-
+-- the findings of what was read
 abbrev pub found : {A : Type 0} → (A → List Finding) → Got A → List Finding
 found f (ok a r) = f a
 found f (no c) = []
@@ -149,14 +144,6 @@ tablesAt ws e = tables ws (e .names) (e .rows) 0
 
 abbrev pub readerAt : List ℕ → Env → ℕ → Reader
 readerAt ws e room = readExpr (tablesAt ws e) room
-
--- a mark with its expressions, and a part with its elements
-unfoldable pub markFull : ℕ → Reader → List ℕ → Got Exprs
-markFull kind P ws = bind (wordIn (markLow kind) (markHigh kind) ws) (λ w r. bind (times (markKids kind w) P noMore r) (λ es r2. ok (mark w es) r2))
-
-unfoldable pub partFull : Tables → Reader → List ℕ → Got Steps
-partFull w P ws =
-    bind (readPart ws) (λ h r. pick (allowed w (h .path)) (bind (elems (h .count) w P noSteps r) (λ s r2. ok (part (h .path) s) r2)) (no 7))
 
 -- the findings of an expression, of a row and of an element
 abbrev pub ofE : World → Setting → Expr → List Finding

@@ -26,11 +26,11 @@ ghost use lib.Seq.{sets};
 ghost use Rattle.words.specs.Words.{words};
 ghost use Rattle.heads.specs.Got.{many, counted};
 ghost use Rattle.clauses.specs.Read.{readProjection, readWith, countedExprs, countedMarks, readCall, readBody, readClause};
-ghost use Rattle.expr.specs.Read.{noMore, noSteps, times, marks, elemOne, elems, parts, maybePattern};
+ghost use Rattle.expr.specs.Read.{noMore, noSteps, times, markFull, marks, elemOne, elems, partFull, parts, maybePattern};
 ghost use Rattle.resolve.specs.Log.{e5010, finding};
 ghost use Rattle.resolve.specs.Table.{tableAt, wellRows, BoundAt, boundFits};
 ghost use Rattle.kinds.specs.Kinds.{passes, general, arithmetic, property, boolean, listed, leafTypes, isArithmetic, isId, settings, atType, plain, kindsS, kindsC, kinds, rowFor};
-ghost use Rattle.kinds.specs.Walk.{settingOf, pairOf, findingWords, Pushed, worldAt, atBound, misplacedBound, varOf, shownOf, ownOf, tablesAt, readerAt, markFull, partFull, ofE, ofEs, ofElem, matchSteps, unwindExpr, filterExprs, ofProjection, ofProjections, Ready, Checked};
+ghost use Rattle.kinds.specs.Walk.{settingOf, pairOf, findingWords, Pushed, worldAt, atBound, misplacedBound, varOf, shownOf, ownOf, tablesAt, readerAt, ofE, ofEs, ofElem, matchSteps, unwindExpr, filterExprs, ofProjection, ofProjections, Ready, Checked};
 
 // Where an expression stands; Listed, with the code and the first detail of its finding, wants a list.
 pub enum Setting {

@@ -2,9 +2,9 @@
 use borrow.Author.Needs.{needs}
 use lib.ListN.{drop}
 use Rattle.words.specs.Words.{words}
+use Rattle.expr.proofs.Accepted.{not-ok}
 use Rattle.clauses.specs.Read.{readBody}
 use Rattle.kinds.specs.Walk.{worldAt, tablesAt}
-use Rattle.kinds.proofs.Walks.{not-ok}
 use Rattle.kinds.proofs.Alike.{alike-ready, alike-done}
 use Rattle.kinds.proofs.Clauses.{match-body, where-body, with-body, return-body, unwind-body, create-body, merge-body, set-body, remove-body, delete-body, call-body, body-none}
 use Rattle.kinds.proofs.check_body.Statement.{statement}

@@ -5,13 +5,14 @@ use mathlib.Core.List.{List, []}
 use lib.ListN.{drop}
 use Rattle.words.specs.Words.{words}
 use Rattle.heads.specs.Got.{bare, counted}
+use Rattle.expr.proofs.Accepted.{refused, two-first, two-second, two-bare}
 use Rattle.clauses.specs.Tree.{call}
 use Rattle.clauses.specs.Read.{readYield, countedExprs}
 use Rattle.resolve.specs.Log.{Finding}
 use Rattle.kinds.specs.Kinds.{general, kindsC}
 use Rattle.kinds.specs.Walk.{worldAt, tablesAt, found, ofEs}
 use Rattle.kinds.proofs.Walks.{and-then, told, kept, stands}
-use Rattle.kinds.proofs.Alike.{two-first, two-second, two-done, ready-as, refused}
+use Rattle.kinds.proofs.Alike.{two-found, ready-as}
 use Rattle.kinds.proofs.Clauses.{call-is, call-apart, nothing}
 use mathlib.Core.List.{_++_}
 use Rattle.kinds.proofs.check_call.Statement.{statement}
@@ -46,5 +47,6 @@ check-call-spec =
     let r = drop (a .at) (words (a .s .now)) in
     let i = call-is (tablesAt (words (a .s .now)) (a .e)) r in
     let x = rw (c .before .q .given .1) at (c .before .before .before .counted-yields .ensures) in
-    let z = two-done (countedExprs (tablesAt (words (a .s .now)) (a .e)) r) (counted (readYield (tablesAt (words (a .s .now)) (a .e)))) (call 0 0) (rw i at (s .pre .fine)) _ (v .rest) (ofEs w general general) (λ ys. []) (kindsC w) (call-apart w) _ (x .same) in
-    told (and-then v (stands _ _ _ _ (x .from) (x .within))) (ap bare i ∙ z .0) (ap (found (kindsC w)) i ∙ z .1 ∙ ap (λ (l : List Finding). found (ofEs w general general) (countedExprs (tablesAt (words (a .s .now)) (a .e)) r) ++ l) (nothing (counted (readYield (tablesAt (words (a .s .now)) (a .e))) (drop (c .before .before .before .before .before .before .check-counted .result .at) (words (a .s .now))))))))
+    let y = two-bare (countedExprs (tablesAt (words (a .s .now)) (a .e)) r) (counted (readYield (tablesAt (words (a .s .now)) (a .e)))) (call 0 0) (rw i at (s .pre .fine)) _ (v .rest) _ (x .same) in
+    let z = two-found (countedExprs (tablesAt (words (a .s .now)) (a .e)) r) (counted (readYield (tablesAt (words (a .s .now)) (a .e)))) (call 0 0) _ (v .rest) (ofEs w general general) (λ ys. []) (kindsC w) (call-apart w) _ (x .same) in
+    told (and-then v (stands _ _ _ _ (x .from) (x .within))) (ap bare i ∙ y) (ap (found (kindsC w)) i ∙ z ∙ ap (λ (l : List Finding). found (ofEs w general general) (countedExprs (tablesAt (words (a .s .now)) (a .e)) r) ++ l) (nothing (counted (readYield (tablesAt (words (a .s .now)) (a .e))) (drop (c .before .before .before .before .before .before .check-counted .result .at) (words (a .s .now))))))))

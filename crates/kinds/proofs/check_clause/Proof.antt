@@ -9,7 +9,7 @@ use Rattle.words.proofs.Words.{length-words}
 use Rattle.heads.proofs.Chain.{fact}
 use Rattle.kinds.specs.Kinds.{kindsC}
 use Rattle.kinds.specs.Walk.{worldAt, tablesAt}
-use Rattle.kinds.proofs.Alike.{begin-room, begin-ready, begin-done, alike-ready, alike-done}
+use Rattle.kinds.proofs.Alike.{begin-ready, begin-done, alike-ready, alike-done}
 use Rattle.kinds.proofs.Clauses.{clause-begins, start-begins, end-begins, body-same}
 use Rattle.kinds.proofs.check_clause.Statement.{statement}
 use Rattle.kinds.proofs.check_clause.Tie as tie

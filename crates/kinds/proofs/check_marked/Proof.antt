@@ -5,10 +5,11 @@ use Prim.Native.Nat.{_+_, _<_}
 use lib.ListN.{length}
 use Rattle.words.specs.Words.{words}
 use Rattle.words.proofs.Words.{length-words}
+use Rattle.expr.proofs.Accepted.{begin-room}
 use Rattle.kinds.specs.Kinds.{general}
 use Rattle.kinds.specs.Walk.{worldAt, tablesAt, ofEs}
 use Rattle.kinds.proofs.Clauses.{marked-begins}
-use Rattle.kinds.proofs.Alike.{begin-room, begin-ready, begin-done}
+use Rattle.kinds.proofs.Alike.{begin-ready, begin-done}
 use Rattle.kinds.proofs.check_marked.Statement.{statement}
 use Rattle.kinds.proofs.check_marked.Tie as tie
 
@@ -20,7 +21,7 @@ check-marked-spec =
     (λ c.  -- add-check-marks
     let s = c .before .before .before in
     let a = s .args in
-    let h : a .at < length (words (a .s .now)) = begin-room (marked-begins (tablesAt (words (a .s .now)) (a .e)) (a .kind)) (s .pre) in
+    let h : a .at < length (words (a .s .now)) = begin-room (marked-begins (tablesAt (words (a .s .now)) (a .e)) (a .kind)) _ _ (s .pre .fine) in
     omega (arith, length-words (a .s .now)))
     (λ c κs.  -- check-marks-requires
     let k = c .before in

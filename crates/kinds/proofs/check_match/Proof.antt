@@ -5,11 +5,12 @@ use Prim.Native.Nat.{_+_, _<_}
 use lib.ListN.{length, getD, drop}
 use Rattle.words.specs.Words.{words}
 use Rattle.words.proofs.Words.{length-words}
+use Rattle.expr.proofs.Accepted.{begin-room}
 use mathlib.Core.Path.{refl}
 use Rattle.kinds.specs.Kinds.{kindsS}
 use Rattle.kinds.specs.Walk.{worldAt, tablesAt}
 use Rattle.kinds.proofs.Clauses.{match-begins}
-use Rattle.kinds.proofs.Alike.{begin-room, begin-ready, begin-done}
+use Rattle.kinds.proofs.Alike.{begin-ready, begin-done}
 use Rattle.kinds.proofs.check_match.Statement.{statement}
 use Rattle.kinds.proofs.check_match.Tie as tie
 
@@ -20,7 +21,7 @@ check-match-spec =
     (λ c.  -- add-check-pattern
     let s = c .before .before in
     let a = s .args in
-    let h : a .at < length (words (a .s .now)) = begin-room (match-begins (tablesAt (words (a .s .now)) (a .e))) (s .pre) in
+    let h : a .at < length (words (a .s .now)) = begin-room (match-begins (tablesAt (words (a .s .now)) (a .e))) _ _ (s .pre .fine) in
     omega (arith, length-words (a .s .now)))
     (λ c κs.  -- check-pattern-requires
     let s = c .before .before .before in

@@ -5,13 +5,14 @@ use Prim.Native.Nat.{_+_, _<_}
 use lib.ListN.{length, getD, drop}
 use Rattle.words.specs.Words.{words}
 use Rattle.words.proofs.Words.{length-words}
+use Rattle.expr.proofs.Accepted.{begin-room}
 use mathlib.Core.Path.{refl}
 use Rattle.kinds.specs.Kinds.{general}
 use Rattle.clauses.specs.Tree.{projection}
 use Rattle.clauses.specs.Read.{aliasOf, clauseExpr}
 use Rattle.kinds.specs.Walk.{worldAt, tablesAt, ofE, ofProjection}
 use Rattle.kinds.proofs.Clauses.{projection-begins}
-use Rattle.kinds.proofs.Alike.{begin-room, begin-ready, begin-done, alike-map, alike-ready, alike-done}
+use Rattle.kinds.proofs.Alike.{begin-ready, begin-done, alike-map, alike-ready, alike-done}
 use Rattle.kinds.proofs.check_projection.Statement.{statement}
 use Rattle.kinds.proofs.check_projection.Tie as tie
 
@@ -22,7 +23,7 @@ check-projection-spec =
     (λ c.  -- add-check-expr
     let s = c .before .before in
     let a = s .args in
-    let h : a .at < length (words (a .s .now)) = begin-room (projection-begins (tablesAt (words (a .s .now)) (a .e))) (s .pre) in
+    let h : a .at < length (words (a .s .now)) = begin-room (projection-begins (tablesAt (words (a .s .now)) (a .e))) _ _ (s .pre .fine) in
     omega (arith, length-words (a .s .now)))
     (λ c κs.  -- check-expr-requires
     let s = c .before .before .before in

@@ -3,8 +3,8 @@ use native.Mathlib.Omega.{arith}
 use lib.ListN.{drop}
 use Rattle.words.specs.Words.{words}
 use Rattle.heads.specs.Got.{bare, many}
+use Rattle.expr.proofs.Repeats.{manyOfRow}
 use Rattle.kinds.proofs.Walks.{Going, begin, turn, first-fine, finish, kept, ready-on}
-use Rattle.kinds.proofs.Alike.{manyOfRow}
 use Rattle.clauses.specs.Read.{readProjection}
 use Rattle.kinds.specs.Walk.{worldAt, tablesAt, found, ofProjection, ofProjections}
 use Rattle.kinds.proofs.Clauses.{projections-apart, projections-end}

@@ -5,9 +5,10 @@ use Prim.Native.Nat.{_+_, _<_}
 use lib.ListN.{length}
 use Rattle.words.specs.Words.{words}
 use Rattle.words.proofs.Words.{length-words}
+use Rattle.expr.proofs.Accepted.{begin-room}
 use Rattle.kinds.specs.Walk.{worldAt, tablesAt, ofProjections}
 use Rattle.kinds.proofs.Clauses.{return-begins}
-use Rattle.kinds.proofs.Alike.{begin-room, begin-ready, begin-done}
+use Rattle.kinds.proofs.Alike.{begin-ready, begin-done}
 use Rattle.kinds.proofs.check_return.Statement.{statement}
 use Rattle.kinds.proofs.check_return.Tie as tie
 
@@ -19,7 +20,7 @@ check-return-spec =
     (λ c.  -- add-check-projections
     let s = c .before .before .before in
     let a = s .args in
-    let h : a .at < length (words (a .s .now)) = begin-room (return-begins (tablesAt (words (a .s .now)) (a .e))) (s .pre) in
+    let h : a .at < length (words (a .s .now)) = begin-room (return-begins (tablesAt (words (a .s .now)) (a .e))) _ _ (s .pre .fine) in
     omega (arith, length-words (a .s .now)))
     (λ c κs.  -- check-projections-requires
     let k = c .before in

@@ -5,11 +5,12 @@ use Prim.Native.Nat.{_+_, _<_}
 use lib.ListN.{length, getD, drop}
 use Rattle.words.specs.Words.{words}
 use Rattle.words.proofs.Words.{length-words}
+use Rattle.expr.proofs.Accepted.{begin-room}
 use mathlib.Core.Path.{refl}
 use Rattle.kinds.specs.Kinds.{general}
 use Rattle.kinds.specs.Walk.{worldAt, ofE}
 use Rattle.kinds.proofs.Clauses.{unwind-begins}
-use Rattle.kinds.proofs.Alike.{begin-room, begin-ready, begin-done}
+use Rattle.kinds.proofs.Alike.{begin-ready, begin-done}
 use Rattle.kinds.proofs.check_unwind.Statement.{statement}
 use Rattle.kinds.proofs.check_unwind.Tie as tie
 
@@ -20,7 +21,7 @@ check-unwind-spec =
     (λ c.  -- add-check-expr
     let s = c .before .before in
     let a = s .args in
-    let h : a .at < length (words (a .s .now)) = begin-room (unwind-begins (words (a .s .now)) (a .e)) (s .pre) in
+    let h : a .at < length (words (a .s .now)) = begin-room (unwind-begins (words (a .s .now)) (a .e)) _ _ (s .pre .fine) in
     omega (arith, length-words (a .s .now)))
     (λ c κs.  -- check-expr-requires
     let s = c .before .before .before in

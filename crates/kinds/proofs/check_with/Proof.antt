@@ -5,12 +5,13 @@ use mathlib.Core.List.{List, []}
 use lib.ListN.{drop}
 use Rattle.words.specs.Words.{words}
 use Rattle.heads.specs.Got.{bare, counted}
+use Rattle.expr.proofs.Accepted.{two-first, two-second, two-bare}
 use Rattle.clauses.specs.Tree.{with'}
 use Rattle.clauses.specs.Read.{readProjection}
 use Rattle.kinds.specs.Kinds.{general, kindsC}
 use Rattle.kinds.specs.Walk.{worldAt, tablesAt, filterExprs, found, ofEs, ofProjections}
 use Rattle.kinds.proofs.Walks.{and-then, told, kept, ready-on}
-use Rattle.kinds.proofs.Alike.{two-first, two-second, two-done, ready-as}
+use Rattle.kinds.proofs.Alike.{two-found, ready-as}
 use Rattle.kinds.proofs.Clauses.{with-is, with-apart}
 use Rattle.kinds.proofs.check_with.Statement.{statement}
 use Rattle.kinds.proofs.check_with.Tie as tie
@@ -39,5 +40,7 @@ check-with-spec =
     let w = (worldAt (words (a .s .now)) (a .e)) in
     let r = drop (a .at) (words (a .s .now)) in
     let i = with-is (tablesAt (words (a .s .now)) (a .e)) r in
-    let x = two-done (counted (readProjection (tablesAt (words (a .s .now)) (a .e))) r) (filterExprs (tablesAt (words (a .s .now)) (a .e))) (with' 0 0) (rw i at (s .pre .fine)) _ (v .rest) (ofProjections w) (ofEs w general general) (kindsC w) (with-apart w) _ (u .rest) in
-    told (and-then v u) (ap bare i ∙ x .0) (ap (found (kindsC w)) i ∙ x .1)))
+    let g = counted (readProjection (tablesAt (words (a .s .now)) (a .e))) r in
+    let x = two-bare g (filterExprs (tablesAt (words (a .s .now)) (a .e))) (with' 0 0) (rw i at (s .pre .fine)) _ (v .rest) _ (u .rest) in
+    let y = two-found g (filterExprs (tablesAt (words (a .s .now)) (a .e))) (with' 0 0) _ (v .rest) (ofProjections w) (ofEs w general general) (kindsC w) (with-apart w) _ (u .rest) in
+    told (and-then v u) (ap bare i ∙ x) (ap (found (kindsC w)) i ∙ y)))

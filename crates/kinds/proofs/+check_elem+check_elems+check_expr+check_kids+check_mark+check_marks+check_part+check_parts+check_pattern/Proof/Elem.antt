@@ -11,11 +11,12 @@ use Rattle.heads.specs.Head.{readElem}
 use Rattle.heads.specs.Answer.{Ans}
 use Rattle.heads.proofs.Chain.{fact}
 use Rattle.heads.specs.declared.Elem.{Elem}
+use Rattle.expr.proofs.Accepted.{elem-longer, property-fine, elem-bare, elem-none, elem-kind}
 use Rattle.resolve.specs.Resolve.{World}
 use Rattle.kinds.specs.Kinds.{misplaced, rowFor}
 use Rattle.kinds.specs.Walk.{worldAt, tablesAt, readerAt, Walks}
 use Rattle.kinds.proofs.Walks.{and-then, told, kept, ready-on}
-use Rattle.kinds.proofs.Steps.{placed, elem-longer, property-fine, elem-parts, elem-none, elem-kind}
+use Rattle.kinds.proofs.Steps.{placed, elem-found}
 use Rattle.heads.proofs.read_elem_head.Reads as read-elem-head
 use Rattle.kinds.proofs.row_for.Reads as row-for
 use Rattle.kinds.proofs.misplaced.Reads as misplaced
@@ -93,5 +94,4 @@ holds t =
     let h = head-of t k in
     let s = start t h in
     let v = c .before .before .check-kids .ensures in
-    let x = elem-parts _ _ _ (the t h) _ (read t h .same) (s .pre .1 .fine) (world t s) in
-    told (and-then (checked k) v) (x .0 ∙ v .rest) (x .1))
+    told (and-then (checked k) v) (elem-bare _ _ _ (the t h) _ (read t h .same) (s .pre .1 .fine) ∙ v .rest) (elem-found _ _ _ (the t h) _ (read t h .same) (s .pre .1 .fine) (world t s)))

@@ -8,9 +8,10 @@ use lib.ListN.{drop}
 use Rattle.words.specs.Words.{words}
 use Rattle.heads.specs.Got.{bare}
 use Rattle.expr.specs.Read.{noSteps, elems}
+use Rattle.expr.proofs.Repeats.{elemsOfRow}
 use Rattle.kinds.specs.Kinds.{kindsE, kindsS}
 use Rattle.kinds.specs.Walk.{worldAt, tablesAt, readerAt, found, ofElem}
-use Rattle.kinds.proofs.Walks.{Going, begin, turn, first-fine, finish, kept, ready-on, elemsOfRow}
+use Rattle.kinds.proofs.Walks.{Going, begin, turn, first-fine, finish, kept, ready-on}
 use Rattle.kinds.proofs.Split.{elem-then}
 use Rattle.kinds.proofs.check_elem.Reads as check-elem
 use Rattle.kinds.proofs.check_elems.Reads as check-elems

@@ -8,7 +8,7 @@ use mathlib.Core.Bool.{true}
 use mathlib.Core.List.{List}
 use lib.ListN.{length, drop}
 use Rattle.words.specs.Words.{words}
-use Rattle.heads.specs.Got.{Got, ok, bare}
+use Rattle.heads.specs.Got.{Got, ok, bare, isOk}
 use Rattle.heads.specs.Form.{readForm}
 use Rattle.heads.specs.Head.{Tables}
 use Rattle.heads.specs.Answer.{Ans}
@@ -16,10 +16,11 @@ use Rattle.heads.specs.declared.Form.{Form}
 use Rattle.heads.proofs.Chain.{fact}
 use Rattle.expr.specs.Tree.{Expr}
 use Rattle.expr.specs.Read.{Reader, afterForm}
+use Rattle.expr.proofs.Accepted.{room-left, expr-is, expr-none, pattern-fine, kids-fine, marks-fine, after-bare}
 use Rattle.resolve.specs.Resolve.{World}
-use Rattle.kinds.specs.Walk.{settingOf, pairOf, worldAt, tablesAt, readerAt, isOk, found, ofE}
+use Rattle.kinds.specs.Walk.{settingOf, pairOf, worldAt, tablesAt, readerAt, found, ofE}
 use Rattle.kinds.proofs.Walks.{and-then, told, headed, kept, ready-on}
-use Rattle.kinds.proofs.Found.{own-few, settings-at, room-left, expr-is, expr-none, pattern-fine, kids-fine, marks-fine, after-bare, after-found}
+use Rattle.kinds.proofs.Found.{own-few, settings-at, after-found}
 use Rattle.heads.proofs.read_form.Reads as read-form
 use Rattle.kinds.proofs.check_head.Reads as check-head
 use Rattle.heads.proofs.has_pattern.Reads as has-pattern
@@ -163,4 +164,4 @@ holds t =
     told
     (and-then (checked d) (and-then (patterned k) (and-then (kidded l) m)))
     (ap bare (whole t h) ∙ after-bare (by t s) (inner t s) (form t h) (rest t h) (fine t h) _ (patterned k .rest) _ (kidded l .rest) _ (m .rest))
-    (ap (found (ofE w (settingOf (s .args .setting)))) (whole t h) ∙ after-found (by t s) (inner t s) (form t h) (rest t h) (fine t h) _ (patterned k .rest) _ (kidded l .rest) _ (m .rest) w (settingOf (s .args .setting)) (pairOf (l .before .before .before .before .before .settings-of .result)) q))
+    (ap (found (ofE w (settingOf (s .args .setting)))) (whole t h) ∙ after-found (by t s) (inner t s) (form t h) (rest t h) _ (patterned k .rest) _ (kidded l .rest) _ (m .rest) w (settingOf (s .args .setting)) (pairOf (l .before .before .before .before .before .settings-of .result)) q))

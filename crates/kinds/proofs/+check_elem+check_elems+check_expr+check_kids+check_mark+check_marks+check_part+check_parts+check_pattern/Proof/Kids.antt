@@ -8,9 +8,10 @@ use lib.ListN.{drop}
 use Rattle.words.specs.Words.{words}
 use Rattle.heads.specs.Got.{bare}
 use Rattle.expr.specs.Read.{noMore, times}
+use Rattle.expr.proofs.Repeats.{kidsOfRow}
 use Rattle.kinds.specs.Kinds.{kindsE}
 use Rattle.kinds.specs.Walk.{settingOf, worldAt, readerAt, found, ofE, ofEs}
-use Rattle.kinds.proofs.Walks.{Going, begin, turn, first-fine, finish, kept, ready-on, kidsOfRow}
+use Rattle.kinds.proofs.Walks.{Going, begin, turn, first-fine, finish, kept, ready-on}
 use Rattle.kinds.proofs.check_expr.Reads as check-expr
 use Rattle.kinds.proofs.check_kids.Reads as check-kids
 use Rattle.kinds.proofs.+check_elem+check_elems+check_expr+check_kids+check_mark+check_marks+check_part+check_parts+check_pattern.Lts-check_kids.{Claims, Closed, ps, spec, InvT-loop, MeasureT-loop}

@@ -7,9 +7,10 @@ use borrow.Fn.Kinds.{In}
 use lib.ListN.{length}
 use Rattle.words.specs.Words.{words}
 use Rattle.words.proofs.Words.{length-words}
+use Rattle.expr.proofs.Accepted.{mark-room, mark-fine, mark-bare}
 use Rattle.kinds.specs.Walk.{worldAt, readerAt}
 use Rattle.kinds.proofs.Walks.{stands, and-then, told, kept, ready-on}
-use Rattle.kinds.proofs.Steps.{mark-room, mark-fine, mark-parts}
+use Rattle.kinds.proofs.Steps.{mark-found}
 use Rattle.words.proofs.word.Reads as word
 use Rattle.heads.proofs.mark_kids.Reads as mark-kids
 use Rattle.kinds.proofs.check_kids.Reads as check-kids
@@ -47,6 +48,7 @@ holds t =
     let a = s .args in
     let o = s .pre .1 in
     let h : a .at < length (words (a .s .now)) = mark-room (a .kind) (readerAt (words (a .s .now)) (a .e) (a .room)) (words (a .s .now)) (a .at) (o .fine) in
-    let x = mark-parts (a .kind) (readerAt (words (a .s .now)) (a .e) (a .room)) (words (a .s .now)) (a .at) (o .fine) _ _ (k .before .word .ensures) (k .mark-kids .ensures) (worldAt (words (a .s .now)) (a .e)) in
+    let x = mark-bare (a .kind) (readerAt (words (a .s .now)) (a .e) (a .room)) (words (a .s .now)) (a .at) (o .fine) _ _ (k .before .word .ensures) (k .mark-kids .ensures) in
+    let y = mark-found (a .kind) (readerAt (words (a .s .now)) (a .e) (a .room)) (words (a .s .now)) (a .at) (o .fine) _ _ (k .before .word .ensures) (k .mark-kids .ensures) (worldAt (words (a .s .now)) (a .e)) in
     let v = c .before .before .check-kids .ensures in
-    told (and-then (stands (a .at) (a .at + 1) (a .count) (a .out .now) (omega arith) (omega arith)) v) (x .0 ∙ v .rest) (x .1))
+    told (and-then (stands (a .at) (a .at + 1) (a .count) (a .out .now) (omega arith) (omega arith)) v) (x ∙ v .rest) y)

@@ -8,9 +8,10 @@ use lib.ListN.{drop}
 use Rattle.words.specs.Words.{words}
 use Rattle.heads.specs.Got.{bare}
 use Rattle.expr.specs.Read.{marks}
+use Rattle.expr.proofs.Repeats.{marksOfRow}
 use Rattle.kinds.specs.Kinds.{general, kindsE}
 use Rattle.kinds.specs.Walk.{worldAt, readerAt, found, ofEs}
-use Rattle.kinds.proofs.Walks.{Going, begin, turn, first-fine, finish, kept, ready-on, marksOfRow}
+use Rattle.kinds.proofs.Walks.{Going, begin, turn, first-fine, finish, kept, ready-on}
 use Rattle.kinds.proofs.Split.{plain-join}
 use Rattle.kinds.proofs.check_mark.Reads as check-mark
 use Rattle.kinds.proofs.check_marks.Reads as check-marks

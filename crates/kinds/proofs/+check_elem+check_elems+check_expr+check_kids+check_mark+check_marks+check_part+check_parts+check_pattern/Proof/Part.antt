@@ -11,11 +11,12 @@ use Rattle.heads.specs.Head.{readPart}
 use Rattle.heads.specs.Answer.{Ans}
 use Rattle.heads.proofs.Chain.{fact}
 use Rattle.heads.specs.declared.Part.{Part}
+use Rattle.expr.proofs.Accepted.{part-longer, elems-fine, part-bare, part-none}
 use Rattle.resolve.specs.Resolve.{World}
 use Rattle.kinds.specs.Kinds.{misplaced, rowFor}
 use Rattle.kinds.specs.Walk.{worldAt, tablesAt, readerAt, Walks}
 use Rattle.kinds.proofs.Walks.{and-then, told, kept, ready-on}
-use Rattle.kinds.proofs.Steps.{placed, part-longer, elems-fine, part-parts, part-none}
+use Rattle.kinds.proofs.Steps.{placed, part-found}
 use Rattle.heads.proofs.read_part_head.Reads as read-part-head
 use Rattle.kinds.proofs.row_for.Reads as row-for
 use Rattle.kinds.proofs.misplaced.Reads as misplaced
@@ -90,5 +91,4 @@ holds t =
     let h = head-of t k in
     let s = start t h in
     let v = c .before .before .check-elems .ensures in
-    let x = part-parts _ _ _ (the t h) _ (read t h .same) (s .pre .1 .fine) (world t s) in
-    told (and-then (checked k) v) (x .0 ∙ v .rest) (x .1))
+    told (and-then (checked k) v) (part-bare _ _ _ (the t h) _ (read t h .same) (s .pre .1 .fine) ∙ v .rest) (part-found _ _ _ (the t h) _ (read t h .same) (s .pre .1 .fine) (world t s)))

@@ -8,9 +8,10 @@ use lib.ListN.{drop}
 use Rattle.words.specs.Words.{words}
 use Rattle.heads.specs.Got.{bare}
 use Rattle.expr.specs.Read.{parts}
+use Rattle.expr.proofs.Repeats.{partsOfRow}
 use Rattle.kinds.specs.Kinds.{kindsE, kindsS}
 use Rattle.kinds.specs.Walk.{worldAt, tablesAt, readerAt, found}
-use Rattle.kinds.proofs.Walks.{Going, begin, turn, first-fine, finish, kept, ready-on, partsOfRow}
+use Rattle.kinds.proofs.Walks.{Going, begin, turn, first-fine, finish, kept, ready-on}
 use Rattle.kinds.proofs.Split.{steps-join}
 use Rattle.kinds.proofs.check_part.Reads as check-part
 use Rattle.kinds.proofs.check_parts.Reads as check-parts

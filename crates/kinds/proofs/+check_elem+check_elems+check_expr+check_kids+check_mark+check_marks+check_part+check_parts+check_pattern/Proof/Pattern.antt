@@ -9,10 +9,10 @@ use Rattle.words.specs.Words.{words}
 use Rattle.words.proofs.Words.{length-words}
 use Rattle.heads.specs.Got.{bare}
 use Rattle.expr.specs.Read.{maybePattern}
+use Rattle.expr.proofs.Accepted.{pattern-room, pattern-is}
 use Rattle.kinds.specs.Kinds.{kindsE, kindsS}
 use Rattle.kinds.specs.Walk.{worldAt, tablesAt, readerAt, found}
 use Rattle.kinds.proofs.Walks.{stands, and-then, told, kept, ready-on}
-use Rattle.kinds.proofs.Steps.{pattern-room, pattern-is}
 use Rattle.words.proofs.word.Reads as word
 use Rattle.kinds.proofs.check_parts.Reads as check-parts
 use Rattle.kinds.proofs.check_pattern.Reads as check-pattern
