@@ -1,6 +1,7 @@
 pub mod Tests
 pub mod Store
 pub mod Table
+pub mod Accepted
 pub mod Bounds
 pub mod Split
 pub mod Walks
