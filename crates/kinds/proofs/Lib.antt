@@ -1,5 +1,6 @@
 pub mod Tests
 pub mod Store
+pub mod Accepted
 pub mod Bounds
 pub mod Split
 pub mod Walks

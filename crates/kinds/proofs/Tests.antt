@@ -1,12 +1,14 @@
--- The property `id` by its length and its bytes, and the arithmetic operators by their order.
+-- The property `id` by its length and its bytes, and as a text that is the same; and the arithmetic operators by their order.
 use Prim.Native.Nat.{ℕ, _<_, _≤_}
 use native.Mathlib.Omega.{arith}
-use mathlib.Core.Path.{_≡_, refl}
-use mathlib.Core.Bool.{Bool, true, false, _&&_, _||_, and-false}
+use mathlib.Core.Path.{_≡_, refl, _∙_}
+use mathlib.Core.Bool.{Bool, true, false, _&&_, _||_, and-true, and-false}
 use mathlib.Core.List.{List, [], _∷_}
 use borrow.Author.Tests.{le-leb, lt-leb, eq-eqb, ne-eqb}
 use lib.Dec.{eqb, leb}
 use lib.ListN.{length, getD}
+use Rattle.tables.specs.Distinct.{sameBytes}
+use Rattle.tables.proofs.Fresh.{same-comm}
 use Rattle.kinds.specs.Kinds.{isArithmetic, isId}
 
 pub low : (o : ℕ) → o ≤ 5 → true ≡ isArithmetic o
@@ -41,3 +43,10 @@ id-none [] h = refl
 id-none (b ∷ []) h = refl
 id-none (b ∷ c ∷ []) h = absurd (h refl)
 id-none (b ∷ c ∷ d ∷ s) h = refl
+
+pub id-is : (y : List ℕ) → sameBytes (105 ∷ 100 ∷ []) y ≡ isId y
+unfolding sameBytes isId
+id-is [] = refl
+id-is (b ∷ []) = and-false (eqb 105 b)
+id-is (b ∷ c ∷ []) = same-comm (105 ∷ 100 ∷ []) (b ∷ c ∷ []) ∙ rw (and-true (eqb c 100))
+id-is (b ∷ c ∷ d ∷ s) = rw (and-false (eqb 100 c)) (and-false (eqb 105 b))

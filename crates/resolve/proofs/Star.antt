@@ -1,11 +1,13 @@
--- The name `*` by its length and its byte.
+-- The name `*` by its length and its byte, and as a text that is the same.
 use Prim.Native.Nat.{ℕ}
 use native.Mathlib.Omega.{arith}
-use mathlib.Core.Path.{_≡_, refl}
-use mathlib.Core.Bool.{false}
+use mathlib.Core.Path.{_≡_, refl, _∙_}
+use mathlib.Core.Bool.{false, and-true, and-false}
 use mathlib.Core.List.{List, [], _∷_}
 use lib.Dec.{eqb}
 use lib.ListN.{length, getD}
+use Rattle.tables.specs.Distinct.{sameBytes}
+use Rattle.tables.proofs.Fresh.{same-comm}
 use Rattle.resolve.specs.Resolve.{isStar}
 
 pub star-one : (s : List ℕ) → length s ≡ 1 → eqb (getD s 0 0) 42 ≡ isStar s
@@ -19,3 +21,9 @@ unfolding isStar
 star-none [] h = refl
 star-none (b ∷ []) h = absurd (h refl)
 star-none (b ∷ c ∷ s) h = refl
+
+pub star-is : (y : List ℕ) → sameBytes (42 ∷ []) y ≡ isStar y
+unfolding sameBytes isStar
+star-is [] = refl
+star-is (b ∷ []) = same-comm (42 ∷ []) (b ∷ []) ∙ and-true (eqb b 42)
+star-is (b ∷ c ∷ s) = and-false (eqb 42 b)

@@ -11,8 +11,9 @@ use Rattle.words.proofs.Words.{length-words}
 use Rattle.heads.specs.Got.{Got, ok, no, many}
 use Rattle.heads.specs.Answer.{isIn}
 use Rattle.expr.specs.Binders.{allKnown}
-use Rattle.expr.proofs.Inverse.{never, Gives}
+use Rattle.expr.proofs.Inverse.{never}
 use Rattle.clauses.specs.Tree.{Clause, Arm}
+use Rattle.clauses.specs.Read.{readClause, readArm}
 use Rattle.clauses.specs.Write.{writeClause, writeArm}
 use Rattle.clauses.specs.Binders.{bindersC, bindersA}
 use Rattle.clauses.specs.Well.{Each, WellClause, WellArm}
@@ -47,13 +48,10 @@ tested : {A : Type 0} {x : Sheet A} {Q : A → Type 0} (c : ℕ) (b : Bool) → 
 tested c true h = h refl
 tested c false h = not-held
 
-used-up : {A : Type 0} {g : Got A} {Q : A → List ℕ → Type 0} → Gives g Q → Holds (usedUp g) (λ a. Q a [])
-used-up {A} {g} {Q} h = go g (h .given)
-  where
-    go : (g : Got A) → ((a : A) (r : List ℕ) → g ≡ ok a r → Q a r) → Holds (usedUp g) (λ a. Q a [])
-    go (ok a []) h = holds (h a [] refl)
-    go (ok a (w ∷ ws)) h = not-held
-    go (no c) h = not-held
+used-up : {A : Type 0} (g : Got A) → Holds (usedUp g) (λ a. g ≡ ok a [])
+used-up (ok a []) = holds refl
+used-up (ok a (w ∷ ws)) = not-held
+used-up (no c) = not-held
 
 read-whole : {A : Type 0} (c : ℕ) (g : Got A) → Holds (entire c g) (λ a. g ≡ ok a [])
 read-whole c (ok a []) = holds refl
@@ -75,8 +73,10 @@ pub rows-hold : (names n : ℕ) (ws : List ℕ) → Holds (readRows names n ws) 
 unfolding readRows
 rows-hold names n ws = next (read-whole 4 (many (readRow names) n ws)) (λ rs h. tested 4 (distinct isIn (map rowId rs)) (λ one. holds (h, one)))
 
--- the words of the head's clauses and of the arms stand where the places say, and these are within the tables
+-- the head's clauses and the arms are what their sections give, their words stand there, and these are within the tables
 pub record Sections (ws : List ℕ) (p : Places) (head : List Clause) (arms : List Arm) : Type 0 where
+  pub headRead : many (readClause (anyBinder (p .names))) (p .clauses) (section ws (p .head) (p .tail)) ≡ ok head []
+  pub armsRead : many (readArm (anyBinder (p .names))) (p .arms) (section ws (p .tail) (p .trailer)) ≡ ok arms []
   pub headWords : section ws (p .head) (p .tail) ≡ flatMap writeClause head
   pub armWords : section ws (p .tail) (p .trailer) ≡ flatMap writeArm arms
   pub headWell : Each (WellClause (anyBinder (p .names))) head
@@ -92,9 +92,15 @@ clauses-hold : (ws : List ℕ) (p : Places) (ids : List ℕ) → Holds (readClau
 unfolding readClauses
 clauses-hold ws p ids =
     let w = anyBinder (p .names) in
-    next (used-up (many-gives writeClause (WellClause w) (clause-gives w) (p .clauses) (section ws (p .head) (p .tail))))
-    (λ head h. next (used-up (many-gives writeArm (WellArm w) (arm-gives w) (p .arms) (section ws (p .tail) (p .trailer))))
-    (λ arms g. tested 7 (allKnown (λ v. isIn v ids) (flatMap bindersC head ++ flatMap bindersA arms)) (λ known. holds (record { headWords = h .0 ∙ append-nil _; armWords = g .0 ∙ append-nil _; headWell = h .1; armsWell = g .1; clauses = h .2; armed = g .2 }, known))))
+    let before = section ws (p .head) (p .tail) in
+    let after = section ws (p .tail) (p .trailer) in
+    next (used-up (many (readClause w) (p .clauses) before))
+    (λ head h. next (used-up (many (readArm w) (p .arms) after))
+    (λ arms g. tested 7 (allKnown (λ v. isIn v ids) (flatMap bindersC head ++ flatMap bindersA arms))
+    (λ known.
+    let x = many-gives writeClause (WellClause w) (clause-gives w) (p .clauses) before .given head [] h in
+    let y = many-gives writeArm (WellArm w) (arm-gives w) (p .arms) after .given arms [] g in
+    holds (record { headRead = h; armsRead = g; headWords = x .0 ∙ append-nil _; armWords = y .0 ∙ append-nil _; headWell = x .1; armsWell = y .1; clauses = x .2; armed = y .2 }, known))))
 
 -- the span is the trailer's, and every binder has a binding
 pub record Framed (p : Places) (st : Statement) : Type 0 where

@@ -9,3 +9,4 @@ pub mod NameBytes
 pub mod Accepted
 pub mod WrittenSheet
 pub mod ReadsBackSheet
+pub mod Walked

@@ -75,7 +75,7 @@ passed true true x y e = (refl, refl, cc)
 passed true false x y e = (refl, cc, cc)
 passed false b x y e = (cc, cc, cc)
 
-within : (s : List ℕ) → Sized s → Falling (words s) (trailerAt (words s)) → InPlaces s (placesOf (words s))
+pub within : (s : List ℕ) → Sized s → Falling (words s) (trailerAt (words s)) → InPlaces s (placesOf (words s))
 unfolding placesOf
 within s z f = omega (arith, length-words s)
 

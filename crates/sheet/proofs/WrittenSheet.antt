@@ -23,7 +23,7 @@ use Rattle.sheet.proofs.Accepted.{accepted-words}
 
 module _ (ws : List ℕ) where
   -- what stands from a word on is a section and what stands after it
-  cut : (from to : ℕ) → from ≤ to → to ≤ length ws → drop from ws ≡ section ws from to ++ drop to ws
+  pub cut : (from to : ℕ) → from ≤ to → to ≤ length ws → drop from ws ≡ section ws from to ++ drop to ws
   cut from to h l =
       ap (drop from) (sym (take-append-drop to ws)) ∙ drop-append-le from (take to ws) (drop to ws) (omega (arith, length-take to ws))
 

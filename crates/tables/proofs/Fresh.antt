@@ -18,16 +18,16 @@ use Rattle.tables.specs.Name.{nameAt}
 use Rattle.tables.specs.Answer.{namesIn}
 use Rattle.tables.proofs.Front.{front-more, take-map, getD-map}
 
-is-not : (t : Bool) → (t ≡ true → ⊥) → t ≡ false
+pub is-not : (t : Bool) → (t ≡ true → ⊥) → t ≡ false
 is-not true h = absurd (h refl)
 is-not false h = refl
 
-both : (a b : Bool) → a && b ≡ true → (a ≡ true) × (b ≡ true)
+pub both : (a b : Bool) → a && b ≡ true → (a ≡ true) × (b ≡ true)
 both true b e = (refl, e)
 both false b e = absurd (false≢true e)
 
--- strings that are the same are equal, so their lengths are
-same-eq : (a b : List ℕ) → sameBytes a b ≡ true → a ≡ b
+-- strings that are the same are equal: which comes first is no matter, and their lengths are equal
+pub same-eq : (a b : List ℕ) → sameBytes a b ≡ true → a ≡ b
 unfolding sameBytes
 same-eq [] [] e = refl
 same-eq [] (y ∷ b) e = cc
@@ -37,6 +37,14 @@ same-eq (x ∷ a) (y ∷ b) e =
     let hx = eqb-true x y (h .0) in
     let ha = same-eq a b (h .1) in
     cc
+
+pub same-comm : (a b : List ℕ) → sameBytes a b ≡ sameBytes b a
+same-comm a b = go (sameBytes a b) refl (sameBytes b a) refl
+  where
+    go : (t : Bool) → sameBytes a b ≡ t → (u : Bool) → sameBytes b a ≡ u → sameBytes a b ≡ sameBytes b a
+    go true e u f = let h = same-eq a b e in cc
+    go false e true f = let h = same-eq b a f in cc
+    go false e false f = cc
 
 pub other-length : (a b : List ℕ) → (length a ≡ length b → ⊥) → false ≡ sameBytes a b
 other-length a b h = sym (is-not (sameBytes a b) (λ e. h (ap length (same-eq a b e))))

@@ -3,6 +3,7 @@ mod names;
 mod rows;
 
 pub use names::distinct_names;
+pub use names::index_of;
 pub use names::name_at;
 pub use names::scan_names;
 pub use rows::distinct_ids;

@@ -10,6 +10,7 @@ ghost use lib.ListN.{length, take, drop};
 ghost use Rattle.words.specs.Fnv.{useId};
 ghost use Rattle.heads.specs.Answer.{Ans, readEnd, isIn};
 ghost use Rattle.tables.specs.Distinct.{sameBytes, nameIn, distinct};
+ghost use Rattle.tables.specs.Index.{indexOf};
 ghost use Rattle.tables.specs.Name.{allZero, lengthAt, nameBody, readName, nameAt};
 ghost use Rattle.tables.specs.Answer.{textGot, nameGot, nameLonger, namesIn, Roomy, Scanned};
 
@@ -160,6 +161,21 @@ fn has_name(s: &[u8], tab: &[u32], n: usize, x: &[u8]) -> bool
         i += 1;
     }
     false
+}
+
+// The index + 1 of the first of n names whose text is x, or 0.
+pub fn index_of(s: &[u8], tab: &[u32], n: usize, x: &[u8]) -> u32
+    requires { ⌜ (n ≤ length (now tab)) × (n ≤ 8192) ⌝ }
+    ensures { λ r. ⌜ r ≡ indexOf (now (x .entry)) (namesIn (now (s .entry)) n (now (tab .entry))) ⌝ }
+{
+    let mut i = 0;
+    while i < n {
+        if same_bytes(x, name_at(s, tab[i] as usize)) {
+            return i as u32 + 1;
+        }
+        i += 1;
+    }
+    0
 }
 
 // Whether no two of the first n names are the same: equal names have equal ids, so most are told apart by these.
