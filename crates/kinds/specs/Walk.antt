@@ -65,10 +65,11 @@ pub record Pushed (old new : List ℕ) (n : ℕ) (fs : List Finding) (r : ℕ) :
   pub count : r ≡ n + length fs
   pub wrote : new ≡ stored old n fs
 
--- names of which only the one numbered `ident` is `id`
+-- names of which only the one with this index + 1 is `id`, and none for 0
 unfoldable pub idNames : ℕ → List (List ℕ)
-idNames zero = (105 ∷ 100 ∷ []) ∷ []
-idNames (suc n) = [] ∷ idNames n
+idNames zero = []
+idNames (suc zero) = (105 ∷ 100 ∷ []) ∷ []
+idNames (suc (suc n)) = [] ∷ idNames (suc n)
 
 -- the world that a section's words give
 abbrev pub worldAt : List ℕ → Env → World

@@ -47,7 +47,7 @@ pub struct Settings {
     pub later: Setting,
 }
 
-// The section's tables: how many names, the first word and the number of the bindings, and the number of the name `id`.
+// The section's tables: how many names, the first word and the number of the bindings, and the index + 1 of the name `id`, or 0.
 pub struct Env {
     pub names: u32,
     pub rows: usize,
@@ -300,9 +300,9 @@ pub fn of_operator(o: u32) -> Setting
 }
 
 pub fn of_property(x: u32, ident: u32) -> Setting
-    ensures { λ r. ⌜ settingOf r ≡ cond (eqb x ident) general property ⌝ }
+    ensures { λ r. ⌜ settingOf r ≡ cond (eqb (suc x) ident) general property ⌝ }
 {
-    if x == ident {
+    if (x as u64) + 1 == ident as u64 {
         Setting::General
     } else {
         Setting::Property
@@ -321,7 +321,7 @@ pub fn of_two(k: u32) -> Setting
 
 // The settings of a head's parts.
 pub fn settings_of(f: Form, ident: u32, setting: Setting) -> Settings
-    ensures { λ r. ⌜ pairOf r ≡ settings (λ x. eqb x ident) f (settingOf setting) ⌝ }
+    ensures { λ r. ⌜ pairOf r ≡ settings (λ x. eqb (suc x) ident) f (settingOf setting) ⌝ }
 {
     match f {
         Form::Leaf(_) => Settings {
