@@ -27,18 +27,20 @@ ghost use Rattle.words.specs.Words.{words};
 ghost use Rattle.heads.specs.Got.{many, counted};
 ghost use Rattle.clauses.specs.Read.{readProjection, readWith, countedExprs, countedMarks, readCall, readBody, readClause};
 ghost use Rattle.expr.specs.Read.{noMore, noSteps, times, markFull, marks, elemOne, elems, partFull, parts, maybePattern};
-ghost use Rattle.resolve.specs.Log.{e5010, finding};
+ghost use Rattle.tables.specs.Row.{valueKind};
+ghost use Rattle.resolve.specs.Log.{e5010, e5011, finding};
 ghost use Rattle.resolve.specs.Table.{tableAt, wellRows, BoundAt, boundFits};
 ghost use Rattle.kinds.specs.Kinds.{passes, general, arithmetic, property, boolean, listed, leafTypes, isArithmetic, isId, settings, atType, plain, kindsS, kindsC, kinds, rowFor};
-ghost use Rattle.kinds.specs.Walk.{settingOf, pairOf, findingWords, Pushed, worldAt, atBound, misplacedBound, varOf, shownOf, ownOf, tablesAt, readerAt, ofE, ofEs, ofElem, matchSteps, unwindExpr, filterExprs, ofProjection, ofProjections, Ready, Checked};
+ghost use Rattle.kinds.specs.Walk.{settingOf, pairOf, findingWords, Pushed, worldAt, boundType, atBound, misplacedBound, varOf, shownOf, ownOf, tablesAt, readerAt, ofE, ofEs, ofElem, matchSteps, unwindExpr, filterExprs, ofProjection, ofProjections, Ready, Checked};
 
-// Where an expression stands; Listed, with the code and the first detail of its finding, wants a list.
+// Where an expression stands; Indexable, with the first detail of its finding, and Iterable want a list.
 pub enum Setting {
     General,
     Arithmetic,
     Property,
     Boolean,
-    Listed(u32, u32),
+    Indexable(u32),
+    Iterable,
 }
 
 // The settings of a head's first part and of the others.
@@ -62,7 +64,7 @@ pub struct Walked {
 }
 
 // Whether a BinOp sets arithmetic: operators 0 to 5 and 8 to 11.
-pub fn is_arithmetic(o: u32) -> bool
+pub fn is_arithmetic_op(o: u32) -> bool
     ensures { λ r. ⌜ r ≡ isArithmetic o ⌝ }
 {
     if o <= 5 {
@@ -134,13 +136,14 @@ pub fn at_type(setting: Setting, t: u32, out: &mut [u32], count: usize) -> usize
         Setting::General => count,
         Setting::Arithmetic => count,
         Setting::Property => count,
-        Setting::Boolean => require_bool(t, out, count),
-        Setting::Listed(code, one) => require_list(code, one, t, out, count),
+        Setting::Boolean => require_bool_predicate(t, out, count),
+        Setting::Indexable(one) => require_indexable(one, t, out, count),
+        Setting::Iterable => require_list_iterable(t, out, count),
     }
 }
 
 // E2011: a Bool that is an Int, a Float or a String.
-pub fn require_bool(t: u32, out: &mut [u32], count: usize) -> usize
+pub fn require_bool_predicate(t: u32, out: &mut [u32], count: usize) -> usize
     requires { ⌜ (count + 1) * 6 ≤ length (now out) ⌝ }
     ensures { λ r. ⌜ Pushed (now (out .entry)) (now (out .exit)) count (atType boolean t) r ⌝ }
 {
@@ -153,15 +156,34 @@ pub fn require_bool(t: u32, out: &mut [u32], count: usize) -> usize
     count
 }
 
-// E5010 and E5011: a list that is a type.
-pub fn require_list(code: u32, one: u32, t: u32, out: &mut [u32], count: usize) -> usize
+// E5010: a list that is a type; the detail is 1 index, 2 slice, 3 iterate over.
+pub fn require_indexable(one: u32, t: u32, out: &mut [u32], count: usize) -> usize
     requires { ⌜ (count + 1) * 6 ≤ length (now out) ⌝ }
-    ensures { λ r. ⌜ Pushed (now (out .entry)) (now (out .exit)) count (atType (listed code one) t) r ⌝ }
+    ensures { λ r. ⌜ Pushed (now (out .entry)) (now (out .exit)) count (atType (listed e5010 one) t) r ⌝ }
 {
     if t == 0 {
         return count;
     }
-    push(out, count, code, 0, 0, 0, one, t)
+    push(out, count, 5010, 0, 0, 0, one, t)
+}
+
+// E5011: the list of a ListPredicate that is a type.
+pub fn require_list_iterable(t: u32, out: &mut [u32], count: usize) -> usize
+    requires { ⌜ (count + 1) * 6 ≤ length (now out) ⌝ }
+    ensures { λ r. ⌜ Pushed (now (out .entry)) (now (out .exit)) count (atType (listed e5011 0) t) r ⌝ }
+{
+    if t == 0 {
+        return count;
+    }
+    push(out, count, 5011, 0, 0, 0, 0, t)
+}
+
+// The type of a binding by its kind; a Value shows none.
+pub fn kind_type(kind: u32) -> u32
+    requires { ⌜ kind ≤ valueKind ⌝ }
+    ensures { λ r. ⌜ r ≡ boundType kind ⌝ }
+{
+    if kind == 4 { 0 } else { kind + 7 }
 }
 
 // A variable's binding against a setting: E2007, or as a list.
@@ -187,12 +209,8 @@ pub fn at_row(setting: Setting, b: Bound, out: &mut [u32], count: usize) -> usiz
             count
         }
         Setting::Boolean => count,
-        Setting::Listed(code, one) => {
-            if kind == 4 {
-                return count;
-            }
-            push(out, count, code, 0, 0, 0, one, kind + 7)
-        }
+        Setting::Indexable(one) => require_indexable(one, kind_type(kind), out, count),
+        Setting::Iterable => require_list_iterable(kind_type(kind), out, count),
     }
 }
 
@@ -284,7 +302,8 @@ pub fn passes(setting: Setting) -> Setting
         Setting::Arithmetic => Setting::Arithmetic,
         Setting::Property => Setting::Property,
         Setting::Boolean => Setting::General,
-        Setting::Listed(_, _) => Setting::General,
+        Setting::Indexable(_) => Setting::General,
+        Setting::Iterable => Setting::General,
     }
 }
 
@@ -292,7 +311,7 @@ pub fn passes(setting: Setting) -> Setting
 pub fn of_operator(o: u32) -> Setting
     ensures { λ r. ⌜ settingOf r ≡ cond (isArithmetic o) arithmetic general ⌝ }
 {
-    if is_arithmetic(o) {
+    if is_arithmetic_op(o) {
         Setting::Arithmetic
     } else {
         Setting::General
@@ -313,7 +332,7 @@ pub fn of_two(k: u32) -> Setting
     ensures { λ r. ⌜ settingOf r ≡ cond (eqb k 10) (listed e5010 1) general ⌝ }
 {
     if k == 10 {
-        Setting::Listed(5010, 1)
+        Setting::Indexable(1)
     } else {
         Setting::General
     }
@@ -345,7 +364,7 @@ pub fn settings_of(f: Form, ident: u32, setting: Setting) -> Settings
             later: Setting::General,
         },
         Form::Slice(_) => Settings {
-            first: Setting::Listed(5010, 2),
+            first: Setting::Indexable(2),
             later: Setting::General,
         },
         Form::Many(_, _) => Settings {
@@ -373,7 +392,7 @@ pub fn settings_of(f: Form, ident: u32, setting: Setting) -> Settings
             later: Setting::General,
         },
         Form::ListComprehension(_) => Settings {
-            first: Setting::Listed(5010, 3),
+            first: Setting::Indexable(3),
             later: Setting::General,
         },
         Form::PatternComprehension(_, _, _) => Settings {
@@ -381,7 +400,7 @@ pub fn settings_of(f: Form, ident: u32, setting: Setting) -> Settings
             later: Setting::General,
         },
         Form::ListPredicate(_) => Settings {
-            first: Setting::Listed(5011, 0),
+            first: Setting::Iterable,
             later: Setting::Boolean,
         },
         Form::MapProjection(_) => Settings {

@@ -1,8 +1,8 @@
--- Each arm is the definition's.
+-- Each arm is the definition's; where a list is wanted, the binding is checked as its type.
 use borrow.Author.Needs.{needs}
-use native.Mathlib.Omega.{arith}
 use borrow.Author.Tests.{eq-eqb, ne-eqb}
 use Rattle.kinds.proofs.Store.{none-pushed}
+use Rattle.kinds.proofs.Bounds.{typed-pushed}
 use Rattle.kinds.proofs.at_row.Statement.{statement}
 use Rattle.kinds.proofs.at_row.Tie as tie
 
@@ -23,13 +23,17 @@ at-row-spec =
     (λ c. rw (c .before .before .before .before .before .before .before .before .b .given .1, c .before .before .before .before .before .enum-told4 .given .1, eq-eqb _ _ (c .before .before .before .before .if2 .taken)) (c .before .before .push2 .ensures))  -- returns-3
     (λ c. search needs)  -- enum-told-5
     (λ c. search needs)  -- enum-known-setting
-    (λ c. rw (c .before .before .before .before .before .b .given .1, c .before .before .setting .given .1, eq-eqb _ _ (c .if3 .taken)) (none-pushed _ _))  -- returns-4
-    (λ c. let h = rw (c .before .before .before .before .before .before .b .given .1) at (c .before .before .before .before .before .before .before .before .before .pre .1) in omega (arith, h))  -- add-push
-    (λ c κs. search needs)  -- push-requires-3
-    (λ c. rw (c .before .before .before .b .given .1, c .enum-told2 .given .1) (none-pushed _ _))  -- returns-5
+    (λ c κs. rw (c .before .before .before .before .b .given .1) at (c .before .before .before .before .before .before .before .pre .1))  -- kind-type-requires
+    (λ c κs. search needs)  -- require-indexable-requires
+    (λ c. search needs)  -- enum-told-6
+    (λ c κs. rw (c .before .before .before .b .given .1) at (c .before .before .before .before .before .before .pre .1))  -- kind-type-requires-2
+    (λ c κs. search needs)  -- require-list-iterable-requires
+    (λ c. rw (c .before .before .before .b .given .1, c .enum-told2 .given .1) (none-pushed _ _))  -- returns-4
     (λ c. search needs)  -- same-length-2
-    (λ c. rw (c .before .before .before .before .before .before .before .before .b .given .1, c .before .before .before .before .before .enum-told3 .given .1, ne-eqb _ _ (c .before .before .before .before .if1 .left)) (c .before .before .push .ensures))  -- returns-6
-    (λ c. rw (c .before .before .before .before .b .given .1, c .before .enum-told4 .given .1, ne-eqb _ _ (c .if2 .left)) (none-pushed _ _))  -- returns-7
-    (λ c. rw (c .before .before .before .b .given .1, c .enum-told5 .given .1) (none-pushed _ _))  -- returns-8
+    (λ c. rw (c .before .before .before .before .before .before .before .before .b .given .1, c .before .before .before .before .before .enum-told3 .given .1, ne-eqb _ _ (c .before .before .before .before .if1 .left)) (c .before .before .push .ensures))  -- returns-5
+    (λ c. rw (c .before .before .before .before .b .given .1, c .before .enum-told4 .given .1, ne-eqb _ _ (c .if2 .left)) (none-pushed _ _))  -- returns-6
+    (λ c. rw (c .before .before .before .b .given .1, c .enum-told5 .given .1) (none-pushed _ _))  -- returns-7
     (λ c. search needs)  -- same-length-3
-    (λ c. rw (c .before .before .before .before .before .before .before .before .before .b .given .1, c .before .before .before .before .before .before .setting .given .1, ne-eqb _ _ (c .before .before .before .before .if3 .left)) (c .before .before .push3 .ensures)))  -- returns-9
+    (λ c. let b = c .before .before .before .before .before .before .before .before .before .b .given in rw (b .1, c .before .before .before .before .before .before .setting .given .1) (typed-pushed _ _ (b .0 .1 .0) _ (c .before .before .before .before .kind-type .ensures) (c .before .before .require-indexable .ensures)))  -- returns-8
+    (λ c. search needs)  -- same-length-4
+    (λ c. let b = c .before .before .before .before .before .before .before .before .b .given in rw (b .1, c .before .before .before .before .before .enum-told6 .given .1) (typed-pushed _ _ (b .0 .1 .0) _ (c .before .before .before .before .kind-type2 .ensures) (c .before .before .require-list-iterable .ensures))))  -- returns-9

@@ -14,13 +14,17 @@ at-type-spec =
     (λ c. search needs)  -- enum-told-2
     (λ c. search needs)  -- enum-told-3
     (λ c. search needs)  -- enum-told-4
-    (λ c κs. search needs)  -- require-bool-requires
+    (λ c κs. search needs)  -- require-bool-predicate-requires
     (λ c. search needs)  -- enum-known-setting
-    (λ c κs. search needs)  -- require-list-requires
+    (λ c κs. search needs)  -- require-indexable-requires
+    (λ c. search needs)  -- enum-told-5
+    (λ c κs. search needs)  -- require-list-iterable-requires
     (λ c. rw (c .enum-told .given .1) (none-pushed _ _))  -- returns
     (λ c. rw (c .enum-told2 .given .1) (none-pushed _ _))  -- returns-2
     (λ c. rw (c .enum-told3 .given .1) (none-pushed _ _))  -- returns-3
     (λ c. search needs)  -- same-length
-    (λ c. rw (c .before .before .before .before .enum-told4 .given .1) (c .before .before .require-bool .ensures))  -- returns-4
+    (λ c. rw (c .before .before .before .before .enum-told4 .given .1) (c .before .before .require-bool-predicate .ensures))  -- returns-4
     (λ c. search needs)  -- same-length-2
-    (λ c. rw (c .before .before .before .before .before .setting .given .1) (c .before .before .require-list .ensures)))  -- returns-5
+    (λ c. rw (c .before .before .before .before .before .setting .given .1) (c .before .before .require-indexable .ensures))  -- returns-5
+    (λ c. search needs)  -- same-length-3
+    (λ c. rw (c .before .before .before .before .enum-told5 .given .1) (c .before .before .require-list-iterable .ensures)))  -- returns-6

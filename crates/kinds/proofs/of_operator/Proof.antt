@@ -7,6 +7,6 @@ pub of-operator-spec : {M : Type 1} → statement M
 of-operator-spec =
     tie.close
     (tie.spec
-    (λ c κs. search needs)  -- is-arithmetic-requires
-    (λ c. rw (← (c .before .is-arithmetic .ensures), c .if1 .taken))  -- returns
-    (λ c. rw (← (c .before .is-arithmetic .ensures), c .if1 .left)))  -- returns-2
+    (λ c κs. search needs)  -- is-arithmetic-op-requires
+    (λ c. rw (← (c .before .is-arithmetic-op .ensures), c .if1 .taken))  -- returns
+    (λ c. rw (← (c .before .is-arithmetic-op .ensures), c .if1 .left)))  -- returns-2

@@ -3,12 +3,12 @@ use borrow.Author.Needs.{needs}
 use borrow.Author.Tests.{eq-eqb, ne-eqb}
 use Rattle.kinds.specs.Kinds.{atType}
 use Rattle.kinds.proofs.Store.{none-pushed}
-use Rattle.kinds.proofs.require_list.Statement.{statement}
-use Rattle.kinds.proofs.require_list.Tie as tie
+use Rattle.kinds.proofs.require_indexable.Statement.{statement}
+use Rattle.kinds.proofs.require_indexable.Tie as tie
 
-pub require-list-spec : {M : Type 1} → statement M
+pub require-indexable-spec : {M : Type 1} → statement M
 unfolding atType
-require-list-spec =
+require-indexable-spec =
     tie.close
     (tie.spec
     (λ c. rw (eq-eqb _ 0 (c .if1 .taken)) (none-pushed _ _))  -- returns

@@ -3,12 +3,12 @@ use borrow.Author.Needs.{needs}
 use borrow.Author.Tests.{le-leb, lt-leb}
 use Rattle.kinds.specs.Kinds.{atType}
 use Rattle.kinds.proofs.Store.{none-pushed}
-use Rattle.kinds.proofs.require_bool.Statement.{statement}
-use Rattle.kinds.proofs.require_bool.Tie as tie
+use Rattle.kinds.proofs.require_bool_predicate.Statement.{statement}
+use Rattle.kinds.proofs.require_bool_predicate.Tie as tie
 
-pub require-bool-spec : {M : Type 1} → statement M
+pub require-bool-predicate-spec : {M : Type 1} → statement M
 unfolding atType
-require-bool-spec =
+require-bool-predicate-spec =
     tie.close
     (tie.spec
     (λ c. rw (lt-leb 2 _ (c .if1 .taken)) (none-pushed _ _))  -- returns

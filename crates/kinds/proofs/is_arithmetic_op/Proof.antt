@@ -1,11 +1,11 @@
 -- Each test is the definition's.
 use native.Mathlib.Omega.{arith}
 use Rattle.kinds.proofs.Tests.{low, between, high}
-use Rattle.kinds.proofs.is_arithmetic.Statement.{statement}
-use Rattle.kinds.proofs.is_arithmetic.Tie as tie
+use Rattle.kinds.proofs.is_arithmetic_op.Statement.{statement}
+use Rattle.kinds.proofs.is_arithmetic_op.Tie as tie
 
-pub is-arithmetic-spec : {M : Type 1} → statement M
-is-arithmetic-spec =
+pub is-arithmetic-op-spec : {M : Type 1} → statement M
+is-arithmetic-op-spec =
     tie.close
     (tie.spec
     (λ c. low _ (c .if1 .taken))  -- returns
