@@ -27,9 +27,9 @@ use Rattle.resolve.specs.Table.{tableAt, wellRows, boundOf}
 use Rattle.resolve.specs.declared.rows.Bound.{Bound}
 use Rattle.resolve.specs.declared.rows.Bound.the-variants as bound
 use Rattle.kinds.specs.Kinds.{Setting, general, arithmetic, property, boolean, listed, Pair, both, plain, noType, mapType, patternType, kindType, leafTypes, atType, misplaced, rowFor, kindsE, kindsEs, kindsS}
-use Rattle.kinds.specs.declared.Setting as settings
-use Rattle.kinds.specs.declared.Setting.the-variants as setting
-use Rattle.kinds.specs.declared.Settings.{Settings}
+use Rattle.kinds.specs.declared.settings.Setting as settings
+use Rattle.kinds.specs.declared.settings.Setting.the-variants as setting
+use Rattle.kinds.specs.declared.settings.Settings.{Settings}
 use Rattle.kinds.specs.declared.Env.{Env}
 use Rattle.kinds.specs.declared.Walked.{Walked}
 
