@@ -1,12 +1,11 @@
 -- The findings of an expression by its parts: those of the head itself, of its pattern, of its expressions and of its items.
 use Prim.Native.Nat.{ℕ, zero, suc, _≤_}
 use native.Mathlib.Omega.{arith}
-use mathlib.Core.Path.{_≡_, refl, ap}
+use mathlib.Core.Path.{_≡_, refl, sym, _∙_}
 use mathlib.Core.Bool.{Bool, true, false, cond, _&&_}
 use mathlib.Core.List.{List, [], _∷_, _++_, append-assoc, append-nil}
 use mathlib.Core.Option.{Option, none, some}
-use borrow.Author.Tests.{eqb-true, eqb-false}
-use lib.Dec.{eqb, leb}
+use lib.Dec.{eqb, leb, eqb·suc-suc, eqb·suc-zero, eqb·zero-suc}
 use lib.ListN.{length, getD}
 use Rattle.heads.specs.Got.{Got, ok, no, bind, bare}
 use Rattle.heads.specs.Form.{kidsOf, itemsOf, hasPattern}
@@ -79,25 +78,14 @@ no-type property = refl
 no-type boolean = refl
 no-type (listed d o) = refl
 
--- the name `id` is the one numbered so
-id-same : (n : ℕ) → isId (getD (idNames n) n []) ≡ true
+-- the name `id` is the one with the index + 1, and none is for 0
+pub id-name : (n x : ℕ) → isId (getD (idNames n) x []) ≡ eqb (suc x) n
 unfolding idNames isId
-id-same zero = refl
-id-same (suc n) = id-same n
-
-id-other : (n x : ℕ) → (x ≡ n → ⊥) → isId (getD (idNames n) x []) ≡ false
-unfolding idNames isId
-id-other zero zero h = absurd (h refl)
-id-other zero (suc x) h = refl
-id-other (suc n) zero h = refl
-id-other (suc n) (suc x) h = id-other n x (λ e. h (ap suc e))
-
-pub id-name : (n x : ℕ) → isId (getD (idNames n) x []) ≡ eqb x n
-id-name n x = by (eqb x n) refl
-  where
-    by : (b : Bool) → eqb x n ≡ b → isId (getD (idNames n) x []) ≡ b
-    by true e = rw (eqb-true x n e) (id-same n)
-    by false e = id-other n x (eqb-false x n e)
+id-name zero x = sym (eqb·suc-zero x)
+id-name (suc zero) zero = refl
+id-name (suc zero) (suc x) = sym (eqb·suc-suc (suc x) 0 ∙ eqb·suc-zero x)
+id-name (suc (suc n)) zero = sym (eqb·suc-suc 0 (suc n) ∙ eqb·zero-suc n)
+id-name (suc (suc n)) (suc x) = id-name (suc n) x ∙ sym (eqb·suc-suc (suc x) (suc n))
 
 pub settings-same : (p q : ℕ → Bool) → ((x : ℕ) → p x ≡ q x) → (f : Form) (c : Setting) → settings p f c ≡ settings q f c
 unfolding settings
@@ -119,11 +107,11 @@ settings-same p q e (ListPredicate g) c = refl
 settings-same p q e (MapProjection n) c = refl
 
 -- the world that a section's words give has `id` where the code says
-pub id-at : (w : World) (ident : ℕ) → w .names ≡ idNames ident → (x : ℕ) → named-id w x ≡ eqb x ident
+pub id-at : (w : World) (ident : ℕ) → w .names ≡ idNames ident → (x : ℕ) → named-id w x ≡ eqb (suc x) ident
 unfolding named-id bytesOf
 id-at w ident e x = rw e (id-name ident x)
 
-pub settings-at : (w : World) (ident : ℕ) → w .names ≡ idNames ident → (f : Form) (c : Setting) → settings (named-id w) f c ≡ settings (λ x. eqb x ident) f c
+pub settings-at : (w : World) (ident : ℕ) → w .names ≡ idNames ident → (f : Form) (c : Setting) → settings (named-id w) f c ≡ settings (λ x. eqb (suc x) ident) f c
 settings-at w ident e f c = settings-same _ _ (id-at w ident e) f c
 
 -- where nothing can be read, nothing was

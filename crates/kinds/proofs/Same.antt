@@ -1,15 +1,25 @@
--- The kinds walk goes by the bindings and by which name is `id`, and by nothing else of a world.
-use Prim.Native.Nat.{ℕ}
-use mathlib.Core.Path.{_≡_, refl, ap, sym, _∙_}
-use mathlib.Core.Bool.{Bool}
-use mathlib.Core.List.{List, [], _∷_, _++_}
+-- The kinds walk goes by the bindings and by which name is `id`, and by nothing else of a world. So the world that a section's words
+-- give, with the index of `id`, has the findings of the statement's.
+use Prim.Native.Nat.{ℕ, suc}
+use mathlib.Core.Path.{_≡_, refl, ap, _∙_}
+use mathlib.Core.Bool.{true}
+use mathlib.Core.List.{List, [], _∷_}
+use lib.Dec.{eqb}
+use lib.ListN.{getD}
 use Rattle.heads.specs.declared.Maybe.{Maybe}
 use Rattle.heads.specs.declared.Maybe.the-variants as maybe
 use Rattle.expr.specs.Tree.{Expr, var, unresolved, node, predicate, comprehension, Exprs, done, more, mark, Steps, end, part, elem}
 use Rattle.clauses.specs.Tree.{Clause, opening, reading, with', return, unwind, call, exprs}
-use Rattle.resolve.specs.Resolve.{World}
+use Rattle.tables.specs.Distinct.{nameIn, distinct}
+use Rattle.tables.specs.Index.{indexOf}
+use Rattle.tables.proofs.Index.{index-is}
+use Rattle.resolve.specs.Resolve.{World, bytesOf}
+use Rattle.resolve.specs.Table.{tableAt}
 use Rattle.kinds.specs.Kinds.{Setting, general, Pair, both, plain, settings, rowFor, named-id, kindsE, kindsEs, kindsS, kindsC, kinds}
-use Rattle.kinds.proofs.Found.{settings-same}
+use Rattle.kinds.specs.Walk.{worldAt}
+use Rattle.kinds.specs.declared.Env.{Env}
+use Rattle.kinds.proofs.Tests.{id-is}
+use Rattle.kinds.proofs.Found.{settings-same, id-at}
 
 module _ (v w : World) (t : v .table ≡ w .table) (i : (x : ℕ) → named-id v x ≡ named-id w x) where
   row-same : (m : Maybe) → rowFor v m ≡ rowFor w m
@@ -50,3 +60,12 @@ module _ (v w : World) (t : v .table ≡ w .table) (i : (x : ℕ) → named-id v
   unfolding kinds
   same-kinds [] = refl
   same-kinds (c ∷ cs) = rw (same-clause c, same-kinds cs)
+
+-- the name with an index is `id` in the one world exactly where it is in the other
+id-true : (w : World) (ws : List ℕ) (e : Env) → e .ident ≡ indexOf (105 ∷ 100 ∷ []) (w .names) → distinct nameIn (w .names) ≡ true → (x : ℕ) → named-id (worldAt ws e) x ≡ named-id w x
+unfolding named-id bytesOf
+id-true w ws e i d x =
+    id-at (worldAt ws e) (e .ident) refl x ∙ ap (eqb (suc x)) i ∙ index-is (105 ∷ 100 ∷ []) (w .names) d 105 (100 ∷ []) refl x ∙ id-is (getD (w .names) x [])
+
+pub true-world : (w : World) (ws : List ℕ) (e : Env) → e .ident ≡ indexOf (105 ∷ 100 ∷ []) (w .names) → distinct nameIn (w .names) ≡ true → tableAt ws (e .rows) (e .bindings) ≡ w .table → (cs : List Clause) → kinds (worldAt ws e) cs ≡ kinds w cs
+true-world w ws e i d t cs = same-kinds (worldAt ws e) w t (id-true w ws e i d) cs

@@ -21,15 +21,15 @@ use Rattle.expr.specs.Read.{Reader, noMore, times, maybePattern, readExpr}
 use Rattle.clauses.specs.Tree.{Projection, projection, exprs}
 use Rattle.clauses.specs.Read.{clauseExpr}
 use Rattle.tables.specs.Row.{pathKind, valueKind, Row}
-use Rattle.resolve.specs.Log.{e2007, e2008, Finding, finding}
+use Rattle.resolve.specs.Log.{e2007, e2008, e5010, e5011, Finding, finding}
 use Rattle.resolve.specs.Resolve.{World}
 use Rattle.resolve.specs.Table.{tableAt, wellRows, boundOf}
 use Rattle.resolve.specs.declared.rows.Bound.{Bound}
 use Rattle.resolve.specs.declared.rows.Bound.the-variants as bound
 use Rattle.kinds.specs.Kinds.{Setting, general, arithmetic, property, boolean, listed, Pair, both, plain, noType, mapType, patternType, kindType, leafTypes, atType, misplaced, rowFor, kindsE, kindsEs, kindsS}
-use Rattle.kinds.specs.declared.Setting as settings
-use Rattle.kinds.specs.declared.Setting.the-variants as setting
-use Rattle.kinds.specs.declared.Settings.{Settings}
+use Rattle.kinds.specs.declared.settings.Setting as settings
+use Rattle.kinds.specs.declared.settings.Setting.the-variants as setting
+use Rattle.kinds.specs.declared.settings.Settings.{Settings}
 use Rattle.kinds.specs.declared.Env.{Env}
 use Rattle.kinds.specs.declared.Walked.{Walked}
 
@@ -39,7 +39,8 @@ settingOf setting.General = general
 settingOf setting.Arithmetic = arithmetic
 settingOf setting.Property = property
 settingOf setting.Boolean = boolean
-settingOf (setting.Listed c o) = listed c o
+settingOf (setting.Indexable o) = listed e5010 o
+settingOf setting.Iterable = listed e5011 0
 
 abbrev pub pairOf : Settings → Pair
 pairOf p = both (settingOf (p .first)) (settingOf (p .later))
@@ -65,16 +66,20 @@ pub record Pushed (old new : List ℕ) (n : ℕ) (fs : List Finding) (r : ℕ) :
   pub count : r ≡ n + length fs
   pub wrote : new ≡ stored old n fs
 
--- names of which only the one numbered `ident` is `id`
+-- names of which only the one with this index + 1 is `id`, and none for 0
 unfoldable pub idNames : ℕ → List (List ℕ)
-idNames zero = (105 ∷ 100 ∷ []) ∷ []
-idNames (suc n) = [] ∷ idNames n
+idNames zero = []
+idNames (suc zero) = (105 ∷ 100 ∷ []) ∷ []
+idNames (suc (suc n)) = [] ∷ idNames (suc n)
 
 -- the world that a section's words give
 abbrev pub worldAt : List ℕ → Env → World
 worldAt ws e = record { names = idNames (e .ident); table = tableAt ws (e .rows) (e .bindings); warns = false }
 
--- what is said of a variable's row as the code finds it
+-- the type of a binding by its kind, and what is said of a variable's row as the code finds it
+abbrev pub boundType : ℕ → ℕ
+boundType kind = cond (eqb kind valueKind) noType (kindType kind)
+
 abbrev pub atBound : Setting → Bound → List Finding
 atBound c bound.No = []
 atBound general (bound.Is y k) = []

@@ -22,9 +22,9 @@ use Rattle.kinds.specs.Walk.{settingOf, pairOf, worldAt, tablesAt, reade
 use Rattle.kinds.proofs.Walks.{and-then, told, headed, kept, ready-on}
 use Rattle.kinds.proofs.Found.{own-few, settings-at, after-found}
 use Rattle.heads.proofs.read_form.Reads as read-form
-use Rattle.kinds.proofs.check_head.Reads as check-head
+use Rattle.kinds.proofs.findings.check_head.Reads as check-head
 use Rattle.heads.proofs.has_pattern.Reads as has-pattern
-use Rattle.kinds.proofs.settings_of.Reads as settings-of
+use Rattle.kinds.proofs.settings.settings_of.Reads as settings-of
 use Rattle.heads.proofs.kids_of.Reads as kids-of
 use Rattle.heads.proofs.items_of.Reads as items-of
 use Rattle.kinds.proofs.check_expr.Reads as check-expr

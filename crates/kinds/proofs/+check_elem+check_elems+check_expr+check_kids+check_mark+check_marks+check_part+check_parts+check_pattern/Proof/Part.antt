@@ -18,8 +18,8 @@ use Rattle.kinds.specs.Walk.{worldAt, tablesAt, readerAt, Walks}
 use Rattle.kinds.proofs.Walks.{and-then, told, kept, ready-on}
 use Rattle.kinds.proofs.Steps.{placed, part-found}
 use Rattle.heads.proofs.read_part_head.Reads as read-part-head
-use Rattle.kinds.proofs.row_for.Reads as row-for
-use Rattle.kinds.proofs.misplaced.Reads as misplaced
+use Rattle.kinds.proofs.findings.row_for.Reads as row-for
+use Rattle.kinds.proofs.findings.misplaced.Reads as misplaced
 use Rattle.kinds.proofs.check_elems.Reads as check-elems
 use Rattle.kinds.proofs.check_part.Reads as check-part
 use Rattle.kinds.proofs.+check_elem+check_elems+check_expr+check_kids+check_mark+check_marks+check_part+check_parts+check_pattern.Lts-check_part.{Claims, Closed, ps, spec, Start, After-known-told, After-slice-known2}
