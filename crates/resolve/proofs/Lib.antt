@@ -1,2 +1,13 @@
 pub mod Star
 pub mod Table
+pub mod Facts
+pub mod Decode
+pub mod Lookups
+pub mod Moved
+pub mod Stacks
+pub mod Walks
+pub mod Adds
+pub mod Runs
+pub mod Heights
+pub mod Rounds
+pub mod Lowered

@@ -19,6 +19,14 @@ and-both : (a b : Bool) → (a && b) ≡ true → (a ≡ true) × (b ≡ true)
 and-both true b h = (refl, h)
 and-both false b h = absurd (let z : _≡_ {A = ℕ} 0 1 = cc in omega arith)
 
+-- the first of some well rows, and those after it
+pub well-more : (names i x k a b : ℕ) (t : List Row) → wellRows names (row i x k a b ∷ t) ≡ true → (x < names) × ((k ≤ valueKind) × (wellRows names t ≡ true))
+unfolding wellRows
+well-more names i x k a b t w =
+    let n = and-both (ltb x names) _ w in
+    let l = and-both (leb k valueKind) _ (n .1) in
+    (ltb-true _ _ (n .0), (leb-true _ _ (l .0), l .1))
+
 -- the binding at p, and those after it
 abbrev here : List ℕ → ℕ → Row
 here ws p = row (getD ws p 0) (getD ws (p + 1) 0) (getD ws (p + 2) 0) (getD ws (p + 3) 0) (getD ws (p + 4) 0)
@@ -37,12 +45,7 @@ pub record Left (names v : ℕ) (ws : List ℕ) (rows n p left : ℕ) : Type 0 w
 
 module _ {names v : ℕ} {ws : List ℕ} {rows n p left : ℕ} (l : Left names v ws rows n p left) (h : 0 < left) where
   fields : (getD ws (p + 1) 0 < names) × ((getD ws (p + 2) 0 ≤ valueKind) × (wellRows names (tableAt ws (p + 5) (left - 1)) ≡ true))
-  unfolding wellRows
-  fields =
-      let w = rw (table-more ws p left h) at (l .well) in
-      let a = and-both (ltb (getD ws (p + 1) 0) names) _ w in
-      let b = and-both (leb (getD ws (p + 2) 0) valueKind) _ (a .1) in
-      (ltb-true _ _ (a .0), (leb-true _ _ (b .0), b .1))
+  fields = well-more names _ _ _ _ _ _ (rw (table-more ws p left h) at (l .well))
 
   pub name-below : getD ws (p + 1) 0 < names
   name-below = fields .0
