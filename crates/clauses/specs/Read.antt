@@ -32,6 +32,10 @@ module _ (w : Tables) where
   unfoldable pub countedExprs : List ℕ → Got Exprs
   countedExprs ws = bind (any ws) (λ n r. times n clauseExpr noMore r)
 
+  -- a flag, and an expression if it is 1
+  unfoldable pub filterExprs : List ℕ → Got Exprs
+  filterExprs ws = bind (flag ws) (λ g r. times g clauseExpr noMore r)
+
   -- a count, and as many marks of a kind with their expressions
   unfoldable pub countedMarks : ℕ → List ℕ → Got Exprs
   countedMarks kind ws = bind (any ws) (λ n r. marks kind n clauseExpr r)

@@ -161,15 +161,12 @@ abbrev pub ofElem : World → Elem × Exprs → List Finding
 ofElem w x =
     misplaced (suc (x .0 .kind)) (x .0 .kind) (x .0 .start) (x .0 .end) (rowFor w (x .0 .variable)) ++ kindsEs w (x .1) plain
 
--- parts of a clause that have findings: a match's pattern, an unwind's expression, a filter behind its flag
+-- parts of a clause that have findings: a match's pattern, an unwind's expression
 unfoldable pub matchSteps : Tables → List ℕ → Got Steps
 matchSteps t ws = bind (flag ws) (λ o r. maybePattern true t (clauseExpr t) r)
 
 unfoldable pub unwindExpr : Tables → List ℕ → Got Expr
 unwindExpr t ws = bind (any ws) (λ v r. pick (t .known v) (clauseExpr t r) (no 7))
-
-unfoldable pub filterExprs : Tables → List ℕ → Got Exprs
-filterExprs t ws = bind (flag ws) (λ g r. times g (clauseExpr t) noMore r)
 
 -- the findings of projections
 abbrev pub ofProjection : World → Projection → List Finding

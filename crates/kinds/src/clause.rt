@@ -12,9 +12,9 @@ use words::word;
 ghost use lib.ListN.{drop};
 ghost use Rattle.words.specs.Words.{words};
 ghost use Rattle.heads.specs.Got.{many, counted};
-ghost use Rattle.clauses.specs.Read.{readProjection, readWith, countedExprs, countedMarks, readCall, readBody, readClause};
+ghost use Rattle.clauses.specs.Read.{filterExprs, readProjection, readWith, countedExprs, countedMarks, readCall, readBody, readClause};
 ghost use Rattle.kinds.specs.Kinds.{general, kindsS, kindsC, kinds};
-ghost use Rattle.kinds.specs.Walk.{worldAt, tablesAt, ofE, ofEs, matchSteps, unwindExpr, filterExprs, ofProjection, ofProjections, Ready, Checked};
+ghost use Rattle.kinds.specs.Walk.{worldAt, tablesAt, ofE, ofEs, matchSteps, unwindExpr, ofProjection, ofProjections, Ready, Checked};
 
 // The deepest expression that is read.
 const MAX_DEPTH: u32 = 48;

@@ -18,7 +18,7 @@ ghost use Rattle.kinds.specs.Kinds.{boolean, listed, leafTypes, atType, 
 ghost use Rattle.kinds.specs.Walk.{settingOf, Pushed, worldAt, boundType, atBound, misplacedBound, varOf, shownOf, ownOf};
 
 // A finding, stored after those there are.
-fn push(
+pub fn push(
     out: &mut [u32],
     count: usize,
     code: u32,

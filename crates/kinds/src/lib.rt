@@ -7,6 +7,7 @@ mod settings;
 pub use clause::check_kinds;
 use findings::check_head;
 use findings::misplaced;
+pub use findings::push;
 use findings::row_for;
 use heads::ElemRead;
 use heads::FormRead;

@@ -7,9 +7,9 @@ use Rattle.words.specs.Words.{words}
 use Rattle.heads.specs.Got.{bare, counted}
 use Rattle.expr.proofs.Accepted.{two-first, two-second, two-bare}
 use Rattle.clauses.specs.Tree.{with'}
-use Rattle.clauses.specs.Read.{readProjection}
+use Rattle.clauses.specs.Read.{filterExprs, readProjection}
 use Rattle.kinds.specs.Kinds.{general, kindsC}
-use Rattle.kinds.specs.Walk.{worldAt, tablesAt, filterExprs, found, ofEs, ofProjections}
+use Rattle.kinds.specs.Walk.{worldAt, tablesAt, found, ofEs, ofProjections}
 use Rattle.kinds.proofs.Walks.{and-then, told, kept, ready-on}
 use Rattle.kinds.proofs.Alike.{two-found, ready-as}
 use Rattle.kinds.proofs.Clauses.{with-is, with-apart}

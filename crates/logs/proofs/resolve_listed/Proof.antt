@@ -1,0 +1,33 @@
+-- A count, and as many projections.
+use borrow.Author.Needs.{needs}
+use native.Mathlib.Omega.{arith}
+use Rattle.words.specs.Words.{words}
+use Rattle.words.proofs.Words.{length-words}
+use Rattle.resolve.specs.Walk.{factsAt, tablesAt}
+use Rattle.resolve.proofs.Adds.{projections-adds}
+use Rattle.logs.proofs.Begun.{word-room, word-ready, word-done}
+use Rattle.logs.proofs.Rows.{listed-begins}
+use Rattle.logs.proofs.resolve_listed.Statement.{statement}
+use Rattle.logs.proofs.resolve_listed.Tie as tie
+
+pub resolve-listed-spec : {M : Type 1} → statement M
+resolve-listed-spec =
+    tie.close
+    (tie.spec
+    (λ c κs. search needs)  -- word-requires
+    (λ c.  -- add-v
+    let s = c .before .before .before .before .before in
+    let a = s .args in
+    omega (arith, word-room (listed-begins (tablesAt (words (a .s .now)) (a .e))) (s .pre), length-words (a .s .now)))
+    (λ c κs.  -- resolve-projections-requires
+    let k = c .before .before in
+    let s = k .before .before .before .before .before in
+    let a = s .args in
+    word-ready (listed-begins (tablesAt (words (a .s .now)) (a .e))) (s .pre) (k .word .result) (k .word .ensures) (record { added = projections-adds (factsAt (words (a .s .now)) (a .e) (a .ids .now)) }))
+    (λ c. search needs)  -- same-length
+    (λ c. search needs)  -- same-length-2
+    (λ c.  -- returns
+    let k = c .before .before .before .before .before .before .before in
+    let s = k .before .before .before .before .before in
+    let a = s .args in
+    word-done (listed-begins (tablesAt (words (a .s .now)) (a .e))) (s .pre) (k .word .result) (k .word .ensures) (c .before .before .before .before .resolve-projections .ensures)))
