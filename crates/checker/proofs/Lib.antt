@@ -16,3 +16,11 @@ pub mod ApartSheets
 pub mod Sizes
 pub mod Codes
 pub mod Uses
+pub mod Opening
+pub mod Filling
+pub mod Adding
+pub mod Sorts
+pub mod Placing
+pub mod Appending
+pub mod Finishing
+pub mod Logging

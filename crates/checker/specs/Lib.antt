@@ -8,3 +8,7 @@ pub mod Agree
 pub mod Fits
 pub mod Uses
 pub mod Cases
+pub mod Filled
+pub mod Adding
+pub mod Checked
+pub mod Accepted

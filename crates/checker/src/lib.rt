@@ -1,7 +1,53 @@
-// The check call. So far the definition of its five lists stands in specs/, with what is proved of them, and the test of cause 8.
+// The check call: a sheet's scopes, bindings, carried names, recorded uses and findings, into lists that are lent; or a refusal, 1 to 8,
+// which alters none of them. Lists are flat words, an entry each: scopes 4 (kind, parent + 1 or 0, start, end), bindings 6 (scope, name,
+// variable, kind, 1 if it replaced one, the variable replaced or 0), carried 3 (barrier, name, variable), recorded 5 (use id, 1 found or 0
+// unresolved, variable, kind, via_projection), findings 6 (code, start, end, name + 1 or 0, two details).
+mod lists;
+mod passes;
+
+use lists::append_findings;
+use lists::fill_bindings;
+use lists::fill_carried;
+use lists::fill_findings;
+use lists::fill_recorded;
+use lists::fill_scopes;
+use passes::kinds_of;
+use passes::log_of;
+use passes::scan;
+use sheet::Opened;
+use sheet::Places;
+use sheet::open;
+use words::count;
 ghost use mathlib.Core.Path.{_≡_};
-ghost use mathlib.Core.Bool.{Bool};
+ghost use mathlib.Core.Bool.{Bool, true};
+ghost use mathlib.Core.List.{List, [], _∷_, _++_};
+ghost use Prim.Native.Nat.{ℕ, _*_, _≤_};
+ghost use lib.ListN.{length};
+ghost use Rattle.words.specs.Words.{words};
+ghost use Rattle.tables.specs.Index.{indexOf};
+ghost use Rattle.sheet.specs.Read.{readSheet};
+ghost use Rattle.resolve.specs.Log.{scopesIn, bindsIn, carriesIn, answersIn, findsIn};
+ghost use Rattle.resolve.specs.Walk.{events};
+ghost use Rattle.checker.specs.Lists.{puts, notes};
 ghost use Rattle.checker.specs.Room.{enough};
+ghost use Rattle.checker.specs.Filled.{withScopes, withBindings, withCarried, withRecorded, withFindings};
+ghost use Rattle.checker.specs.Accepted.{namesOf, logOf, kindsOf, Opens, Wide};
+ghost use Rattle.checker.specs.Checked.{Lent, roomy, Fills, answerFor, leftFor};
+
+// How many entries the lists have.
+pub struct Counts {
+    pub scopes: usize,
+    pub bindings: usize,
+    pub carried: usize,
+    pub recorded: usize,
+    pub findings: usize,
+}
+
+// The lists' counts, or the refusal's number.
+pub enum Checked {
+    Is(Counts),
+    Refused(u32),
+}
 
 // Whether a list of so many flat words has an entry of a width for each word of a sheet; cause 8 where one has not.
 pub fn has_room(words: usize, len: usize, width: usize) -> bool
@@ -11,4 +57,115 @@ pub fn has_room(words: usize, len: usize, width: usize) -> bool
         return false;
     }
     words <= len / width
+}
+
+// Whether all five lists have.
+fn have_room(
+    words: usize,
+    scopes: &[u32],
+    bindings: &[u32],
+    carried: &[u32],
+    recorded: &[u32],
+    findings: &[u32],
+) -> bool
+    ensures { λ r. ⌜ r ≡ roomy words (record { scopes = now (scopes .entry); bindings = now (bindings .entry); carried = now (carried .entry); recorded = now (recorded .entry); findings = now (findings .entry) }) ⌝ }
+{
+    let a = has_room(words, scopes.len(), 4);
+    let b = has_room(words, bindings.len(), 6);
+    let c = has_room(words, carried.len(), 3);
+    let d = has_room(words, recorded.len(), 5);
+    let e = has_room(words, findings.len(), 6);
+    a & (b & (c & (d & e)))
+}
+
+// The findings of the log, and after them those of the kinds walk, which takes the log's place.
+fn fill_all_findings(
+    s: &[u8],
+    p: Places,
+    ident: u32,
+    log: &mut [u32],
+    n: usize,
+    out: &mut [u32],
+) -> usize
+    requires { ⌜ (Opens (now s) p × (ident ≡ indexOf (105 ∷ 100 ∷ []) (namesOf (readSheet (now s))))) × (((n * 5 ≤ length (now log)) × Wide 6 (now s) (now log)) × ((n * 6 ≤ length (now out)) × (length (findsIn (events n (now log)) ++ kindsOf (readSheet (now s))) * 6 ≤ length (now out)))) ⌝ }
+    ensures { λ r. ⌜ (r ≡ length (findsIn (events n (now (log .entry))) ++ kindsOf (readSheet (now (s .entry))))) × (now (out .exit) ≡ withFindings (now (out .entry)) (findsIn (events n (now (log .entry))) ++ kindsOf (readSheet (now (s .entry))))) ⌝ }
+{
+    let m = fill_findings(log, n, out);
+    let k = kinds_of(s, p, ident, log);
+    append_findings(log, k, out, m)
+}
+
+// The lists of an accepted sheet, which have room; the other four are scratch, with as many entries as the sheet has words.
+fn fill(
+    s: &[u8],
+    p: Places,
+    warns: bool,
+    tab: &mut [u32],
+    ids: &mut [u32],
+    vis: &mut [u32],
+    log: &mut [u32],
+    scopes: &mut [u32],
+    bindings: &mut [u32],
+    carried: &mut [u32],
+    recorded: &mut [u32],
+    findings: &mut [u32],
+) -> Counts
+    requires { ⌜ (Opens (now s) p × ((Wide 1 (now s) (now tab) × Wide 1 (now s) (now ids)) × (Wide 2 (now s) (now vis) × Wide 6 (now s) (now log)))) × (roomy (length (words (now s))) (record { scopes = now scopes; bindings = now bindings; carried = now carried; recorded = now recorded; findings = now findings }) ≡ true) ⌝ }
+    ensures { λ r. ⌜ Fills warns (readSheet (now (s .entry))) (record { scopes = now (scopes .entry); bindings = now (bindings .entry); carried = now (carried .entry); recorded = now (recorded .entry); findings = now (findings .entry) }) r (record { scopes = now (scopes .exit); bindings = now (bindings .exit); carried = now (carried .exit); recorded = now (recorded .exit); findings = now (findings .exit) }) ⌝ }
+{
+    let m = scan(s, p, tab, ids);
+    let n = log_of(s, p, m.star, warns, ids, vis, log);
+    let a = fill_scopes(log, n, scopes);
+    let b = fill_bindings(log, n, bindings);
+    let c = fill_carried(log, n, carried);
+    let d = fill_recorded(log, n, recorded);
+    let f = fill_all_findings(s, p, m.ident, log, n, findings);
+    Counts {
+        scopes: a,
+        bindings: b,
+        carried: c,
+        recorded: d,
+        findings: f,
+    }
+}
+
+// The check call, warnings on or off.
+pub fn check(
+    s: &[u8],
+    warns: bool,
+    scopes: &mut [u32],
+    bindings: &mut [u32],
+    carried: &mut [u32],
+    recorded: &mut [u32],
+    findings: &mut [u32],
+) -> Checked
+    ensures answer { λ r. ⌜ r ≡ answerFor warns (now (s .entry)) (record { scopes = now (scopes .entry); bindings = now (bindings .entry); carried = now (carried .entry); recorded = now (recorded .entry); findings = now (findings .entry) }) ⌝ }
+    ensures { λ r. ⌜ record { scopes = now (scopes .exit); bindings = now (bindings .exit); carried = now (carried .exit); recorded = now (recorded .exit); findings = now (findings .exit) } ≡ leftFor warns (now (s .entry)) (record { scopes = now (scopes .entry); bindings = now (bindings .entry); carried = now (carried .entry); recorded = now (recorded .entry); findings = now (findings .entry) }) ⌝ }
+{
+    match open(s) {
+        Opened::Refused(c) => Checked::Refused(c),
+        Opened::At(p) => {
+            if !have_room(count(s), scopes, bindings, carried, recorded, findings) {
+                return Checked::Refused(8);
+            }
+            let mut tab = [0u32; 2048];
+            let mut ids = [0u32; 2048];
+            let mut vis = [0u32; 4096];
+            let mut log = [0u32; 12288];
+            Checked::Is(fill(
+                s,
+                p,
+                warns,
+                &mut tab,
+                &mut ids,
+                &mut vis,
+                &mut log,
+                scopes,
+                bindings,
+                carried,
+                recorded,
+                findings,
+            ))
+        }
+    }
 }

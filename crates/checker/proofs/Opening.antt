@@ -1,0 +1,108 @@
+-- What the steps of the check call ask follows from what the sheet's reader accepts.
+use Prim.Native.Nat.{ℕ, _+_, _-_, _*_, _≤_}
+use native.Mathlib.Omega.{arith}
+use mathlib.Core.Path.{_≡_, refl, ap, sym, _∙_}
+use mathlib.Core.Bool.{Bool, true, false}
+use mathlib.Core.List.{List, [], _∷_, map}
+use lib.ListN.{length, take, drop, length-take, length-append}
+use Rattle.words.specs.Words.{words}
+use Rattle.words.specs.Fnv.{useId}
+use Rattle.heads.specs.Got.{Got, ok, no, many, isOk}
+use Rattle.heads.specs.declared.Read.{Read}
+use Rattle.heads.specs.declared.Read.the-variants as read
+use Rattle.expr.proofs.Inverse.{never}
+use Rattle.clauses.specs.Tree.{Clause}
+use Rattle.clauses.specs.Read.{readClause}
+use Rattle.tables.specs.Name.{readName}
+use Rattle.tables.specs.Answer.{namesIn, Scanned}
+use Rattle.tables.specs.Index.{indexOf}
+use Rattle.sheet.specs.Statement.{Statement}
+use Rattle.sheet.specs.Read.{Sheet, accepted, refused, readSheet}
+use Rattle.sheet.specs.declared.trailer.Places.{Places}
+use Rattle.sheet.proofs.Accepted.{accepted-words}
+use Rattle.sheet.proofs.Walked.{WalkedSheet, walked}
+use Rattle.resolve.specs.Log.{findsIn}
+use Rattle.resolve.specs.Resolve.{worldOf, log}
+use Rattle.kinds.specs.Kinds.{kinds}
+use Rattle.kinds.specs.Walk as kind-walk
+use Rattle.kinds.specs.Walk.{Pushed, found, worldAt, tablesAt}
+use Rattle.kinds.specs.declared.Env as kind-env
+use Rattle.kinds.specs.declared.Walked.{Walked}
+use Rattle.kinds.proofs.Accepted.{table-at, well-rows}
+use Rattle.kinds.proofs.Same.{true-world}
+use Rattle.checker.specs.Lists.{lists}
+use Rattle.checker.proofs.Sizes.{fits}
+use Rattle.checker.specs.Accepted.{isAccepted, namesOf, kindsOf, Opens, Wide}
+
+-- the statement that an accepted sheet holds
+pub record Held (s : List ℕ) (p : Places) : Type 0 where
+  pub statement : Statement
+  pub reads : readSheet s ≡ accepted statement
+  pub walked : WalkedSheet s p statement
+  pub span : (statement .start ≡ p .start) × (statement .stop ≡ p .end)
+
+pub held : {s : List ℕ} {p : Places} → Opens s p → Held s p
+held {s} {p} o = shown (readSheet s) refl (o .accepted)
+  where
+    shown : (x : Sheet Statement) → readSheet s ≡ x → isAccepted x ≡ true → Held s p
+    shown (accepted st) e h = let x = accepted-words s st e .3 in
+        record { statement = st; reads = e; walked = rw (o .places) (walked s st e); span = rw (o .places) (x .start, x .stop) }
+    shown (refused c) e h = never (cc)
+
+abbrev pub kindEnv : Places → ℕ → kind-env.Env
+kindEnv p ident = record { names = p .names; rows = p .rows; bindings = p .bindings; ident = ident }
+
+-- the kinds walk over the head, in the words of the part that ends with it
+module _ {s : List ℕ} {p : Places} (h : Held s p) {ws : List ℕ} (cut : ws ≡ take (p .tail) (words s)) where
+  length-cut : length ws ≡ p .tail
+  length-cut =
+      let w = h .walked in
+      ap length cut ∙ length-take (p .tail) (words s) ∙ (omega (arith, w .places .tail, w .whole))
+
+  head-is : (ident : ℕ) → many (readClause (tablesAt ws (kindEnv p ident))) (p .clauses) (drop (p .head) ws) ≡ ok (h .statement .head) []
+  head-is ident = rw cut (h .walked .headRead)
+
+  pub kinds-ready : (ident : ℕ) (out : List ℕ) → Wide 6 s out → kind-walk.Ready ws (kindEnv p ident) (p .head) 0 out (many (readClause (tablesAt ws (kindEnv p ident))) (p .clauses) (drop (p .head) ws))
+  kinds-ready ident out wide =
+      let w = h .walked in
+      record {
+        within = omega (arith, length-cut, w .places .head);
+        bindings = omega (arith, length-cut, w .table, w .places .head);
+        well = rw (cut, table-at w (p .tail) (omega (arith, w .table, w .places .head))) (well-rows w);
+        long = omega (arith, length-cut, w .whole, w .places .tail);
+        fine = rw (head-is ident);
+      }
+
+  pub kinds-done : (ident : ℕ) (old new : List ℕ) (r : Walked) → ident ≡ indexOf (105 ∷ 100 ∷ []) (namesOf (readSheet s)) → kind-walk.Checked ws (p .head) 0 old new (kinds (worldAt ws (kindEnv p ident))) (many (readClause (tablesAt ws (kindEnv p ident))) (p .clauses) (drop (p .head) ws)) r → Pushed old new 0 (kindsOf (readSheet s)) (r .count)
+  unfolding worldOf
+  kinds-done ident old new r e v =
+      let w = h .walked in
+      let t = true-world (worldOf false (h .statement)) ws (kindEnv p ident) (rw (h .reads) at e) (w .tabled .apart) (rw cut (table-at w (p .tail) (omega (arith, w .table, w .places .head)))) (h .statement .head) in
+      let f : found (kinds (worldAt ws (kindEnv p ident))) (many (readClause (tablesAt ws (kindEnv p ident))) (p .clauses) (drop (p .head) ws)) ≡ kindsOf (readSheet s) = ap (found (kinds (worldAt ws (kindEnv p ident)))) (head-is ident) ∙ t ∙ sym (ap kindsOf (h .reads)) in
+      record { count = rw (← f) (v .count); wrote = rw (← f) (v .wrote) }
+
+-- the names, and their use ids
+pub scanned-names : {s : List ℕ} {n : ℕ} {tab ids : List ℕ} (r : Read) {ns : List (List ℕ)} → Scanned s n tab ids r → many readName n s ≡ ok ns [] → (namesIn s n tab ≡ ns) × ((take n ids ≡ map useId ns) × (n * 4 ≤ length s))
+scanned-names (read.Next q) x e =
+    let f = sym (x .same) ∙ e in
+    let g = named f in
+    (g, (x .fit ∙ ap (map useId) g, omega (arith, x .ends .0, x .ends .1)))
+  where
+    named : {ns ms : List (List ℕ)} {l m : List ℕ} → _≡_ {A = Got (List (List ℕ))} (ok ns l) (ok ms m) → ns ≡ ms
+    named f = cc
+scanned-names (read.Refused c) x e = never (let f = sym (x .same) ∙ e in cc)
+
+module _ {s : List ℕ} {p : Places} (h : Held s p) {part : List ℕ} (cut : part ≡ take (p .rows * 4) s) where
+  pub names-read : many readName (p .names) part ≡ ok (h .statement .names) []
+  names-read = rw cut (h .walked .tabled .namesRead)
+
+  pub part-long : length part ≡ p .rows * 4
+  part-long = let w = h .walked .places in ap length cut ∙ length-take (p .rows * 4) s ∙ omega (arith, w .rows, w .head, w .tail, w .trailer)
+
+-- as many findings as words, at most
+pub kinds-few : {s : List ℕ} {p : Places} → Held s p → length (kindsOf (readSheet s)) ≤ length (words s)
+unfolding lists
+kinds-few {s} h =
+    let st = h .statement in
+    let f = fits false s st (h .reads) .findings in
+    omega (arith, f, ap (λ (x : Sheet Statement). length (kindsOf x)) (h .reads), length-append (findsIn (log false st)) (kinds (worldOf false st) (st .head)))

@@ -1,0 +1,77 @@
+-- What the check call answers and leaves, for any sheet, warning choice and lists (document 01, "What comes out"; causes 1 to 8).
+use Prim.Native.Nat.{ℕ}
+use mathlib.Core.Path.{_≡_}
+use mathlib.Core.Bool.{Bool, true, false, _&&_}
+use mathlib.Core.List.{List, []}
+use lib.ListN.{length}
+use Rattle.words.specs.Words.{words}
+use Rattle.sheet.specs.Statement.{Statement}
+use Rattle.sheet.specs.Read.{Sheet, accepted, refused, readSheet}
+use Rattle.checker.specs.Lists.{scopes, bindings, carriedList, recorded, findings}
+use Rattle.checker.specs.Room.{enough}
+use Rattle.checker.specs.Filled.{withScopes, withBindings, withCarried, withRecorded, withFindings}
+use Rattle.checker.specs.declared.Counts.{Counts}
+use Rattle.checker.specs.declared.Checked.{Checked}
+use Rattle.checker.specs.declared.Checked.the-variants as checked
+
+-- the five lent lists
+pub record Lent : Type 0 where
+  pub scopes : List ℕ
+  pub bindings : List ℕ
+  pub carried : List ℕ
+  pub recorded : List ℕ
+  pub findings : List ℕ
+
+-- cause 8: "a lent list with fewer entries than the sheet has words"
+unfoldable pub roomy : ℕ → Lent → Bool
+roomy n l =
+    enough n (length (l .scopes)) 4
+    && (enough n (length (l .bindings)) 6
+    && (enough n (length (l .carried)) 3 && (enough n (length (l .recorded)) 5 && enough n (length (l .findings)) 6)))
+
+module _ (warns : Bool) where
+  -- "Five lists with counts"
+  unfoldable pub countsOf : Statement → Counts
+  countsOf st =
+      record {
+        scopes = length (scopes warns st);
+        bindings = length (bindings warns st);
+        carried = length (carriedList warns st);
+        recorded = length (recorded warns st);
+        findings = length (findings warns st);
+      }
+
+  -- each list filled, "entries past a count are untouched"
+  unfoldable pub filledBy : Statement → Lent → Lent
+  filledBy st l =
+      record {
+        scopes = withScopes (l .scopes) (scopes warns st);
+        bindings = withBindings (l .bindings) (bindings warns st);
+        carried = withCarried (l .carried) (carriedList warns st);
+        recorded = withRecorded (l .recorded) (recorded warns st);
+        findings = withFindings (l .findings) (findings warns st);
+      }
+
+  -- the answer: the counts, or the first cause, 8 after the others
+  unfoldable pub answer : Sheet Statement → Bool → Checked
+  answer (refused c) room = checked.Refused c
+  answer (accepted st) false = checked.Refused 8
+  answer (accepted st) true = checked.Is (countsOf st)
+
+  -- the lists: filled, or "a refusal alters nothing"
+  unfoldable pub left : Sheet Statement → Bool → Lent → Lent
+  left (refused c) room l = l
+  left (accepted st) false l = l
+  left (accepted st) true l = filledBy st l
+
+-- the same for the bytes of a sheet
+unfoldable pub answerFor : Bool → List ℕ → Lent → Checked
+answerFor warns s l = answer warns (readSheet s) (roomy (length (words s)) l)
+
+unfoldable pub leftFor : Bool → List ℕ → Lent → Lent
+leftFor warns s l = left warns (readSheet s) (roomy (length (words s)) l) l
+
+-- an accepted sheet's lists are filled, and counted
+pub record Fills (warns : Bool) (x : Sheet Statement) (old : Lent) (r : Counts) (new : Lent) : Type 0 where
+  pub counts : checked.Is r ≡ answer warns x true
+  pub lists : new ≡ left warns x true old
