@@ -25,7 +25,8 @@ use Rattle.resolve.proofs.Adds.{exprs-adds, projections-adds, carried-adds, ope
 use Rattle.resolve.proofs.Decode.{length-seens}
 use Rattle.resolve.proofs.Heights.{Rises, after-rises, expr-rises, exprs-rises}
 use Rattle.resolve.proofs.Moved.{moves-then}
-use Rattle.resolve.proofs.Walks.{Grows, after-adds, bare-map, stepped, and-then, ready-on, rest-ready, rest-done, risen, settled}
+use Rattle.resolve.proofs.Walks.{Grows, after-adds, bare-map, and-then, ready-on, rest-ready, rest-done, risen, settled}
+use Rattle.logs.proofs.Begun.{placed-at, here}
 
 -- ---- the body by its kind
 
@@ -39,17 +40,14 @@ module _ {A : Type 0} {ws : List ℕ} {e : Env} {ids : List ℕ} {a b k : ℕ} {
   kept : Ready ws e ids vis log w (runC (factsAt ws e ids)) (readBody (tablesAt ws e) a b k (drop (w .at) ws))
   kept = subst (λ (n : ℕ). Ready ws e ids vis log w (runC (factsAt ws e ids)) (readBody (tablesAt ws e) a b n (drop (w .at) ws))) q o
 
-  here : Walks ws vis log vis log w w (ok tt (drop (w .at) ws)) (stateOf vis log w)
-  here = stepped w (w .at) (o .room .cur) (omega arith) (o .within)
-
   pub body-ready : Ready ws e ids vis log w run (R (drop (w .at) ws))
   body-ready =
-      rest-ready here kept run (R (drop (w .at) ws)) (p .grows) (ok-bare (R (drop (w .at) ws)) (readBody (tablesAt ws e) a b k (drop (w .at) ws)) (p .shape (drop (w .at) ws)) (kept .fine)) (p .runs (drop (w .at) ws) (stateOf vis log w))
+      rest-ready (here kept) kept run (R (drop (w .at) ws)) (p .grows) (ok-bare (R (drop (w .at) ws)) (readBody (tablesAt ws e) a b k (drop (w .at) ws)) (p .shape (drop (w .at) ws)) (kept .fine)) (p .runs (drop (w .at) ws) (stateOf vis log w))
 
   pub body-done : {vis' log' : List ℕ} {r : Walk} → Resolved ws vis log vis' log' w run (R (drop (w .at) ws)) r → Resolved ws vis log vis' log' w (runC (factsAt ws e ids)) (readBody (tablesAt ws e) a b kind (drop (w .at) ws)) r
   body-done {vis'} {log'} {r} v =
       subst (λ (n : ℕ). Resolved ws vis log vis' log' w (runC (factsAt ws e ids)) (readBody (tablesAt ws e) a b n (drop (w .at) ws)) r) (sym q)
-      (rest-done here kept run (R (drop (w .at) ws)) (p .shape (drop (w .at) ws)) (p .runs (drop (w .at) ws) (stateOf vis log w)) v)
+      (rest-done (here kept) kept run (R (drop (w .at) ws)) (p .shape (drop (w .at) ws)) (p .runs (drop (w .at) ws) (stateOf vis log w)) v)
 
 -- the clause itself is read; or it is made of what is read, and run as that
 made-runs : {A : Type 0} (f : Facts) (j : A → Clause) (run : A → State → State) → ((x : A) (σ : State) → run x σ ≡ runC f (j x) σ) → (y : Got A) (σ : State) → after run y σ ≡ after (runC f) (bind y (λ x r. ok (j x) r)) σ
@@ -197,7 +195,7 @@ module _ (a b : ℕ) {ws : List ℕ} {e : Env} {ids vis log : List ℕ} {w : Wal
 
   pub listed-ready : Ready ws e ids vis log w (runPs known) listed
   listed-ready =
-      ready-on (stepped w (w .at) (o .room .cur) (omega arith) (o .within)) o (runPs known) listed (record { added = projections-adds known }) listed-fine
+      ready-on (here o) o (runPs known) listed (record { added = projections-adds known }) listed-fine
       (omega (arith, looked-fits (some .0) (some .1), after-adds {run = runEs known} (record { added = exprs-adds known }) (filter (some .0)) (after (runPs known) listed (stateOf vis log w))))
 
   module _ {vis1 log1 : List ℕ} {v : Walk} (m : Resolved ws vis log vis1 log1 w (runPs known) listed v) where
@@ -213,13 +211,7 @@ module _ (a b : ℕ) {ws : List ℕ} {e : Env} {ids vis log : List ℕ} {w : Wal
       back =
           let d = and-then m (after (runEs known) (filter (drop (v .at) ws))) n in
           let h = risen d (le-trans (after-rises (runPs known) (projections-rise known) listed (stateOf vis log w)) (after-rises (runEs known) (exprs-rises known) (filter (drop (v .at) ws)) (after (runPs known) listed (stateOf vis log w)))) in
-          let s = settled d h .moves in
-          record {
-            rest = refl;
-            from = omega arith;
-            within = o .within;
-            moves = record { events = s .events; top = s .top; last = s .last; later = s .later; cur = s .cur; seen = s .seen; wrote = s .wrote; state = s .state };
-          }
+          placed-at (settled d h) (w .at) (omega arith) (o .within)
 
       pub carry-ready : Ready ws e ids vis2 log2 again (runCarried known a b) listed
       carry-ready = rest-ready back o (runCarried known a b) listed (record { added = carried-adds known a b }) listed-fine (sym (with-same (drop (v .at) ws) (m .rest)))

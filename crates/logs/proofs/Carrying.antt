@@ -16,7 +16,7 @@ use Rattle.heads.specs.declared.Form.{Form}
 use Rattle.expr.specs.Tree.{Expr, predicate, comprehension, node}
 use Rattle.expr.specs.Read.{Reader, readExpr, times, marks, noMore, pattern}
 use Rattle.expr.proofs.Inverse.{never}
-use Rattle.expr.proofs.Accepted.{Begins, begin-is, ok-left, expr-is}
+use Rattle.expr.proofs.Accepted.{begin-is, ok-left, expr-is}
 use Rattle.expr.proofs.Split.{joinE}
 use Rattle.expr.proofs.Repeats.{manyOfRow}
 use Rattle.clauses.specs.Tree.{Projection, projection}
@@ -41,7 +41,9 @@ use Rattle.resolve.proofs.Runs.{above-more, length-above}
 use Rattle.resolve.proofs.Stacks.{below-seens}
 use Rattle.resolve.proofs.Moved.{log-length, entered-moves, said-moves, moves-then, room-on}
 use Rattle.resolve.proofs.Walks.{Grows, after-adds, ready-on, Rounds, leapt, told, risen, room-first}
-use Rattle.logs.proofs.Begun.{word-room}
+use Rattle.logs.proofs.Begun.{placed, placed-at, counted-begins, word-room}
+use Rattle.logs.proofs.Entering.{Enters, enter-fits, entered}
+use Rattle.logs.proofs.Rows.{projection-begins}
 
 -- ---- one projection
 
@@ -71,10 +73,6 @@ pub pairs-rise : (l : List Seen) (σ : State) → Rises σ (carryPairs l σ)
 unfolding carryPairs see say
 pairs-rise [] σ = le-refl _
 pairs-rise (seen x v ∷ l) σ = omega (arith, pairs-rise l (see x v (say (carry (carried (σ .cur) x v) ∷ []) σ)))
-
-pub projection-begins : (t : Tables) → Begins (readProjection t) (λ a r. bind (clauseExpr t r) (λ e r2. ok (projection (aliasOf a) e) r2))
-unfolding readProjection
-projection-begins t = record { low = 0; high = suc (t .names); same = λ ws. refl }
 
 -- an expression carries by what its head asks
 module _ (f : Facts) (n : ℕ) (a : Option ℕ) (σ : State) where
@@ -122,10 +120,10 @@ module _ {ws : List ℕ} {e : Env} {ids vis log : List ℕ} {mark : ℕ} {w : Wa
       ∙ ap (λ (b : List Seen). carryPairs (carriesBy (tableAt ws (e .rows) (e .bindings)) (aliasOf x) (directOf (turnOf h)) (above (w .base) b)) σ) (below-seens mark (w .top) vis m)
       ∙ ap (λ (b : List Seen). carryPairs b σ) (sym k))
 
-  pub pair-room : (p : ℕ) → Room (length (carryPairs l (stateOf vis log w) .log)) vis log (record { at = p; events = w .events; last = w .last; top = w .top; base = w .base; cur = w .cur })
+  pub pair-room : (p : ℕ) → Room (length (carryPairs l (stateOf vis log w) .log)) vis log (placed p w)
   pair-room p = room-first o p (carryPairs l (stateOf vis log w)) (pairs-adds l (stateOf vis log w)) (omega (arith, ap (λ (τ : State). length (τ .log)) same))
 
-  pub pair-done : {vis' log' : List ℕ} {p : ℕ} {v : Walk} → w .at ≤ p → p ≤ length ws → bare (readProjection (tablesAt ws e) (drop (w .at) ws)) ≡ ok tt (drop p ws) → Stays vis log vis' log' (record { at = p; events = w .events; last = w .last; top = w .top; base = w .base; cur = w .cur }) v (carryPairs l (stateOf vis log w)) → (w .top ≤ v .top) × Resolved ws vis log vis' log' w (carryP (factsAt ws e ids) mark) (readProjection (tablesAt ws e) (drop (w .at) ws)) v
+  pub pair-done : {vis' log' : List ℕ} {p : ℕ} {v : Walk} → w .at ≤ p → p ≤ length ws → bare (readProjection (tablesAt ws e) (drop (w .at) ws)) ≡ ok tt (drop p ws) → Stays vis log vis' log' (placed p w) v (carryPairs l (stateOf vis log w)) → (w .top ≤ v .top) × Resolved ws vis log vis' log' w (carryP (factsAt ws e ids) mark) (readProjection (tablesAt ws e) (drop (w .at) ws)) v
   pair-done f g b d =
       let u = leapt {ws = ws} w f g d in
       (risen u (pairs-rise l (stateOf vis log w)), told u (b ∙ u .rest) (sym same))
@@ -168,10 +166,6 @@ module _ (t : List Row) (s mark : ℕ) (vis : List ℕ) where
 
 -- ---- the barrier, and the new Root
 
-pub counted-begins : (t : Tables) → Begins (counted (readProjection t)) (λ n r. many (readProjection t) n r)
-unfolding counted
-counted-begins t = record { low = 0; high = 4294967296; same = λ ws. refl }
-
 runs-carried : (f : Facts) (a b k : ℕ) (g : Got (List Projection)) (σ : State) → length (σ .stack) ≡ k → isOk g ≡ true → after (runCarried f a b) g σ ≡ rebase k (bindFrom f k (enter rootScope b b (after (carryPs f k) g (enter withBarrier a b σ))))
 unfolding runCarried
 runs-carried f a b k (ok ps r) σ e o = ap (λ (n : ℕ). rebase n (bindFrom f n (enter rootScope b b (carryPs f n ps (enter withBarrier a b σ))))) e
@@ -186,10 +180,7 @@ from-count f k b τ =
     let m = open' (scope rootScope (some (τ .cur)) b b) ∷ [] in
     omega (arith, length-append (τ .log ++ m) (map g (reverse l)), length-append (τ .log) m, length-map (reverse l) g, length-reverse l, length-above k (τ .stack))
 
--- the same walk at another word; and with the entries from n up visible
-moved-to : {vis log vis' log' : List ℕ} {w v : Walk} {σ : State} → Moves vis log vis' log' w v σ → (p : ℕ) → Moves vis log vis' log' w (record { at = p; events = v .events; last = v .last; top = v .top; base = v .base; cur = v .cur }) σ
-moved-to m p = record { events = m .events; top = m .top; last = m .last; later = m .later; cur = m .cur; seen = m .seen; wrote = m .wrote; state = m .state }
-
+-- the same walk, with the entries from n up visible
 rebased : {vis log vis' log' : List ℕ} {w v : Walk} {σ : State} → Moves vis log vis' log' w v σ → (n : ℕ) → Moves vis log vis' log' w (record { at = v .at; events = v .events; last = v .last; top = v .top; base = n; cur = v .cur }) (rebase n σ)
 unfolding rebase
 rebased m n = record { events = m .events; top = m .top; last = m .last; later = m .later; cur = m .cur; seen = m .seen; wrote = m .wrote; state = ap (rebase n) (m .state) }
@@ -213,7 +204,7 @@ module _ (a b : ℕ) {ws : List ℕ} {e : Env} {ids vis log : List ℕ} {w : Wal
   brought = after (carryPs facts (w .top)) rest barred
 
   row-is : whole ≡ rest
-  row-is = begin-is (counted-begins (tablesAt ws e)) ws (w .at) (o .fine) x q
+  row-is = begin-is (counted-begins (readProjection (tablesAt ws e))) ws (w .at) (o .fine) x q
 
   row-fine : isOk rest ≡ true
   row-fine = rw row-is at (o .fine)
@@ -227,27 +218,22 @@ module _ (a b : ℕ) {ws : List ℕ} {e : Env} {ids vis log : List ℕ} {w : Wal
   grows : Grows (carryPs facts (w .top))
   grows = record { added = carries-adds facts (w .top) }
 
-  brought-count : suc (w .events) ≤ length (brought .log)
-  brought-count = omega (arith, after-adds grows rest barred, enter-count withBarrier a b (stateOf vis log w), log-length vis log w)
-
-  pub barrier-fits : ((w .events + 1) * 5 ≤ length log) × ((w .cur ≤ w .last) × (w .last < 4294967295))
-  barrier-fits = (omega (arith, o .room .events, all-count, brought-count), (o .room .cur, omega (arith, o .room .last, all-count, brought-count)))
+  pub barrier-fits : Enters log w
+  barrier-fits = enter-fits (o .room) withBarrier a b (omega (arith, all-count, after-adds grows rest barred))
 
   module _ {log1 : List ℕ} {v : Walk} (d : Entered log log1 withBarrier a b w v) where
     abbrev inner : Walk
-    inner = record { at = w .at + 1; events = v .events; last = v .last; top = v .top; base = v .base; cur = v .cur }
+    inner = placed (w .at + 1) v
 
-    entered : Walks ws vis log vis log1 w inner (ok tt (drop (w .at + 1) ws)) barred
-    entered =
-        let h : w .at < length ws = word-room (counted-begins (tablesAt ws e)) o in
-        record { rest = refl; from = omega arith; within = omega arith; moves = moved-to (entered-moves vis (o .room .cur) d) (w .at + 1) }
+    barrier-walks : Walks ws vis log vis log1 w inner (ok tt (drop (w .at + 1) ws)) barred
+    barrier-walks = let h : w .at < length ws = word-room (counted-begins (readProjection (tablesAt ws e))) o in placed-at (entered o d) (w .at + 1) (omega arith) (omega arith)
 
     pub row-ready : (w .top ≤ v .top) × Ready ws e ids vis log1 inner (carryPs facts (w .top)) rest
-    row-ready = (omega (arith, d .top), ready-on entered o (carryPs facts (w .top)) rest grows row-fine (omega (arith, all-count)))
+    row-ready = (omega (arith, d .top), ready-on barrier-walks o (carryPs facts (w .top)) rest grows row-fine (omega (arith, all-count)))
 
     module _ {vis2 log2 : List ℕ} {u : Walk} (g : (v .top ≤ u .top) × Resolved ws vis log1 vis2 log2 inner (carryPs facts (w .top)) rest u) where
       brings : Moves vis log vis2 log2 w u brought
-      brings = moves-then (after (carryPs facts (w .top)) rest) (entered .moves) (g .1 .moves)
+      brings = moves-then (after (carryPs facts (w .top)) rest) (barrier-walks .moves) (g .1 .moves)
 
       events-are : length (brought .log) ≡ u .events
       events-are = ap (λ (τ : State). length (τ .log)) (sym (brings .state)) ∙ log-length vis2 log2 u
@@ -255,11 +241,11 @@ module _ (a b : ℕ) {ws : List ℕ} {e : Env} {ids vis log : List ℕ} {w : Wal
       height-is : length (brought .stack) ≡ u .top
       height-is = ap (λ (τ : State). length (τ .stack)) (sym (brings .state)) ∙ length-seens (u .top) vis2
 
-      left : (n : ℕ) → n ≡ suc (u .events) + (u .top - w .top) → Room n vis2 log2 u
-      left n h = room-on n (o .room) brings (omega arith) (omega (arith, all-count, events-are, height-is))
+      left : Room (suc (u .events) + (u .top - w .top)) vis2 log2 u
+      left = room-on _ (o .room) brings (omega arith) (omega (arith, all-count, events-are, height-is))
 
-      pub root-fits : ((u .events + 1) * 5 ≤ length log2) × ((u .cur ≤ u .last) × (u .last < 4294967295))
-      root-fits = let r = left (suc (u .events) + (u .top - w .top)) refl in (omega (arith, r .events), (r .cur, omega (arith, r .last)))
+      pub root-fits : Enters log2 u
+      root-fits = enter-fits left rootScope b b (omega (arith, enter-count rootScope b b (stateOf vis2 log2 u), log-length vis2 log2 u))
 
       module _ {log3 : List ℕ} {y : Walk} (d2 : Entered log2 log3 rootScope b b u y) where
         roots : Moves vis log vis2 log3 w y (enter rootScope b b brought)
@@ -267,8 +253,7 @@ module _ (a b : ℕ) {ws : List ℕ} {e : Env} {ids vis log : List ℕ} {w : Wal
 
         pub bound-fits : ((e .rows + e .bindings * 5 ≤ length ws) × (wellRows (e .names) (tableAt ws (e .rows) (e .bindings)) ≡ true)) × ((w .top ≤ y .top) × ((y .top * 2 ≤ length vis2) × ((y .events + (y .top - w .top)) * 5 ≤ length log3)))
         bound-fits =
-            let r = left (suc (u .events) + (u .top - w .top)) refl in
-            ((o .tabled .bindings, o .tabled .well), (omega (arith, d .top, g .0, d2 .top), (omega (arith, r .stack, d2 .top), omega (arith, r .events, d2 .top, d2 .said .count, d2 .said .kept))))
+            ((o .tabled .bindings, o .tabled .well), (omega (arith, d .top, g .0, d2 .top), (omega (arith, left .stack, d2 .top), omega (arith, left .events, d2 .top, d2 .said .count, d2 .said .kept))))
 
         pub carried-done : {log4 : List ℕ} {m : ℕ} (p : ℕ) → Said log3 log4 (y .events) (boundUp (tableAt ws (e .rows) (e .bindings)) (y .cur) (w .top) vis2 (y .top)) m → Moves vis log vis2 log4 w (record { at = p; events = m; last = y .last; top = y .top; base = w .top; cur = y .cur }) (after (runCarried facts a b) whole (stateOf vis log w))
         unfolding bindFrom

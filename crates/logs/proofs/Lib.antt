@@ -1,4 +1,5 @@
 pub mod Begun
+pub mod Entering
 pub mod Rows
 pub mod Carrying
 pub mod Yielding

@@ -9,16 +9,15 @@ use lib.ListN.{length, getD, drop}
 use Rattle.heads.specs.Got.{Got, ok, bind, isOk, wordIn, any, many, counted}
 use Rattle.heads.specs.Head.{Tables}
 use Rattle.expr.proofs.Accepted.{Begins, ok-left}
-use Rattle.expr.proofs.Repeats.{manyOfRow}
 use Rattle.clauses.specs.Tree.{Clause, Arm, arm}
 use Rattle.clauses.specs.Read.{readBody, readClause, readArm}
-use Rattle.resolve.specs.Walk.{Facts, seens, after, stateOf, factsAt, tablesAt, Moves, Ready, Walks, Resolved}
-use Rattle.resolve.specs.Lowering.{afresh, runC, runCs, runA, runAs}
+use Rattle.resolve.specs.Walk.{seens, after, stateOf, factsAt, tablesAt, Moves, Ready, Walks, Resolved}
+use Rattle.resolve.specs.Lowering.{afresh, runC, runCs, runA}
 use Rattle.resolve.specs.declared.Env.{Env}
 use Rattle.resolve.specs.declared.Walk.{Walk}
-use Rattle.resolve.proofs.Adds.{clause-adds, clauses-adds, arm-adds, arms-adds}
-use Rattle.resolve.proofs.Walks.{Grows, Rounds, after-map, bare-map, rest-ready, rest-done}
-use Rattle.logs.proofs.Begun.{next, word-room, word-ready, word-done}
+use Rattle.resolve.proofs.Adds.{clause-adds, clauses-adds, arm-adds}
+use Rattle.resolve.proofs.Walks.{Grows, after-map, bare-map, rest-ready, rest-done}
+use Rattle.logs.proofs.Begun.{next, counted-begins, word-room, word-ready, word-done}
 
 -- a walk with nothing visible, in scope 0
 abbrev pub fresh : Walk → Walk
@@ -28,28 +27,6 @@ pub fresh-moves : (vis log : List ℕ) (w : Walk) → Moves vis log vis log w (f
 unfolding afresh seens
 fresh-moves vis log w =
     record { events = omega arith; top = omega arith; last = omega arith; later = omega arith; cur = omega arith; seen = refl; wrote = refl; state = refl }
-
--- rows of clauses and of arms
-module _ (t : Tables) (f : Facts) where
-  pub clauses-rounds : Rounds (manyOfRow (readClause t)) (runCs f) (runC f)
-  unfolding runCs
-  clauses-rounds =
-      record {
-        apart = λ c cs σ. refl;
-        stop = λ σ. refl;
-        adds = record { added = clauses-adds f };
-        first = record { added = clause-adds f };
-      }
-
-  pub arms-rounds : Rounds (manyOfRow (readArm t)) (runAs f) (runA f)
-  unfolding runAs
-  arms-rounds =
-      record {
-        apart = λ a rest σ. refl;
-        stop = λ σ. refl;
-        adds = record { added = arms-adds f };
-        first = record { added = arm-adds f };
-      }
 
 -- the words of a clause, one by one, and those of an arm
 module _ (t : Tables) where
@@ -81,10 +58,6 @@ module _ (t : Tables) where
 
   stop-begins : (a : ℕ) → Begins (armFrom a) (armed a)
   stop-begins a = record { low = a; high = 4294967296; same = λ ws. refl }
-
-  clauses-begins : Begins (counted (readClause t)) (λ n r. many (readClause t) n r)
-  unfolding counted
-  clauses-begins = record { low = 0; high = 4294967296; same = λ ws. refl }
 
 -- ---- a clause
 
@@ -149,16 +122,16 @@ module _ {ws : List ℕ} {e : Env} {ids vis log : List ℕ} {w : Walk} (o : Read
   row-ready = rest-ready begun span-ready (runCs (factsAt ws e ids)) row clauses-grow row-fine row-runs
 
   pub arm-room : w .at + 3 ≤ length ws
-  arm-room = omega (arith, word-room (clauses-begins (tablesAt ws e)) row-ready)
+  arm-room = omega (arith, word-room (counted-begins (readClause (tablesAt ws e))) row-ready)
 
   -- what its clauses ask, and what they leave
   module _ {n : ℕ} (en : n ≡ getD ws (w .at + 1 + 1) 0) where
     pub arm-ready : Ready ws e ids vis log (fresh (next (next (next w)))) (runCs (factsAt ws e ids)) (many (readClause (tablesAt ws e)) n (drop (w .at + 1 + 1 + 1) ws))
-    arm-ready = word-ready (clauses-begins (tablesAt ws e)) row-ready n en clauses-grow
+    arm-ready = word-ready (counted-begins (readClause (tablesAt ws e))) row-ready n en clauses-grow
 
     pub arm-done : {vis' log' : List ℕ} {r : Walk} → Resolved ws vis log vis' log' (fresh (next (next (next w)))) (runCs (factsAt ws e ids)) (many (readClause (tablesAt ws e)) n (drop (w .at + 1 + 1 + 1) ws)) r → Resolved ws vis log vis' log' w (runA (factsAt ws e ids)) (readArm (tablesAt ws e) (drop (w .at) ws)) r
     arm-done v =
         word-done (arm-begins (tablesAt ws e)) o from refl
         (word-done (stop-begins (tablesAt ws e) from) from-ready stop refl
         (rest-done begun span-ready (runCs (factsAt ws e ids)) row (bare-map (arm from stop) row) row-runs
-        (word-done (clauses-begins (tablesAt ws e)) row-ready n en v)))
+        (word-done (counted-begins (readClause (tablesAt ws e))) row-ready n en v)))

@@ -1,6 +1,5 @@
--- What an accepted yield, Unwind and Call say of their words, and where their walks lead; a scope that is entered, the last step of a
--- walk, and the Root.
-use Prim.Native.Nat.{ℕ, zero, suc, _+_, _-_, _*_, _≤_, _<_}
+-- What an accepted yield, Unwind and Call say of their words, and where their walks lead; the last step of a walk, and the Root.
+use Prim.Native.Nat.{ℕ, zero, suc, _+_, _-_, _≤_, _<_}
 use native.Mathlib.Omega.{arith}
 use mathlib.Core.Path.{_≡_, refl, ap, sym, _∙_}
 use mathlib.Core.Bool.{true}
@@ -21,12 +20,13 @@ use Rattle.resolve.specs.Walk.{Facts, State, enter, bindName, bindAnew, nameIn,
 use Rattle.resolve.specs.Lowering.{yielded, runY, runYs, runC, rooted}
 use Rattle.resolve.specs.declared.Env.{Env}
 use Rattle.resolve.specs.declared.Walk.{Walk}
-use Rattle.resolve.proofs.Adds.{anew-adds, enter-count, name-adds, yield-adds, yields-adds}
+use Rattle.resolve.proofs.Adds.{anew-adds, name-adds, yield-adds, yields-adds}
 use Rattle.resolve.proofs.Decode.{length-seens}
-use Rattle.resolve.proofs.Moved.{entered-moves, room-on, log-length}
+use Rattle.resolve.proofs.Moved.{room-on, log-length}
 use Rattle.resolve.proofs.Walks.{Grows, Rounds, after-adds, after-map, and-then, bare-map, leapt, rest-ready, rest-done, stepped, told}
 use Rattle.logs.specs.Root.{Rooted}
-use Rattle.logs.proofs.Begun.{word-ready, word-done}
+use Rattle.logs.proofs.Begun.{placed, placed-at, counted-begins, word-ready, word-done}
+use Rattle.logs.proofs.Entering.{Enters, enter-fits, entered}
 
 -- a yield is bound under its alias, or under its name if it has none
 pub yielded-name : (x a : ℕ) → a ≡ 0 → x ≡ yielded x (aliasOf a)
@@ -55,31 +55,9 @@ root-said s =
       state = λ vis. λ i. record { stack = []; log = s .same i; last = 0; base = 0; cur = 0 };
     }
 
--- ---- a scope that is entered, and the last step of a walk
-
--- the same walk at p
-abbrev pub placed : ℕ → Walk → Walk
-placed p w = record { at = p; events = w .events; last = w .last; top = w .top; base = w .base; cur = w .cur }
+-- ---- the last step of a walk
 
 module _ {A : Type 0} {ws : List ℕ} {e : Env} {ids vis log : List ℕ} {w : Walk} {run : A → State → State} {x : Got A} (o : Ready ws e ids vis log w run x) where
-  -- there is room for a scope whose event is among those to come
-  pub enter-fits : (k a b : ℕ) → length (enter k a b (stateOf vis log w) .log) ≤ length (after run x (stateOf vis log w) .log) → ((w .events + 1) * 5 ≤ length log) × ((w .cur ≤ w .last) × (w .last < 4294967295))
-  enter-fits k a b h =
-      let n = enter-count k a b (stateOf vis log w) in
-      let m = log-length vis log w in
-      (omega (arith, o .room .events), (o .room .cur, omega (arith, o .room .last)))
-
-  -- it is entered, up to p
-  pub entered-at : {log' : List ℕ} {k a b : ℕ} {r : Walk} (p : ℕ) → w .at ≤ p → p ≤ length ws → Entered log log' k a b w r → Walks ws vis log vis log' w (placed p r) (ok tt (drop p ws)) (enter k a b (stateOf vis log w))
-  entered-at p f l d =
-      let m = entered-moves vis (o .room .cur) d in
-      record {
-        rest = refl;
-        from = f;
-        within = l;
-        moves = record { events = m .events; top = m .top; last = m .last; later = m .later; cur = m .cur; seen = m .seen; wrote = m .wrote; state = m .state };
-      }
-
   -- after a walk to u one step is left
   module _ {vis' log' : List ℕ} {u : Walk} {g : Got (Unit {0})} {σ : State} (v : Walks ws vis log vis' log' w u g σ) (step : State → State) (adds : (τ : State) → length (τ .log) ≤ length (step τ .log)) (same : after run x (stateOf vis log w) ≡ step σ) where
     pub last-room : Room (length (step (stateOf vis' log' u) .log)) vis' log' u
@@ -168,10 +146,6 @@ module _ (t : Tables) where
         first = record { added = yield-adds f own a b };
       }
 
-  pub yields-begins : Begins (counted (readYield t)) (λ n r. many (readYield t) n r)
-  unfolding counted
-  yields-begins = record { low = 0; high = 4294967296; same = λ ws. refl }
-
 -- ---- Unwind: a variable, any of which may be bound, and an expression
 
 module _ (ws : List ℕ) (e : Env) (a b : ℕ) where
@@ -208,15 +182,15 @@ module _ {ws : List ℕ} {e : Env} {ids vis log : List ℕ} {w : Walk} (start st
   binds : after (runC (factsAt ws e ids)) (readUnwind (tablesAt ws e) start stop (drop (w .at) ws)) (stateOf vis log w) ≡ bindName name v valueKind (enter unwindScope start stop (stateOf vis log w))
   binds = unwind-runs ws e start stop (w .at) v ev (o .fine) (factsAt ws e ids) name (stateOf vis log w) q
 
-  pub unwind-enters : ((w .events + 1) * 5 ≤ length log) × ((w .cur ≤ w .last) × (w .last < 4294967295))
-  unwind-enters = enter-fits o unwindScope start stop (omega (arith, ap (λ (τ : State). length (τ .log)) binds, name-adds name v valueKind (enter unwindScope start stop (stateOf vis log w))))
+  pub unwind-enters : Enters log w
+  unwind-enters = enter-fits (o .room) unwindScope start stop (omega (arith, ap (λ (τ : State). length (τ .log)) binds, name-adds name v valueKind (enter unwindScope start stop (stateOf vis log w))))
 
   module _ {log' : List ℕ} {u : Walk} (d : Entered log log' unwindScope start stop w u) (p : ℕ) (f : w .at ≤ p) (l : p ≤ length ws) where
     pub unwind-fits : Room (length (bindName name v valueKind (stateOf vis log' u) .log)) vis log' (placed p u)
-    unwind-fits = last-room o (entered-at o p f l d) (bindName name v valueKind) (name-adds name v valueKind) binds
+    unwind-fits = last-room o (placed-at (entered o d) p f l) (bindName name v valueKind) (name-adds name v valueKind) binds
 
     pub unwind-done : {vis' log'' : List ℕ} {r : Walk} → bare (readUnwind (tablesAt ws e) start stop (drop (w .at) ws)) ≡ ok tt (drop p ws) → Stays vis log' vis' log'' (placed p u) r (bindName name v valueKind (stateOf vis log' u)) → Resolved ws vis log vis' log'' w (runC (factsAt ws e ids)) (readUnwind (tablesAt ws e) start stop (drop (w .at) ws)) r
-    unwind-done b s = last-done o (entered-at o p f l d) (bindName name v valueKind) (name-adds name v valueKind) binds b s
+    unwind-done b s = last-done o (placed-at (entered o d) p f l) (bindName name v valueKind) (name-adds name v valueKind) binds b s
 
 -- ---- Call: its arguments, and its yields
 
@@ -261,18 +235,18 @@ module _ {ws : List ℕ} {e : Env} {ids vis log : List ℕ} {w : Walk} (start st
   grows = record { added = yields-adds (factsAt ws e ids) (w .top) start stop }
 
   pub call-room : p < length ws
-  call-room = begin-room (yields-begins (tablesAt ws e)) ws p row-fine
+  call-room = begin-room (counted-begins (readYield (tablesAt ws e))) ws p row-fine
 
-  pub call-enters : ((w .events + 1) * 5 ≤ length log) × ((w .cur ≤ w .last) × (w .last < 4294967295))
-  call-enters = enter-fits o callScope start stop (omega (arith, ap (λ (τ : State). length (τ .log)) leads, after-adds grows row (enter callScope start stop (stateOf vis log w))))
+  pub call-enters : Enters log w
+  call-enters = enter-fits (o .room) callScope start stop (omega (arith, ap (λ (τ : State). length (τ .log)) leads, after-adds grows row (enter callScope start stop (stateOf vis log w))))
 
   module _ {log' : List ℕ} {u : Walk} (d : Entered log log' callScope start stop w u) (f : w .at ≤ p) (l : p ≤ length ws) where
     ready : Ready ws e ids vis log' (placed p u) run row
-    ready = rest-ready (entered-at o p f l d) o run row grows row-fine leads
+    ready = rest-ready (placed-at (entered o d) p f l) o run row grows row-fine leads
 
     module _ (n : ℕ) (en : n ≡ getD ws p 0) where
       pub call-ready : Ready ws e ids vis log' (placed (p + 1) u) run (many (readYield (tablesAt ws e)) n (drop (p + 1) ws))
-      call-ready = word-ready (yields-begins (tablesAt ws e)) ready n en grows
+      call-ready = word-ready (counted-begins (readYield (tablesAt ws e))) ready n en grows
 
       pub call-done : {vis' log'' : List ℕ} {r : Walk} → Resolved ws vis log' vis' log'' (placed (p + 1) u) run (many (readYield (tablesAt ws e)) n (drop (p + 1) ws)) r → Resolved ws vis log vis' log'' w (runC (factsAt ws e ids)) (readCall (tablesAt ws e) start stop (drop (w .at) ws)) r
-      call-done v = rest-done (entered-at o p f l d) o run row (call-bare (tablesAt ws e) start stop (drop (w .at) ws) (o .fine) (drop p ws) q) leads (word-done (yields-begins (tablesAt ws e)) ready n en v)
+      call-done v = rest-done (placed-at (entered o d) p f l) o run row (call-bare (tablesAt ws e) start stop (drop (w .at) ws) (o .fine) (drop p ws) q) leads (word-done (counted-begins (readYield (tablesAt ws e))) ready n en v)

@@ -6,7 +6,7 @@ use Rattle.clauses.specs.Read.{readArm}
 use Rattle.resolve.specs.Walk.{factsAt, tablesAt}
 use Rattle.resolve.specs.Lowering.{runAs}
 use Rattle.resolve.proofs.Walks.{Going, begin, first-ready, turn, finish}
-use Rattle.logs.proofs.Whole.{arms-rounds}
+use Rattle.logs.proofs.Rows.{arms-rounds}
 use Rattle.logs.proofs.resolve_arms.Statement.{statement}
 use Rattle.logs.proofs.resolve_arms.Tie as tie
 
@@ -24,24 +24,11 @@ resolve-arms-spec =
     (tie.spec
     Inv-loop
     μ-loop
-    (λ c.  -- loop-holds
-    let s = c .before .before .before .before in
-    let a = s .args in
-    begin (arms-rounds (tablesAt (words (a .s .now)) (a .e)) (factsAt (words (a .s .now)) (a .e) (a .ids .now))) _ _ (s .pre))
-    (λ c κs.  -- resolve-arm-requires
-    let k = c .before .before .before in
-    let s = k .before .before .before .before .before in
-    let a = s .args in
-    first-ready (arms-rounds (tablesAt (words (a .s .now)) (a .e)) (factsAt (words (a .s .now)) (a .e) (a .ids .now))) (k .loop .inv) (s .pre) (omega arith))
+    (λ c. begin (arms-rounds _ _) _ _ (c .before .before .before .before .pre))  -- loop-holds
+    (λ c κs. let k = c .before .before .before in first-ready (arms-rounds _ _) (k .loop .inv) (k .before .before .before .before .before .pre) (omega arith))  -- resolve-arm-requires
     (λ c. omega arith)  -- sub-left
     (λ c. omega arith)  -- loop-less
-    (λ c.  -- loop-again
-    let k = c .before .before .before .before .before .before .before .before in
-    let a = k .before .before .before .before .before .args in
-    turn (arms-rounds (tablesAt (words (a .s .now)) (a .e)) (factsAt (words (a .s .now)) (a .e) (a .ids .now))) (k .loop .inv) (omega arith) (c .before .before .before .before .resolve-arm .ensures))
+    (λ c. let k = c .before .before .before .before in turn (arms-rounds _ _) (k .before .before .before .before .loop .inv) (omega arith) (k .resolve-arm .ensures))  -- loop-again
     (λ c. c .before .loop .inv .far .moves .seen)  -- same-length
     (λ c. c .before .loop .inv .far .moves .wrote)  -- same-length-2
-    (λ c.  -- returns
-    let l = c .before in
-    let a = l .before .before .before .before .before .args in
-    finish (arms-rounds (tablesAt (words (a .s .now)) (a .e)) (factsAt (words (a .s .now)) (a .e) (a .ids .now))) (l .loop .inv) (omega arith)))
+    (λ c. finish (arms-rounds _ _) (c .before .loop .inv) (omega arith)))  -- returns

@@ -1,11 +1,8 @@
 -- An alias, of which no event comes, and an expression.
 use borrow.Author.Needs.{needs}
 use native.Mathlib.Omega.{arith}
-use Rattle.words.specs.Words.{words}
 use Rattle.words.proofs.Words.{length-words}
-use Rattle.resolve.specs.Walk.{factsAt, tablesAt}
-use Rattle.logs.proofs.Begun.{word-room}
-use Rattle.logs.proofs.Rows.{projection-begins, projection-passes, passed-ready, passed-done}
+use Rattle.logs.proofs.Rows.{projection-passes, passed-room, passed-ready, passed-done}
 use Rattle.logs.proofs.resolve_projection.Statement.{statement}
 use Rattle.logs.proofs.resolve_projection.Tie as tie
 
@@ -13,19 +10,8 @@ pub resolve-projection-spec : {M : Type 1} → statement M
 resolve-projection-spec =
     tie.close
     (tie.spec
-    (λ c.  -- add-v
-    let s = c .before .before .before .before .before in
-    let a = s .args in
-    omega (arith, word-room (projection-begins (tablesAt (words (a .s .now)) (a .e))) (s .pre), length-words (a .s .now)))
-    (λ c κs.  -- resolve-expr-requires
-    let s = c .before .before .before .before .before .before .before in
-    let a = s .args in
-    let ws = words (a .s .now) in
-    passed-ready (projection-passes (factsAt ws (a .e) (a .ids .now)) (tablesAt ws (a .e))) (s .pre))
+    (λ c. let s = c .before .before .before .before .before in omega (arith, passed-room (projection-passes _ _) (s .pre), length-words (s .args .s .now)))  -- add-v
+    (λ c κs. passed-ready (projection-passes _ _) (c .before .before .before .before .before .before .before .pre))  -- resolve-expr-requires
     (λ c. search needs)  -- same-length
     (λ c. search needs)  -- same-length-2
-    (λ c.  -- returns
-    let s = c .before .before .before .before .before .before .before .before .before .before .before .before in
-    let a = s .args in
-    let ws = words (a .s .now) in
-    passed-done (projection-passes (factsAt ws (a .e) (a .ids .now)) (tablesAt ws (a .e))) (s .pre) (c .before .before .before .before .resolve-expr .ensures)))
+    (λ c. passed-done (projection-passes _ _) (c .before .before .before .before .before .before .before .before .before .before .before .before .pre) (c .before .before .before .before .resolve-expr .ensures)))  -- returns

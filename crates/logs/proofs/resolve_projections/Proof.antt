@@ -24,24 +24,11 @@ resolve-projections-spec =
     (tie.spec
     Inv-loop
     μ-loop
-    (λ c.  -- loop-holds
-    let s = c .before .before .before .before in
-    let a = s .args in
-    begin (projections-rounds (factsAt (words (a .s .now)) (a .e) (a .ids .now)) (tablesAt (words (a .s .now)) (a .e))) _ _ (s .pre))
-    (λ c κs.  -- resolve-projection-requires
-    let k = c .before .before .before in
-    let s = k .before .before .before .before .before in
-    let a = s .args in
-    first-ready (projections-rounds (factsAt (words (a .s .now)) (a .e) (a .ids .now)) (tablesAt (words (a .s .now)) (a .e))) (k .loop .inv) (s .pre) (omega arith))
+    (λ c. begin (projections-rounds _ _) _ _ (c .before .before .before .before .pre))  -- loop-holds
+    (λ c κs. let k = c .before .before .before in first-ready (projections-rounds _ _) (k .loop .inv) (k .before .before .before .before .before .pre) (omega arith))  -- resolve-projection-requires
     (λ c. omega arith)  -- sub-left
     (λ c. omega arith)  -- loop-less
-    (λ c.  -- loop-again
-    let k = c .before .before .before .before .before .before .before .before in
-    let a = k .before .before .before .before .before .args in
-    turn (projections-rounds (factsAt (words (a .s .now)) (a .e) (a .ids .now)) (tablesAt (words (a .s .now)) (a .e))) (k .loop .inv) (omega arith) (c .before .before .before .before .resolve-projection .ensures))
+    (λ c. let k = c .before .before .before .before in turn (projections-rounds _ _) (k .before .before .before .before .loop .inv) (omega arith) (k .resolve-projection .ensures))  -- loop-again
     (λ c. c .before .loop .inv .far .moves .seen)  -- same-length
     (λ c. c .before .loop .inv .far .moves .wrote)  -- same-length-2
-    (λ c.  -- returns
-    let l = c .before in
-    let a = l .before .before .before .before .before .args in
-    finish (projections-rounds (factsAt (words (a .s .now)) (a .e) (a .ids .now)) (tablesAt (words (a .s .now)) (a .e))) (l .loop .inv) (omega arith)))
+    (λ c. finish (projections-rounds _ _) (c .before .loop .inv) (omega arith)))  -- returns

@@ -24,24 +24,11 @@ resolve-yields-spec =
     (tie.spec
     Inv-loop
     μ-loop
-    (λ c.  -- loop-holds
-    let s = c .before .before .before .before in
-    let a = s .args in
-    begin (yields-rounds (tablesAt (words (a .s .now)) (a .e)) (factsAt (words (a .s .now)) (a .e) (a .ids .now)) (a .own) (a .start) (a .end)) _ _ (s .pre))
-    (λ c κs.  -- resolve-yield-requires
-    let k = c .before .before .before in
-    let s = k .before .before .before .before .before in
-    let a = s .args in
-    first-ready (yields-rounds (tablesAt (words (a .s .now)) (a .e)) (factsAt (words (a .s .now)) (a .e) (a .ids .now)) (a .own) (a .start) (a .end)) (k .loop .inv) (s .pre) (omega arith))
+    (λ c. begin (yields-rounds _ _ _ _ _) _ _ (c .before .before .before .before .pre))  -- loop-holds
+    (λ c κs. let k = c .before .before .before in first-ready (yields-rounds _ _ _ _ _) (k .loop .inv) (k .before .before .before .before .before .pre) (omega arith))  -- resolve-yield-requires
     (λ c. omega arith)  -- sub-left
     (λ c. omega arith)  -- loop-less
-    (λ c.  -- loop-again
-    let k = c .before .before .before .before .before .before .before .before in
-    let a = k .before .before .before .before .before .args in
-    turn (yields-rounds (tablesAt (words (a .s .now)) (a .e)) (factsAt (words (a .s .now)) (a .e) (a .ids .now)) (a .own) (a .start) (a .end)) (k .loop .inv) (omega arith) (c .before .before .before .before .resolve-yield .ensures))
+    (λ c. let k = c .before .before .before .before in turn (yields-rounds _ _ _ _ _) (k .before .before .before .before .loop .inv) (omega arith) (k .resolve-yield .ensures))  -- loop-again
     (λ c. c .before .loop .inv .far .moves .seen)  -- same-length
     (λ c. c .before .loop .inv .far .moves .wrote)  -- same-length-2
-    (λ c.  -- returns
-    let l = c .before in
-    let a = l .before .before .before .before .before .args in
-    finish (yields-rounds (tablesAt (words (a .s .now)) (a .e)) (factsAt (words (a .s .now)) (a .e) (a .ids .now)) (a .own) (a .start) (a .end)) (l .loop .inv) (omega arith)))
+    (λ c. finish (yields-rounds _ _ _ _ _) (c .before .loop .inv) (omega arith)))  -- returns

@@ -1,15 +1,11 @@
 -- The barrier, the projections looked at again, the new Root, and the entries above the mark bound there: the steps of `runCarried`, whose
 -- events there is room for.
-use Prim.Native.Nat.{_<_}
 use borrow.Author.Needs.{needs}
 use native.Mathlib.Omega.{arith}
 use mathlib.Core.Path.{refl}
-use lib.ListN.{length}
-use Rattle.words.specs.Words.{words}
 use Rattle.words.proofs.Words.{length-words}
-use Rattle.resolve.specs.Walk.{tablesAt}
-use Rattle.logs.proofs.Begun.{word-room}
-use Rattle.logs.proofs.Carrying.{counted-begins, barrier-fits, row-ready, root-fits, bound-fits, carried-done}
+use Rattle.logs.proofs.Begun.{counted-begins, word-room}
+use Rattle.logs.proofs.Carrying.{barrier-fits, row-ready, root-fits, bound-fits, carried-done}
 use Rattle.logs.proofs.with.carry.Statement.{statement}
 use Rattle.logs.proofs.with.carry.Tie as tie
 
@@ -24,8 +20,7 @@ carry-spec =
     barrier-fits (s .args .start) (s .args .end) (s .pre) (k .word .result) (k .word .ensures))
     (λ c.  -- add-a
     let s = c .before .before .before .before .before .before .before .before .before in
-    let h : s .args .w .at < length (words (s .args .s .now)) = word-room (counted-begins (tablesAt (words (s .args .s .now)) (s .args .e))) (s .pre) in
-    omega (arith, h, length-words (s .args .s .now)))
+    omega (arith, word-room (counted-begins _) (s .pre), length-words (s .args .s .now)))
     (λ c κs.  -- carry-projections-requires
     let k = c .before .before .before .before in
     let x = k .before .before in

@@ -1,9 +1,8 @@
 -- The reader of projections says where it ends; its word and the head of its expression say what it carries, with what was visible below
 -- the mark.
-use Prim.Native.Nat.{_<_}
 use borrow.Author.Needs.{needs}
 use native.Mathlib.Omega.{arith}
-use lib.ListN.{length, drop}
+use lib.ListN.{drop}
 use Rattle.words.specs.Words.{words}
 use Rattle.words.proofs.Words.{length-words}
 use Rattle.expr.proofs.Accepted.{refused, expr-none}
@@ -12,7 +11,8 @@ use Rattle.resolve.specs.Walk.{factsAt, tablesAt}
 use Rattle.resolve.proofs.Adds.{carry-adds}
 use Rattle.resolve.proofs.Walks.{ready-top}
 use Rattle.logs.proofs.Begun.{word-room}
-use Rattle.logs.proofs.Carrying.{projection-begins, expr-fine, pair-room, pair-done}
+use Rattle.logs.proofs.Rows.{projection-begins}
+use Rattle.logs.proofs.Carrying.{expr-fine, pair-room, pair-done}
 use Rattle.logs.proofs.with.carry_projection.Statement.{statement}
 use Rattle.logs.proofs.with.carry_projection.Tie as tie
 
@@ -31,12 +31,10 @@ carry-projection-spec =
     (λ c κs. search needs)  -- word-requires
     (λ c.  -- add-read-form
     let s = c .before .before .before .before .before .before .before .before .before in
-    let h : s .args .w .at < length (words (s .args .s .now)) = word-room (projection-begins (tablesAt (words (s .args .s .now)) (s .args .e))) (s .pre .1) in
-    omega (arith, h, length-words (s .args .s .now)))
+    omega (arith, word-room (projection-begins _) (s .pre .1), length-words (s .args .s .now)))
     (λ c κs.  -- read-form-requires
     let s = c .before .before .before .before .before .before .before .before .before in
-    let h : s .args .w .at < length (words (s .args .s .now)) = word-room (projection-begins (tablesAt (words (s .args .s .now)) (s .args .e))) (s .pre .1) in
-    omega (arith, h))
+    omega (arith, word-room (projection-begins _) (s .pre .1)))
     (λ c. search needs)  -- enum-known-f
     (λ c. search needs)  -- enum-told-2
     (λ c.  -- returns-2

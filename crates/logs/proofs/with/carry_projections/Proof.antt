@@ -25,29 +25,17 @@ carry-projections-spec =
     (tie.spec
     Inv-loop
     μ-loop
-    (λ c.  -- loop-holds
-    let s = c .before .before .before .before in
-    let a = s .args in
-    let ws = words (a .s .now) in
-    (omega arith, begin (carry-rounds (factsAt ws (a .e) (a .ids .now)) (a .mark) (tablesAt ws (a .e))) _ _ (s .pre .1)))
+    (λ c. (omega arith, begin (carry-rounds _ _ _) _ _ (c .before .before .before .before .pre .1)))  -- loop-holds
     (λ c κs.  -- carry-projection-requires
     let l = c .before .before .before in
     let s = l .before .before .before .before .before in
-    let a = s .args in
-    let ws = words (a .s .now) in
-    (omega (arith, s .pre .0, l .loop .inv .0), first-ready (carry-rounds (factsAt ws (a .e) (a .ids .now)) (a .mark) (tablesAt ws (a .e))) (l .loop .inv .1) (s .pre .1) (omega arith)))
+    (omega (arith, s .pre .0, l .loop .inv .0), first-ready (carry-rounds _ _ _) (l .loop .inv .1) (s .pre .1) (omega arith)))
     (λ c. omega arith)  -- sub-left
     (λ c. omega arith)  -- loop-less
     (λ c.  -- loop-again
     let k = c .before .before .before .before in
     let l = k .before .before .before .before in
-    let a = l .before .before .before .before .before .args in
-    let ws = words (a .s .now) in
-    (omega (arith, l .loop .inv .0, k .carry-projection .ensures .0), turn (carry-rounds (factsAt ws (a .e) (a .ids .now)) (a .mark) (tablesAt ws (a .e))) (l .loop .inv .1) (omega arith) (k .carry-projection .ensures .1)))
+    (omega (arith, l .loop .inv .0, k .carry-projection .ensures .0), turn (carry-rounds _ _ _) (l .loop .inv .1) (omega arith) (k .carry-projection .ensures .1)))
     (λ c. c .before .loop .inv .1 .far .moves .seen)  -- same-length
     (λ c. c .before .loop .inv .1 .far .moves .wrote)  -- same-length-2
-    (λ c.  -- returns
-    let l = c .before in
-    let a = l .before .before .before .before .before .args in
-    let ws = words (a .s .now) in
-    (l .loop .inv .0, finish (carry-rounds (factsAt ws (a .e) (a .ids .now)) (a .mark) (tablesAt ws (a .e))) (l .loop .inv .1) (omega arith))))
+    (λ c. let l = c .before in (l .loop .inv .0, finish (carry-rounds _ _ _) (l .loop .inv .1) (omega arith))))  -- returns
