@@ -129,6 +129,169 @@ fn fill(
     }
 }
 
+// With scratch for sheets of up to 64 words.
+fn fill_64(
+    s: &[u8],
+    p: Places,
+    warns: bool,
+    scopes: &mut [u32],
+    bindings: &mut [u32],
+    carried: &mut [u32],
+    recorded: &mut [u32],
+    findings: &mut [u32],
+) -> Counts
+    requires { ⌜ (Opens (now s) p × (length (words (now s)) ≤ 64)) × (roomy (length (words (now s))) (record { scopes = now scopes; bindings = now bindings; carried = now carried; recorded = now recorded; findings = now findings }) ≡ true) ⌝ }
+    ensures { λ r. ⌜ Fills warns (readSheet (now (s .entry))) (record { scopes = now (scopes .entry); bindings = now (bindings .entry); carried = now (carried .entry); recorded = now (recorded .entry); findings = now (findings .entry) }) r (record { scopes = now (scopes .exit); bindings = now (bindings .exit); carried = now (carried .exit); recorded = now (recorded .exit); findings = now (findings .exit) }) ⌝ }
+{
+    let mut tab = [0u32; 64];
+    let mut ids = [0u32; 64];
+    let mut vis = [0u32; 128];
+    let mut log = [0u32; 384];
+    fill(
+        s,
+        p,
+        warns,
+        &mut tab,
+        &mut ids,
+        &mut vis,
+        &mut log,
+        scopes,
+        bindings,
+        carried,
+        recorded,
+        findings,
+    )
+}
+
+// With scratch for sheets of up to 256 words.
+fn fill_256(
+    s: &[u8],
+    p: Places,
+    warns: bool,
+    scopes: &mut [u32],
+    bindings: &mut [u32],
+    carried: &mut [u32],
+    recorded: &mut [u32],
+    findings: &mut [u32],
+) -> Counts
+    requires { ⌜ (Opens (now s) p × (length (words (now s)) ≤ 256)) × (roomy (length (words (now s))) (record { scopes = now scopes; bindings = now bindings; carried = now carried; recorded = now recorded; findings = now findings }) ≡ true) ⌝ }
+    ensures { λ r. ⌜ Fills warns (readSheet (now (s .entry))) (record { scopes = now (scopes .entry); bindings = now (bindings .entry); carried = now (carried .entry); recorded = now (recorded .entry); findings = now (findings .entry) }) r (record { scopes = now (scopes .exit); bindings = now (bindings .exit); carried = now (carried .exit); recorded = now (recorded .exit); findings = now (findings .exit) }) ⌝ }
+{
+    let mut tab = [0u32; 256];
+    let mut ids = [0u32; 256];
+    let mut vis = [0u32; 512];
+    let mut log = [0u32; 1536];
+    fill(
+        s,
+        p,
+        warns,
+        &mut tab,
+        &mut ids,
+        &mut vis,
+        &mut log,
+        scopes,
+        bindings,
+        carried,
+        recorded,
+        findings,
+    )
+}
+
+// With scratch for sheets of up to 1,024 words.
+fn fill_1024(
+    s: &[u8],
+    p: Places,
+    warns: bool,
+    scopes: &mut [u32],
+    bindings: &mut [u32],
+    carried: &mut [u32],
+    recorded: &mut [u32],
+    findings: &mut [u32],
+) -> Counts
+    requires { ⌜ (Opens (now s) p × (length (words (now s)) ≤ 1024)) × (roomy (length (words (now s))) (record { scopes = now scopes; bindings = now bindings; carried = now carried; recorded = now recorded; findings = now findings }) ≡ true) ⌝ }
+    ensures { λ r. ⌜ Fills warns (readSheet (now (s .entry))) (record { scopes = now (scopes .entry); bindings = now (bindings .entry); carried = now (carried .entry); recorded = now (recorded .entry); findings = now (findings .entry) }) r (record { scopes = now (scopes .exit); bindings = now (bindings .exit); carried = now (carried .exit); recorded = now (recorded .exit); findings = now (findings .exit) }) ⌝ }
+{
+    let mut tab = [0u32; 1024];
+    let mut ids = [0u32; 1024];
+    let mut vis = [0u32; 2048];
+    let mut log = [0u32; 6144];
+    fill(
+        s,
+        p,
+        warns,
+        &mut tab,
+        &mut ids,
+        &mut vis,
+        &mut log,
+        scopes,
+        bindings,
+        carried,
+        recorded,
+        findings,
+    )
+}
+
+// With scratch for sheets of up to 2,048 words.
+fn fill_2048(
+    s: &[u8],
+    p: Places,
+    warns: bool,
+    scopes: &mut [u32],
+    bindings: &mut [u32],
+    carried: &mut [u32],
+    recorded: &mut [u32],
+    findings: &mut [u32],
+) -> Counts
+    requires { ⌜ (Opens (now s) p × (length (words (now s)) ≤ 2048)) × (roomy (length (words (now s))) (record { scopes = now scopes; bindings = now bindings; carried = now carried; recorded = now recorded; findings = now findings }) ≡ true) ⌝ }
+    ensures { λ r. ⌜ Fills warns (readSheet (now (s .entry))) (record { scopes = now (scopes .entry); bindings = now (bindings .entry); carried = now (carried .entry); recorded = now (recorded .entry); findings = now (findings .entry) }) r (record { scopes = now (scopes .exit); bindings = now (bindings .exit); carried = now (carried .exit); recorded = now (recorded .exit); findings = now (findings .exit) }) ⌝ }
+{
+    let mut tab = [0u32; 2048];
+    let mut ids = [0u32; 2048];
+    let mut vis = [0u32; 4096];
+    let mut log = [0u32; 12288];
+    fill(
+        s,
+        p,
+        warns,
+        &mut tab,
+        &mut ids,
+        &mut vis,
+        &mut log,
+        scopes,
+        bindings,
+        carried,
+        recorded,
+        findings,
+    )
+}
+
+// Scratch is sized to the sheet, since clearing it costs a small sheet more than its check.
+fn fill_sized(
+    s: &[u8],
+    p: Places,
+    warns: bool,
+    n: usize,
+    scopes: &mut [u32],
+    bindings: &mut [u32],
+    carried: &mut [u32],
+    recorded: &mut [u32],
+    findings: &mut [u32],
+) -> Counts
+    requires { ⌜ (Opens (now s) p × (n ≡ length (words (now s)))) × (roomy (length (words (now s))) (record { scopes = now scopes; bindings = now bindings; carried = now carried; recorded = now recorded; findings = now findings }) ≡ true) ⌝ }
+    ensures { λ r. ⌜ Fills warns (readSheet (now (s .entry))) (record { scopes = now (scopes .entry); bindings = now (bindings .entry); carried = now (carried .entry); recorded = now (recorded .entry); findings = now (findings .entry) }) r (record { scopes = now (scopes .exit); bindings = now (bindings .exit); carried = now (carried .exit); recorded = now (recorded .exit); findings = now (findings .exit) }) ⌝ }
+{
+    if n <= 64 {
+        return fill_64(s, p, warns, scopes, bindings, carried, recorded, findings);
+    }
+    if n <= 256 {
+        return fill_256(s, p, warns, scopes, bindings, carried, recorded, findings);
+    }
+    if n <= 1024 {
+        return fill_1024(s, p, warns, scopes, bindings, carried, recorded, findings);
+    }
+    fill_2048(s, p, warns, scopes, bindings, carried, recorded, findings)
+}
+
 // The check call, warnings on or off.
 pub fn check(
     s: &[u8],
@@ -145,21 +308,15 @@ pub fn check(
     match open(s) {
         Opened::Refused(c) => Checked::Refused(c),
         Opened::At(p) => {
-            if !have_room(count(s), scopes, bindings, carried, recorded, findings) {
+            let n = count(s);
+            if !have_room(n, scopes, bindings, carried, recorded, findings) {
                 return Checked::Refused(8);
             }
-            let mut tab = [0u32; 2048];
-            let mut ids = [0u32; 2048];
-            let mut vis = [0u32; 4096];
-            let mut log = [0u32; 12288];
-            Checked::Is(fill(
+            Checked::Is(fill_sized(
                 s,
                 p,
                 warns,
-                &mut tab,
-                &mut ids,
-                &mut vis,
-                &mut log,
+                n,
                 scopes,
                 bindings,
                 carried,

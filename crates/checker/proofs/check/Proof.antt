@@ -49,17 +49,11 @@ check-spec =
     let k = c .before in
     let s = start k in
     short-answer (s .args .warns) (s .args .s .now) (lent s) (opened k) (sym (room k) ∙ not-true (k .have-room .result) (c .if1 .taken)))
-    (λ c. search needs)  -- slice-aggregate-fill
-    (λ c. search needs)  -- slice-aggregate-fill-2
-    (λ c. search needs)  -- slice-aggregate-fill-3
-    (λ c. search needs)  -- slice-aggregate-fill-4
-    (λ c κs.  -- fill-requires
-    let e = c .before .before .before .before .before .before .before .before .before in
+    (λ c κs.  -- fill-sized-requires
+    let e = c .before .before .before .before .before in
     let k = e .before in
     let s = start k in
-    let o = opens (s .args .warns) (s .args .s .now) (lent s) (opened k) in
-    let w = held o .walked in
-    ((o, ((omega (arith, w .whole, w .places .short, w .places .trailer), omega (arith, w .whole, w .places .short, w .places .trailer)), (omega (arith, w .whole, w .places .short, w .places .trailer), omega (arith, w .whole, w .places .short, w .places .trailer)))), sym (room k) ∙ not-false (k .have-room .result) (e .if1 .left)))
+    ((opens (s .args .warns) (s .args .s .now) (lent s) (opened k), k .before .before .before .before .before .before .count .ensures), sym (room k) ∙ not-false (k .have-room .result) (e .if1 .left)))
     (λ c.  -- returns-2
     let s = c .before .before .before .before .before .before .before .before .before .before in
     refused-answer (s .args .warns) (s .args .s .now) (lent s) (sym (c .before .c .given .1) ∙ c .before .before .before .«open» .ensures))
@@ -69,8 +63,8 @@ check-spec =
     (λ c. search needs)  -- same-length-9
     (λ c. search needs)  -- same-length-10
     (λ c.  -- returns-3
-    let f = c .before .before .before .before .before .before .before .before .before .before .before .before .before .before in
-    let e = f .before .before .before .before .before .before .before .before .before .before in
+    let f = c .before .before .before .before .before .before .before .before .before .before in
+    let e = f .before .before .before .before .before .before in
     let k = e .before in
     let s = start k in
-    full-answer (s .args .warns) (s .args .s .now) (lent s) (sym (room k) ∙ not-false (k .have-room .result) (e .if1 .left)) (f .fill .ensures)))
+    full-answer (s .args .warns) (s .args .s .now) (lent s) (sym (room k) ∙ not-false (k .have-room .result) (e .if1 .left)) (f .fill-sized .ensures)))
