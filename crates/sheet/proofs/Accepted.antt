@@ -65,7 +65,7 @@ pub record Tabled (s ws : List ℕ) (p : Places) (names : List (List ℕ)) (rows
   pub apart : distinct nameIn names ≡ true
   pub once : distinct isIn (map rowId rows) ≡ true
 
-names-hold : (n : ℕ) (s : List ℕ) → Holds (readNames n s) (λ ns. (many readName n s ≡ ok ns []) × (distinct nameIn ns ≡ true))
+pub names-hold : (n : ℕ) (s : List ℕ) → Holds (readNames n s) (λ ns. (many readName n s ≡ ok ns []) × (distinct nameIn ns ≡ true))
 unfolding readNames
 names-hold n s = next (read-whole 3 (many readName n s)) (λ ns h. tested 3 (distinct nameIn ns) (λ one. holds (h, one)))
 

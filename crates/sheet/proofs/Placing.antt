@@ -1,16 +1,16 @@
 -- Laws of where the sections stand: what the tests of causes 1 and 2 say of the trailer's words, and that what is accepted lies within
 -- the sheet.
-use Prim.Native.Nat.{ℕ, _+_, _%_, _≤_}
+use Prim.Native.Nat.{ℕ, _+_, _%_, _<_, _≤_}
 use native.Mathlib.Omega.{arith}
 use mathlib.Core.Path.{_≡_, refl, sym, subst}
-use mathlib.Core.Bool.{Bool, true, false, false≢true, _&&_}
+use mathlib.Core.Bool.{Bool, true, false, false≢true, _&&_, and-false}
 use mathlib.Core.List.{List}
-use borrow.Author.Tests.{leb-true, eqb-true, le-leb, eq-eqb}
+use borrow.Author.Tests.{leb-true, eqb-true, le-leb, lt-leb, eq-eqb}
 use lib.Dec.{leb, eqb}
 use lib.ListN.{length, getD}
 use Rattle.words.specs.Words.{words}
 use Rattle.words.proofs.Words.{length-words}
-use Rattle.sheet.specs.Trailer.{sized, trailerAt, trailer, inPlace, placesOf}
+use Rattle.sheet.specs.Trailer.{maxBytes, sized, trailerAt, trailer, inPlace, placesOf}
 use Rattle.sheet.specs.Read.{Sheet, accepted, refused, unless, locate}
 use Rattle.sheet.specs.Answer.{located, InPlaces}
 use Rattle.sheet.specs.declared.trailer.Places.{Places}
@@ -37,6 +37,11 @@ size-of s e =
 pub is-sized : (s : List ℕ) → Sized s → sized s ≡ true
 unfolding sized
 is-sized s z = rw (eq-eqb (length s % 4) 0 (z .whole), le-leb 40 (length s) (z .least), le-leb (length s) 8192 (z .most))
+
+-- what is longer fails it
+pub too-long : (s : List ℕ) → maxBytes < length s → locate s ≡ refused 1
+unfolding locate sized
+too-long s h = rw (lt-leb (length s) maxBytes h, and-false, and-false)
 
 -- cause 2's test, where the trailer's first word is t: how far back each section begins, and the span
 pub record Falling (ws : List ℕ) (t : ℕ) : Type 0 where

@@ -1,4 +1,4 @@
--- Laws of the two tables: bindings that are read give their variables, and what stops them is cause 4; names are refused by 3 alone.
+-- Laws of the bindings: those that are read give their variables, and what stops them is cause 4.
 use Prim.Native.Nat.{ℕ, _+_, _*_, _<_, _≤_}
 use native.Mathlib.Omega.{arith}
 use mathlib.Core.Path.{_≡_, refl, ap}
@@ -10,11 +10,10 @@ use Rattle.heads.specs.Got.{Got, ok, no, bare, pick, many}
 use Rattle.heads.specs.Answer.{rowIds, isIn}
 use Rattle.expr.proofs.Inverse.{never, Gives, gave, after, word-gives}
 use Rattle.clauses.proofs.WrittenClause.{Is, many-gives}
-use Rattle.tables.specs.Name.{readName}
-use Rattle.tables.specs.Distinct.{nameIn, distinct}
+use Rattle.tables.specs.Distinct.{distinct}
 use Rattle.tables.specs.Row.{Row, row, rowId, rowWords, readRow}
-use Rattle.sheet.specs.Read.{Sheet, accepted, refused, then', unless, entire, readNames, readRows}
-use Rattle.sheet.specs.Answer.{causeOf, verdict}
+use Rattle.sheet.specs.Read.{accepted, then', unless, entire, readRows}
+use Rattle.sheet.specs.Answer.{verdict}
 use Rattle.sheet.specs.Write.{WellRow}
 use Rattle.sheet.specs.declared.sections.Verdict.the-variants.{Accepted, Refused}
 
@@ -76,21 +75,3 @@ module _ (names n : ℕ) (ws : List ℕ) where
     pub rows-done : {b : Bool} → b ≡ distinct isIn (rowIds n ws) → pick b Accepted (Refused 4) ≡ verdict (readRows names n ws)
     unfolding readRows
     rows-done d = rows-all (many (readRow names) n ws) refl (rw (drop-none l p h) at e) d .1
-
--- a cause that is not 0 is the table's; where it is 0, what follows decides
-pub cause-refused : {A B : Type 0} (x : Sheet A) (k : A → Sheet B) {c : ℕ} → c ≡ causeOf x → (c ≡ 0 → ⊥) → Refused c ≡ verdict (then' x k)
-cause-refused (accepted a) k e h = absurd (h e)
-cause-refused (refused d) k e h = ap Refused e
-
-names-decide : {B : Type 0} (g : Got (List (List ℕ))) (y : Sheet B) → causeOf (then' (entire 3 g) (λ ns. unless 3 (distinct nameIn ns) (accepted ns))) ≡ 0 → verdict (then' (then' (entire 3 g) (λ ns. unless 3 (distinct nameIn ns) (accepted ns))) (λ ns. y)) ≡ verdict y
-names-decide (ok ns []) y e = by (distinct nameIn ns) e
-  where
-    by : (b : Bool) → causeOf (unless 3 b (accepted ns)) ≡ 0 → verdict (then' (unless 3 b (accepted ns)) (λ ns. y)) ≡ verdict y
-    by true e = refl
-    by false e = absurd (omega arith)
-names-decide (ok ns (w ∷ r)) y e = absurd (omega arith)
-names-decide (no c) y e = absurd (omega arith)
-
-pub names-accepted : {B : Type 0} (n : ℕ) (s : List ℕ) (y : Sheet B) → causeOf (readNames n s) ≡ 0 → verdict (then' (readNames n s) (λ ns. y)) ≡ verdict y
-unfolding readNames
-names-accepted n s y e = names-decide (many readName n s) y e

@@ -1,19 +1,23 @@
--- The whole sheet from its pieces: where the places, the tables, or head and arms are refused, so is the sheet, and else it is accepted.
+-- The whole sheet from its pieces: where the places, the tables, or head and arms are refused, so is the sheet, and else it is accepted,
+-- and the lent tables hold its names.
 use Prim.Native.Nat.{ℕ, _+_, _*_, _-_, _≤_}
 use native.Mathlib.Omega.{arith}
-use mathlib.Core.Path.{_≡_, refl, sym, ap, _∙_}
+use mathlib.Core.Path.{_≡_, refl, sym, ap, subst, _∙_}
+use mathlib.Core.Bool.{true}
 use mathlib.Core.List.{List, map}
 use lib.ListN.{length, take, drop, length-take, length-drop}
 use Rattle.words.specs.Words.{words}
+use Rattle.words.specs.Fnv.{useId}
 use Rattle.words.proofs.Words.{length-words}
 use Rattle.heads.specs.Answer.{rowIds}
 use Rattle.expr.proofs.Inverse.{never}
 use Rattle.clauses.specs.Tree.{Clause, Arm}
+use Rattle.tables.specs.Answer.{namesIn}
 use Rattle.tables.specs.Row.{Row, rowId}
 use Rattle.sheet.specs.Trailer.{placesOf, section}
 use Rattle.sheet.specs.Statement.{Statement}
 use Rattle.sheet.specs.Read.{Sheet, accepted, refused, then', readNames, readRows, readClauses, locate, readSections, readSheet}
-use Rattle.sheet.specs.Answer.{InPlaces, openedAs, verdict, tablesOf}
+use Rattle.sheet.specs.Answer.{InPlaces, openedAs, Tabled, Names, verdict, tablesOf}
 use Rattle.sheet.specs.declared.trailer.Places.{Places}
 use Rattle.sheet.specs.declared.trailer.Opened.{Opened}
 use Rattle.sheet.specs.declared.trailer.Opened.the-variants as opened
@@ -21,7 +25,7 @@ use Rattle.sheet.specs.declared.sections.Verdict.the-variants.{Accepted,
 use Rattle.sheet.proofs.Placing.{places-of}
 use Rattle.sheet.proofs.Cutting.{ids-take}
 use Rattle.sheet.proofs.Reading.{rows-read}
-use Rattle.sheet.proofs.Accepted.{rows-hold}
+use Rattle.sheet.proofs.Accepted.{names-hold, rows-hold, accepted-words}
 
 -- ---- the places
 
@@ -107,3 +111,25 @@ module _ (s : List ℕ) (p : Places) where
 
       pub whole-accepted : Accepted ≡ verdict (clausesOf s p) → opened.At p ≡ openedAs (readSheet s) s
       whole-accepted g = rw sections-read (ap opened.At (places-of s p placed) ∙ clauses-done (statementOf p (tables .names) (tables .rows)) (clausesOf s p) g)
+
+-- ---- the lent tables
+
+-- a sheet that is refused says nothing of them
+pub no-names : (s tab ids : List ℕ) {a : Opened} {c : ℕ} → a ≡ opened.Refused c → a ≡ openedAs (readSheet s) s → (a ≡ openedAs (readSheet s) s) × Names (readSheet s) s tab ids
+no-names s tab ids {a} {c} e f = (f, none (readSheet s) f)
+  where
+    none : (x : Sheet Statement) → a ≡ openedAs x s → Names x s tab ids
+    none (accepted st) f = never (cc)
+    none (refused d) f = tt
+
+-- the names of their section are the statement's
+pub names-kept : (s tab ids : List ℕ) (p : Places) → locate s ≡ accepted p → Tabled (p .names) (take (p .rows * 4) s) tab ids true → (x : Sheet Statement) → readSheet s ≡ x → Names x s tab ids
+names-kept s tab ids p placed t (accepted st) e =
+    let q = placesOf (words s) in
+    let part = take (q .rows * 4) s in
+    let u = subst (λ (o : Places). Tabled (o .names) (take (o .rows * 4) s) tab ids true) (places-of s p placed) t in
+    let here = names-hold (q .names) part .held (namesIn part (q .names) tab) (u .same) .0 in
+    let there = accepted-words s st e .2 .namesRead in
+    let same : namesIn part (q .names) tab ≡ st .names = cc in
+    record { places = same; uses = u .uses refl ∙ ap (map useId) same; many = omega (arith, u .many refl, length-take (q .rows * 4) s) }
+names-kept s tab ids p placed t (refused c) e = tt

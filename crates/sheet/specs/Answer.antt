@@ -1,15 +1,18 @@
 -- The answers of the public calls, by document 01's numbers.
-use Prim.Native.Nat.{ℕ, _+_, _*_, _≤_}
+use Prim.Native.Nat.{ℕ, _+_, _*_, _/_, _≤_}
 use mathlib.Core.Path.{_≡_}
-use mathlib.Core.List.{List, []}
+use mathlib.Core.Bool.{Bool, true, false}
+use mathlib.Core.List.{List, [], map}
 use lib.Dec.{ltb}
 use lib.ListN.{length, take, getD}
 use Rattle.words.specs.Words.{words}
+use Rattle.words.specs.Fnv.{useId}
 use Rattle.heads.specs.Got.{Got, pick, many}
 use Rattle.heads.specs.Head.{Tables}
 use Rattle.heads.specs.Answer.{tables}
 use Rattle.clauses.specs.Tree.{Arm}
 use Rattle.clauses.specs.Read.{readClause, readArm}
+use Rattle.tables.specs.Answer.{namesIn}
 use Rattle.tables.specs.Name.{nameAt}
 use Rattle.tables.specs.Row.{Row}
 use Rattle.sheet.specs.Trailer.{placesOf, section}
@@ -43,6 +46,29 @@ abbrev pub textOf : Sheet (List ℕ) → List ℕ
 textOf (accepted text) = text
 textOf (refused c) = []
 
+-- the names, or cause 3
+abbrev pub namesIf : Bool → List (List ℕ) → Sheet (List (List ℕ))
+namesIf true ns = accepted ns
+namesIf false ns = refused 3
+
+-- n names were looked for in the bytes of their section; where they are right, one table has the byte where each stands, the other its
+-- use id, and each name takes a word at least
+pub record Tabled (n : ℕ) (s tab ids : List ℕ) (r : Bool) : Type 0 where
+  pub same : readNames n s ≡ namesIf r (namesIn s n tab)
+  pub uses : r ≡ true → take n ids ≡ map useId (namesIn s n tab)
+  pub many : r ≡ true → n * 4 ≤ length s
+
+-- two tables hold the names of a statement: the byte where each stands in their section, and its use id; there are no more than words
+pub record Held (s tab ids : List ℕ) (st : Statement) : Type 0 where
+  pub places : namesIn (take (placesOf (words s) .rows * 4) s) (placesOf (words s) .names) tab ≡ st .names
+  pub uses : take (placesOf (words s) .names) ids ≡ map useId (st .names)
+  pub many : placesOf (words s) .names ≤ length s / 4
+
+-- what two tables hold after a sheet was read; where it is refused, anything
+abbrev pub Names : Sheet Statement → List ℕ → List ℕ → List ℕ → Type 0
+Names (accepted st) s tab ids = Held s tab ids st
+Names (refused c) s tab ids = Unit {0}
+
 -- where the sections stand within a sheet
 pub record InPlaces (s : List ℕ) (p : Places) : Type 0 where
   pub short : length s ≤ 8192
@@ -59,6 +85,11 @@ verdict (refused c) = verdicts.Refused c
 -- causes 3 and 4
 abbrev pub tablesOf : List ℕ → Places → Sheet (List Row)
 tablesOf s p = then' (readNames (p .names) (take (p .rows * 4) s)) (λ ns. readRows (p .names) (p .bindings) (section (words s) (p .rows) (p .head)))
+
+-- the two tables were judged; where they are accepted, the lent ones hold the names
+pub record Settled (s : List ℕ) (p : Places) (tab ids : List ℕ) (r : Verdict) : Type 0 where
+  pub same : r ≡ verdict (tablesOf s p)
+  pub names : r ≡ verdicts.Accepted → Tabled (p .names) (take (p .rows * 4) s) tab ids true
 
 -- what an answer says of a section that ends at `end`
 abbrev pub endVerdict : Read → ℕ → Verdict

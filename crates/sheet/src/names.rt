@@ -1,4 +1,4 @@
-// The names section: its cause, and the text of a name as a part of the sheet. Cause 3.
+// The names section: its two tables, and the text of a name as a part of the sheet. Cause 3.
 use crate::trailer::Opened;
 use crate::trailer::find_places;
 use heads::Read;
@@ -8,8 +8,9 @@ use tables::scan_names;
 ghost use mathlib.Core.Path.{_≡_};
 ghost use Prim.Native.Nat.{ℕ, _≤_};
 ghost use lib.ListN.{length};
-ghost use Rattle.sheet.specs.Read.{readNames, readText};
-ghost use Rattle.sheet.specs.Answer.{causeOf, textOf, found, foundEnd, textIn};
+ghost use Rattle.tables.specs.Answer.{Roomy};
+ghost use Rattle.sheet.specs.Read.{readText};
+ghost use Rattle.sheet.specs.Answer.{causeOf, textOf, Tabled, found, foundEnd, textIn};
 
 // A name's text: the byte where its length stands and the end of the names section, or the refusal's number.
 pub enum Found {
@@ -17,20 +18,26 @@ pub enum Found {
     Refused(u32),
 }
 
-// The name with the index i, of n names in the bytes of their section.
-fn find_in(s: &[u8], n: u32, i: u32) -> Found
-    requires { ⌜ length (now s) ≤ 8192 ⌝ }
-    ensures { λ r. ⌜ (found (now (s .entry)) r ≡ textIn n (now (s .entry)) i) × (foundEnd r ≤ length (now (s .entry))) ⌝ }
+// Whether the bytes of s are n names, no two the same: tab gets the byte where each stands, ids its use id.
+pub fn are_names(s: &[u8], n: u32, tab: &mut [u32], ids: &mut [u32]) -> bool
+    requires { ⌜ Roomy (now s) (now tab) (now ids) ⌝ }
+    ensures { λ r. ⌜ Tabled n (now (s .entry)) (now (tab .exit)) (now (ids .exit)) r ⌝ }
 {
-    let mut tab = [0u32; 2048];
-    let mut ids = [0u32; 2048];
-    let Read::Next(p) = scan_names(s, n, &mut tab, &mut ids) else {
-        return Found::Refused(3);
+    let Read::Next(p) = scan_names(s, n, tab, ids) else {
+        return false;
     };
     if p < s.len() {
-        return Found::Refused(3);
+        return false;
     }
-    if !distinct_names(s, &tab, &ids, n as usize) {
+    distinct_names(s, tab, ids, n as usize)
+}
+
+// The name with the index i, of n names in the bytes of their section, with tables that have a place for each word.
+fn find_with(s: &[u8], n: u32, i: u32, tab: &mut [u32], ids: &mut [u32]) -> Found
+    requires { ⌜ Roomy (now s) (now tab) (now ids) ⌝ }
+    ensures { λ r. ⌜ (found (now (s .entry)) r ≡ textIn n (now (s .entry)) i) × (foundEnd r ≤ length (now (s .entry))) ⌝ }
+{
+    if !are_names(s, n, tab, ids) {
         return Found::Refused(3);
     }
     if i < n {
@@ -39,7 +46,52 @@ fn find_in(s: &[u8], n: u32, i: u32) -> Found
     Found::Refused(5)
 }
 
-fn find_name(s: &[u8], i: u32) -> Found
+// With tables for sections of up to 64 words.
+fn find_64(s: &[u8], n: u32, i: u32) -> Found
+    requires { ⌜ length (now s) ≤ 256 ⌝ }
+    ensures { λ r. ⌜ (found (now (s .entry)) r ≡ textIn n (now (s .entry)) i) × (foundEnd r ≤ length (now (s .entry))) ⌝ }
+{
+    let mut tab = [0u32; 64];
+    let mut ids = [0u32; 64];
+    find_with(s, n, i, &mut tab, &mut ids)
+}
+
+// With tables for sections of up to 512 words.
+fn find_512(s: &[u8], n: u32, i: u32) -> Found
+    requires { ⌜ length (now s) ≤ 2048 ⌝ }
+    ensures { λ r. ⌜ (found (now (s .entry)) r ≡ textIn n (now (s .entry)) i) × (foundEnd r ≤ length (now (s .entry))) ⌝ }
+{
+    let mut tab = [0u32; 512];
+    let mut ids = [0u32; 512];
+    find_with(s, n, i, &mut tab, &mut ids)
+}
+
+// With tables for sections of up to 2,048 words.
+fn find_2048(s: &[u8], n: u32, i: u32) -> Found
+    requires { ⌜ length (now s) ≤ 8192 ⌝ }
+    ensures { λ r. ⌜ (found (now (s .entry)) r ≡ textIn n (now (s .entry)) i) × (foundEnd r ≤ length (now (s .entry))) ⌝ }
+{
+    let mut tab = [0u32; 2048];
+    let mut ids = [0u32; 2048];
+    find_with(s, n, i, &mut tab, &mut ids)
+}
+
+// With tables sized to the section, so that a short one clears few words.
+fn find_in(s: &[u8], n: u32, i: u32) -> Found
+    requires { ⌜ length (now s) ≤ 8192 ⌝ }
+    ensures { λ r. ⌜ (found (now (s .entry)) r ≡ textIn n (now (s .entry)) i) × (foundEnd r ≤ length (now (s .entry))) ⌝ }
+{
+    if s.len() <= 256 {
+        return find_64(s, n, i);
+    }
+    if s.len() <= 2048 {
+        return find_512(s, n, i);
+    }
+    find_2048(s, n, i)
+}
+
+// The name with the index i of a sheet, by its names section alone.
+pub fn find_name(s: &[u8], i: u32) -> Found
     ensures { λ r. ⌜ (found (now (s .entry)) r ≡ readText (now (s .entry)) i) × (foundEnd r ≤ length (now (s .entry))) ⌝ }
 {
     match find_places(s) {
@@ -70,15 +122,4 @@ pub fn name_text(s: &[u8], i: u32) -> &[u8]
         return &s[..0];
     };
     name_at(&s[..e], p as usize)
-}
-
-// The cause of n names in the bytes of their section: 3, or 0. The first of them is looked for; that there is none is no cause.
-pub fn names_cause(s: &[u8], n: u32) -> u32
-    requires { ⌜ length (now s) ≤ 8192 ⌝ }
-    ensures { λ r. ⌜ r ≡ causeOf (readNames n (now (s .entry))) ⌝ }
-{
-    match find_in(s, n, 0) {
-        Found::At(_, _) => 0,
-        Found::Refused(c) => if c == 3 { 3 } else { 0 },
-    }
 }

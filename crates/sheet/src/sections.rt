@@ -1,5 +1,5 @@
-// The sections after the names: bindings, head and arms. Causes 4 to 7.
-use crate::names::names_cause;
+// The sections: names, bindings, head and arms. Causes 3 to 7.
+use crate::names::are_names;
 use crate::trailer::Places;
 use clauses::read_arms;
 use clauses::read_clauses;
@@ -13,8 +13,9 @@ ghost use lib.ListN.{length, drop};
 ghost use Rattle.words.specs.Words.{words};
 ghost use Rattle.heads.specs.Answer.{rowIds};
 ghost use Rattle.clauses.specs.Read.{readClause, readArm};
+ghost use Rattle.tables.specs.Answer.{Roomy};
 ghost use Rattle.sheet.specs.Read.{readRows, readClauses};
-ghost use Rattle.sheet.specs.Answer.{InPlaces, verdict, endVerdict, tablesOf, sectionOf, sectionsOf};
+ghost use Rattle.sheet.specs.Answer.{InPlaces, verdict, Settled, endVerdict, sectionOf, sectionsOf};
 
 // Accepted so far, or the refusal's number.
 pub enum Verdict {
@@ -39,16 +40,15 @@ fn check_rows(s: &[u8], names: u32, rows: usize, n: u32) -> Verdict
     Verdict::Refused(4)
 }
 
-// The names, then the bindings.
-pub fn check_tables(s: &[u8], p: Places) -> Verdict
-    requires { ⌜ InPlaces (now s) p ⌝ }
-    ensures { λ r. ⌜ r ≡ verdict (tablesOf (now (s .entry)) p) ⌝ }
+// The names, which the two lent tables get, then the bindings.
+pub fn check_tables(s: &[u8], p: Places, tab: &mut [u32], ids: &mut [u32]) -> Verdict
+    requires { ⌜ InPlaces (now s) p × Roomy (now s) (now tab) (now ids) ⌝ }
+    ensures { λ r. ⌜ Settled (now (s .entry)) p (now (tab .exit)) (now (ids .exit)) r ⌝ }
 {
     let rows = p.rows;
     let e = rows * 4;
-    let c = names_cause(&s[0..e], p.names);
-    if c != 0 {
-        return Verdict::Refused(c);
+    if !are_names(&s[0..e], p.names, tab, ids) {
+        return Verdict::Refused(3);
     }
     let head = p.head;
     let f = head * 4;

@@ -33,7 +33,7 @@ pub enum Opened {
 
 const MIN_BYTES: usize = 40;
 
-const MAX_BYTES: usize = 8192;
+pub const MAX_BYTES: usize = 8192;
 
 fn is_sized(s: &[u8]) -> bool
     ensures { λ r. ⌜ r ≡ sized (now (s .entry)) ⌝ }

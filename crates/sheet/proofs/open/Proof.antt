@@ -1,35 +1,16 @@
--- Places, tables, head and arms, in the definition's order: the first that is refused refuses the sheet.
-use mathlib.Core.Path.{sym, _∙_}
+-- Each size has tables with a place for every word, and a sheet that is longer is refused by cause 1.
+use mathlib.Core.Path.{refl}
 use borrow.Author.Needs.{needs}
-use Rattle.heads.proofs.Chain.{fact}
-use Rattle.sheet.proofs.Placing.{opened-at, opened-no}
-use Rattle.sheet.proofs.Whole.{places-refused, tables-refused, rows-fit, clauses-refused, whole-accepted}
+use Rattle.sheet.proofs.Placing.{too-long}
+use Rattle.sheet.proofs.Whole.{places-refused}
 use Rattle.sheet.proofs.open.Statement.{statement}
 use Rattle.sheet.proofs.open.Tie as tie
 
 pub open-spec : {M : Type 1} → statement M
 open-spec =
-    let placed = fact (λ (k : tie.After-known-told). opened-at (k .before .before .before .before .before .args .s .now) (k .before .before .before .find-places .ensures) (k .before .a .given .1)) in
-    let tabled = fact (λ (k : tie.After-enum-told2). sym (k .enum-told2 .given .1) ∙ k .before .before .check-tables .ensures) in
     tie.close
     (tie.spec
-    (λ c κs. search needs)  -- find-places-requires
-    (λ c. search needs) (λ c. search needs)  -- enum-known-a, enum-told
-    (λ c. places-refused _ (c .enum-told .given .1) (opened-no _ (c .before .before .find-places .ensures) (c .enum-told .given .1)))  -- returns
-    (λ c κs. placed c .1)  -- check-tables-requires
-    (λ c. search needs) (λ c. search needs)  -- enum-known-c, enum-told-2
-    (λ c κs.  -- check-clauses-requires
-    let k = c .before .before .before in
-    (placed k .1, rows-fit _ _ (placed k .0) (placed k .1) (tabled c)))
-    (λ c. search needs) (λ c. search needs)  -- enum-known-c-2, enum-told-3
-    (λ c.  -- returns-2
-    let k = c .before .before .before .before in
-    tables-refused _ _ (placed k .0) (sym (c .before .c .given .1) ∙ c .before .before .before .check-tables .ensures))
-    (λ c.  -- returns-3
-    let t = c .before .before .before .before in
-    let k = t .before .before .before in
-    clauses-refused _ _ (placed k .0) (placed k .1) (tabled t) (sym (c .before .c2 .given .1) ∙ c .before .before .before .check-clauses .ensures))
-    (λ c.  -- returns-4
-    let t = c .before .before .before in
-    let k = t .before .before .before in
-    whole-accepted _ _ (placed k .0) (placed k .1) (tabled t) (sym (c .enum-told3 .given .1) ∙ c .before .before .check-clauses .ensures)))
+    (λ c κs. search needs) (λ c. search needs)  -- open-64-requires, returns
+    (λ c κs. search needs) (λ c. search needs)  -- open-512-requires, returns-2
+    (λ c κs. search needs) (λ c. search needs)  -- open-2048-requires, returns-3
+    (λ c. places-refused _ refl (too-long _ (c .if3 .left))))  -- returns-4
