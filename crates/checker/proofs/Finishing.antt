@@ -1,10 +1,10 @@
 -- The lists' room from the test of cause 8, and the whole answer from that of each step.
-use Prim.Native.Nat.{ℕ, suc, _+_, _*_, _/_, _≤_}
+use Prim.Native.Nat.{ℕ, suc, _+_, _*_, _/_, _<_, _≤_}
 use native.Mathlib.Omega.{arith}
 use mathlib.Core.Path.{_≡_, refl, ap, sym, _∙_}
 use mathlib.Core.Bool.{Bool, true, false, _&&_}
 use mathlib.Core.List.{List, [], _∷_, _++_}
-use borrow.Author.Tests.{leb-true}
+use borrow.Author.Tests.{leb-true, le-leb, lt-leb}
 use lib.Dec.{leb}
 use lib.ListN.{length, length-append}
 use Rattle.words.specs.Words.{words}
@@ -22,8 +22,8 @@ use Rattle.kinds.specs.Kinds.{named-id}
 use Rattle.checker.specs.Lists.{puts, notes, lists}
 use Rattle.checker.specs.Room.{enough}
 use Rattle.checker.specs.Filled.{withScopes, withBindings, withCarried, withRecorded, withFindings}
-use Rattle.checker.specs.Accepted.{logOf, kindsOf, Opens}
-use Rattle.checker.specs.Checked.{Lent, roomy, countsOf, filledBy, answer, left, answerFor, leftFor, Fills}
+use Rattle.checker.specs.Accepted.{logOf, kindsOf, foundIn, Opens}
+use Rattle.checker.specs.Checked.{Lent, roomy, countsOf, filledBy, answer, left, answerIn, leftIn, Fills}
 use Rattle.checker.specs.declared.Counts.{Counts}
 use Rattle.checker.specs.declared.Checked.the-variants as checked
 use Rattle.checker.proofs.Sizes.{fits}
@@ -82,12 +82,16 @@ module _ (warns : Bool) {s : List ℕ} {p : Places} (h : Held s p) where
   pub log-few : length (logOf warns (readSheet s)) ≤ length (words s)
   log-few = omega (arith, fits warns s (h .statement) (h .reads) .log, ap (λ (x : Sheet Statement). length (logOf warns x)) (h .reads))
 
-  pub findings-few : length (findsIn (logOf warns (readSheet s)) ++ kindsOf (readSheet s)) ≤ length (words s)
+  -- both walks' findings are the statement's
+  pub found-in : findsIn (logOf warns (readSheet s)) ++ kindsOf (readSheet s) ≡ foundIn warns (readSheet s)
   unfolding lists
-  findings-few =
-      let st = h .statement in
-      let e : length (findsIn (logOf warns (readSheet s)) ++ kindsOf (readSheet s)) ≡ length (findsIn (log warns st) ++ kinds (worldOf warns st) (st .head)) = ap (λ (x : Sheet Statement). length (findsIn (logOf warns x) ++ kindsOf x)) (h .reads) ∙ ap (λ k. length (findsIn (log warns st) ++ k)) (kinds-warn warns st) in
-      omega (arith, fits warns s st (h .reads) .findings, e)
+  found-in = rw (h .reads, kinds-warn warns (h .statement))
+
+  pub found-few : length (foundIn warns (readSheet s)) ≤ length (words s)
+  found-few = omega (arith, fits warns s (h .statement) (h .reads) .findings, ap (λ (x : Sheet Statement). length (foundIn warns x)) (h .reads))
+
+  pub findings-few : length (findsIn (logOf warns (readSheet s)) ++ kindsOf (readSheet s)) ≤ length (words s)
+  findings-few = omega (arith, found-few, ap length found-in)
 
   module _ (l : List Event) (el : l ≡ logOf warns (readSheet s)) (old : Lent) {a b c d f : ℕ} {sc bi ca re fi : List ℕ} where
     pub fills :
@@ -107,12 +111,16 @@ module _ (warns : Bool) {s : List ℕ} {p : Places} (h : Held s p) where
         }
 
 -- The answer of the whole call, by what opening the sheet gives.
-module _ (warns : Bool) (s : List ℕ) (l : Lent) where
-  pub refused-answer : {c : ℕ} → opened.Refused c ≡ openedAs (readSheet s) s → (checked.Refused c ≡ answerFor warns s l) × (l ≡ leftFor warns s l)
-  unfolding answerFor leftFor answer left
+module _ (warns : Bool) (s : List ℕ) (l : Lent) (room : ℕ) where
+  -- cause 8's test: the lent lists, and the list that the findings go on into
+  abbrev roomyIn : Bool
+  roomyIn = roomy (length (words s)) l && leb (length (words s)) room
+
+  pub refused-answer : {c : ℕ} → opened.Refused c ≡ openedAs (readSheet s) s → (checked.Refused c ≡ answerIn warns s l room) × (l ≡ leftIn warns s l room)
+  unfolding answerIn leftIn answer left
   refused-answer {c} e = shown (readSheet s) e
     where
-      shown : (x : Sheet Statement) → opened.Refused c ≡ openedAs x s → (checked.Refused c ≡ answer warns x (roomy (length (words s)) l)) × (l ≡ left warns x (roomy (length (words s)) l) l)
+      shown : (x : Sheet Statement) → opened.Refused c ≡ openedAs x s → (checked.Refused c ≡ answer warns x roomyIn) × (l ≡ left warns x roomyIn l)
       shown (accepted st) e = never (cc)
       shown (refused d) e = (cc, refl)
 
@@ -124,14 +132,20 @@ module _ (warns : Bool) (s : List ℕ) (l : Lent) where
         shown (accepted st) f e = record { accepted = rw f; places = cc }
         shown (refused d) f e = never (cc)
 
-    pub short-answer : roomy (length (words s)) l ≡ false → (checked.Refused 8 ≡ answerFor warns s l) × (l ≡ leftFor warns s l)
-    unfolding answerFor leftFor answer left
-    short-answer r = rw r (shown (readSheet s) e)
+    eight : roomyIn ≡ false → (checked.Refused 8 ≡ answerIn warns s l room) × (l ≡ leftIn warns s l room)
+    unfolding answerIn leftIn answer left
+    eight r = rw r (shown (readSheet s) e)
       where
         shown : (x : Sheet Statement) → opened.At p ≡ openedAs x s → (checked.Refused 8 ≡ answer warns x false) × (l ≡ left warns x false l)
         shown (accepted st) e = (refl, refl)
         shown (refused d) e = never (cc)
 
-  pub full-answer : {r : Counts} {new : Lent} → roomy (length (words s)) l ≡ true → Fills warns (readSheet s) l r new → (checked.Is r ≡ answerFor warns s l) × (new ≡ leftFor warns s l)
-  unfolding answerFor leftFor
-  full-answer r f = rw r (f .counts, f .lists)
+    pub short-answer : roomy (length (words s)) l ≡ false → (checked.Refused 8 ≡ answerIn warns s l room) × (l ≡ leftIn warns s l room)
+    short-answer r = eight (rw r)
+
+    pub few-answer : roomy (length (words s)) l ≡ true → room < length (words s) → (checked.Refused 8 ≡ answerIn warns s l room) × (l ≡ leftIn warns s l room)
+    few-answer r h = eight (rw (r, lt-leb (length (words s)) room h))
+
+  pub full-answer : {r : Counts} {new : Lent} → roomy (length (words s)) l ≡ true → length (words s) ≤ room → Fills warns (readSheet s) l r new → (checked.Is r ≡ answerIn warns s l room) × (new ≡ leftIn warns s l room)
+  unfolding answerIn leftIn
+  full-answer r h f = rw (r, le-leb (length (words s)) room h) (f .counts, f .lists)

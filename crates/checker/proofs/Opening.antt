@@ -3,7 +3,7 @@ use Prim.Native.Nat.{ℕ, _+_, _-_, _*_, _≤_}
 use native.Mathlib.Omega.{arith}
 use mathlib.Core.Path.{_≡_, refl, ap, sym, _∙_}
 use mathlib.Core.Bool.{Bool, true, false}
-use mathlib.Core.List.{List, [], _∷_, map}
+use mathlib.Core.List.{List, [], _∷_, map, flatMap, append-nil}
 use lib.ListN.{length, take, drop, length-take, length-append}
 use Rattle.words.specs.Words.{words}
 use Rattle.words.specs.Fnv.{useId}
@@ -20,6 +20,7 @@ use Rattle.sheet.specs.Statement.{Statement}
 use Rattle.sheet.specs.Read.{Sheet, accepted, refused, readSheet}
 use Rattle.sheet.specs.declared.trailer.Places.{Places}
 use Rattle.sheet.proofs.Accepted.{accepted-words}
+use Rattle.sheet.proofs.NameBytes.{nameBytes, names-give}
 use Rattle.sheet.proofs.Walked.{WalkedSheet, walked}
 use Rattle.resolve.specs.Log.{findsIn}
 use Rattle.resolve.specs.Resolve.{worldOf, log}
@@ -92,6 +93,10 @@ scanned-names (read.Next q) x e =
     named f = cc
 scanned-names (read.Refused c) x e = never (let f = sym (x .same) ∙ e in cc)
 
+-- a part from the first byte on, as the code lends it
+pub first : (e : ℕ) (s : List ℕ) → take (e * 4 - 0) s ≡ take (e * 4) s
+first e s = let z : e * 4 - 0 ≡ e * 4 = omega arith in ap (λ (k : ℕ). take k s) z
+
 module _ {s : List ℕ} {p : Places} (h : Held s p) {part : List ℕ} (cut : part ≡ take (p .rows * 4) s) where
   pub names-read : many readName (p .names) part ≡ ok (h .statement .names) []
   names-read = rw cut (h .walked .tabled .namesRead)
@@ -106,3 +111,16 @@ kinds-few {s} h =
     let st = h .statement in
     let f = fits false s st (h .reads) .findings in
     omega (arith, f, ap (λ (x : Sheet Statement). length (kindsOf x)) (h .reads), length-append (findsIn (log false st)) (kinds (worldOf false st) (st .head)))
+
+-- a name takes a word at least
+names-long : (xs : List (List ℕ)) → length xs * 4 ≤ length (flatMap nameBytes xs)
+unfolding flatMap nameBytes
+names-long [] = omega arith
+names-long (x ∷ xs) = simp length-append (omega (arith, names-long xs))
+
+pub names-few : {s : List ℕ} {p : Places} → Held s p → p .names ≤ p .rows
+names-few {s} {p} h =
+    let w = h .walked in
+    let g = names-give (p .names) (take (p .rows * 4) s) .given (h .statement .names) [] (w .tabled .namesRead) in
+    let e : take (p .rows * 4) s ≡ flatMap nameBytes (h .statement .names) = g .0 ∙ append-nil _ in
+    omega (arith, names-long (h .statement .names), g .2, ap length e, length-take (p .rows * 4) s)

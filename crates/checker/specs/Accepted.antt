@@ -6,6 +6,7 @@ use mathlib.Core.List.{List, [], map}
 use lib.ListN.{length, take}
 use Rattle.words.specs.Words.{words}
 use Rattle.words.specs.Fnv.{useId}
+use Rattle.tables.specs.Answer.{namesIn}
 use Rattle.sheet.specs.Trailer.{placesOf}
 use Rattle.sheet.specs.Statement.{Statement}
 use Rattle.sheet.specs.Read.{Sheet, accepted, refused, readSheet}
@@ -13,6 +14,7 @@ use Rattle.sheet.specs.declared.trailer.Places.{Places}
 use Rattle.resolve.specs.Log.{Event, Finding}
 use Rattle.resolve.specs.Resolve.{worldOf, log}
 use Rattle.kinds.specs.Kinds.{kinds}
+use Rattle.checker.specs.Lists.{findings}
 
 abbrev pub isAccepted : Sheet Statement → Bool
 isAccepted (accepted st) = true
@@ -31,6 +33,10 @@ abbrev pub kindsOf : Sheet Statement → List Finding
 kindsOf (accepted st) = kinds (worldOf false st) (st .head)
 kindsOf (refused c) = []
 
+abbrev pub foundIn : Bool → Sheet Statement → List Finding
+foundIn warns (accepted st) = findings warns st
+foundIn warns (refused c) = []
+
 -- an accepted sheet and where its sections stand
 pub record Opens (s : List ℕ) (p : Places) : Type 0 where
   pub accepted : isAccepted (readSheet s) ≡ true
@@ -44,3 +50,8 @@ Wide width s l = length (words s) * width ≤ length l
 pub record Named (s : List ℕ) (p : Places) (ids : List ℕ) : Type 0 where
   pub long : p .names ≤ length ids
   pub same : take (p .names) ids ≡ map useId (namesOf (readSheet s))
+
+-- the places of its names
+pub record Placed (s : List ℕ) (p : Places) (tab : List ℕ) : Type 0 where
+  pub long : p .names ≤ length tab
+  pub same : namesIn (take (p .rows * 4) s) (p .names) tab ≡ namesOf (readSheet s)

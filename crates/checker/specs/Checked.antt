@@ -3,6 +3,7 @@ use Prim.Native.Nat.{ℕ}
 use mathlib.Core.Path.{_≡_}
 use mathlib.Core.Bool.{Bool, true, false, _&&_}
 use mathlib.Core.List.{List, []}
+use lib.Dec.{leb}
 use lib.ListN.{length}
 use Rattle.words.specs.Words.{words}
 use Rattle.sheet.specs.Statement.{Statement}
@@ -64,12 +65,17 @@ module _ (warns : Bool) where
   left (accepted st) false l = l
   left (accepted st) true l = filledBy st l
 
--- the same for the bytes of a sheet
-unfoldable pub answerFor : Bool → List ℕ → Lent → Checked
-answerFor warns s l = answer warns (readSheet s) (roomy (length (words s)) l)
+-- the same for the bytes of a sheet, whose findings go on into a list of so many entries
+unfoldable pub answerIn : Bool → List ℕ → Lent → ℕ → Checked
+answerIn warns s l room = answer warns (readSheet s) (roomy (length (words s)) l && leb (length (words s)) room)
 
-unfoldable pub leftFor : Bool → List ℕ → Lent → Lent
-leftFor warns s l = left warns (readSheet s) (roomy (length (words s)) l) l
+unfoldable pub leftIn : Bool → List ℕ → Lent → ℕ → Lent
+leftIn warns s l room = left warns (readSheet s) (roomy (length (words s)) l && leb (length (words s)) room) l
+
+-- how many findings an answer counts
+abbrev pub findingsIn : Checked → ℕ
+findingsIn (checked.Is c) = c .findings
+findingsIn (checked.Refused n) = 0
 
 -- an accepted sheet's lists are filled, and counted
 pub record Fills (warns : Bool) (x : Sheet Statement) (old : Lent) (r : Counts) (new : Lent) : Type 0 where

@@ -13,6 +13,7 @@ use lists::fill_recorded;
 use lists::fill_scopes;
 use passes::kinds_of;
 use passes::log_of;
+use passes::marks_of;
 use passes::scan;
 use sheet::Opened;
 use sheet::Places;
@@ -31,8 +32,8 @@ ghost use Rattle.resolve.specs.Walk.{events};
 ghost use Rattle.checker.specs.Lists.{puts, notes};
 ghost use Rattle.checker.specs.Room.{enough};
 ghost use Rattle.checker.specs.Filled.{withScopes, withBindings, withCarried, withRecorded, withFindings};
-ghost use Rattle.checker.specs.Accepted.{namesOf, logOf, kindsOf, Opens, Wide};
-ghost use Rattle.checker.specs.Checked.{Lent, roomy, Fills, answerFor, leftFor};
+ghost use Rattle.checker.specs.Accepted.{namesOf, logOf, kindsOf, foundIn, Opens, Wide, Named, Placed};
+ghost use Rattle.checker.specs.Checked.{Lent, roomy, Fills, answerIn, leftIn, findingsIn};
 
 // How many entries the lists have.
 pub struct Counts {
@@ -93,6 +94,25 @@ fn fill_all_findings(
     let m = fill_findings(log, n, out);
     let k = kinds_of(s, p, ident, log);
     append_findings(log, k, out, m)
+}
+
+// The findings alone, where the names' places and use ids are known; how many there are. The other two are scratch.
+pub fn findings_of(
+    s: &[u8],
+    p: Places,
+    warns: bool,
+    tab: &[u32],
+    ids: &[u32],
+    vis: &mut [u32],
+    log: &mut [u32],
+    out: &mut [u32],
+) -> usize
+    requires { ⌜ (Opens (now s) p × (Placed (now s) p (now tab) × Named (now s) p (now ids))) × (Wide 2 (now s) (now vis) × (Wide 6 (now s) (now log) × Wide 6 (now s) (now out))) ⌝ }
+    ensures { λ r. ⌜ (r ≡ length (foundIn warns (readSheet (now (s .entry))))) × ((now (out .exit) ≡ withFindings (now (out .entry)) (foundIn warns (readSheet (now (s .entry))))) × (r ≤ length (words (now (s .entry))))) ⌝ }
+{
+    let m = marks_of(s, p, tab);
+    let n = log_of(s, p, m.star, warns, ids, vis, log);
+    fill_all_findings(s, p, m.ident, log, n, out)
 }
 
 // The lists of an accepted sheet, which have room; the other four are scratch, with as many entries as the sheet has words.
@@ -292,8 +312,18 @@ fn fill_sized(
     fill_2048(s, p, warns, scopes, bindings, carried, recorded, findings)
 }
 
-// The check call, warnings on or off.
-pub fn check(
+// How many findings a check answers; none where the sheet is refused.
+pub fn findings_in(c: Checked) -> usize
+    ensures { λ r. ⌜ r ≡ findingsIn c ⌝ }
+{
+    match c {
+        Checked::Is(n) => n.findings,
+        Checked::Refused(_) => 0,
+    }
+}
+
+// The check call, warnings on or off. Its findings are flat words, for a list of finding records that has room for so many.
+pub fn check_words(
     s: &[u8],
     warns: bool,
     scopes: &mut [u32],
@@ -301,15 +331,18 @@ pub fn check(
     carried: &mut [u32],
     recorded: &mut [u32],
     findings: &mut [u32],
+    room: usize,
 ) -> Checked
-    ensures answer { λ r. ⌜ r ≡ answerFor warns (now (s .entry)) (record { scopes = now (scopes .entry); bindings = now (bindings .entry); carried = now (carried .entry); recorded = now (recorded .entry); findings = now (findings .entry) }) ⌝ }
-    ensures { λ r. ⌜ record { scopes = now (scopes .exit); bindings = now (bindings .exit); carried = now (carried .exit); recorded = now (recorded .exit); findings = now (findings .exit) } ≡ leftFor warns (now (s .entry)) (record { scopes = now (scopes .entry); bindings = now (bindings .entry); carried = now (carried .entry); recorded = now (recorded .entry); findings = now (findings .entry) }) ⌝ }
+    ensures { λ r. ⌜ (r ≡ answerIn warns (now (s .entry)) (record { scopes = now (scopes .entry); bindings = now (bindings .entry); carried = now (carried .entry); recorded = now (recorded .entry); findings = now (findings .entry) }) room) × (record { scopes = now (scopes .exit); bindings = now (bindings .exit); carried = now (carried .exit); recorded = now (recorded .exit); findings = now (findings .exit) } ≡ leftIn warns (now (s .entry)) (record { scopes = now (scopes .entry); bindings = now (bindings .entry); carried = now (carried .entry); recorded = now (recorded .entry); findings = now (findings .entry) }) room) ⌝ }
 {
     match open(s) {
         Opened::Refused(c) => Checked::Refused(c),
         Opened::At(p) => {
             let n = count(s);
             if !have_room(n, scopes, bindings, carried, recorded, findings) {
+                return Checked::Refused(8);
+            }
+            if room < n {
                 return Checked::Refused(8);
             }
             Checked::Is(fill_sized(

@@ -16,12 +16,27 @@ ghost use Rattle.tables.specs.Index.{indexOf};
 ghost use Rattle.sheet.specs.Read.{readSheet};
 ghost use Rattle.resolve.specs.Walk.{events};
 ghost use Rattle.kinds.specs.Walk.{Pushed};
-ghost use Rattle.checker.specs.Accepted.{namesOf, logOf, kindsOf, Opens, Wide, Named};
+ghost use Rattle.checker.specs.Accepted.{namesOf, logOf, kindsOf, Opens, Wide, Named, Placed};
 
 // The index + 1, or 0, of the names `*` and `id`.
 pub struct Marked {
     pub star: u32,
     pub ident: u32,
+}
+
+// Which of the names are marked, where tab has their places.
+pub fn marks_of(s: &[u8], p: Places, tab: &[u32]) -> Marked
+    requires { ⌜ Opens (now s) p × Placed (now s) p (now tab) ⌝ }
+    ensures { λ r. ⌜ (r .star ≡ indexOf (42 ∷ []) (namesOf (readSheet (now (s .entry))))) × (r .ident ≡ indexOf (105 ∷ 100 ∷ []) (namesOf (readSheet (now (s .entry))))) ⌝ }
+{
+    let rows = p.rows;
+    let n = p.names;
+    let e = rows * 4;
+    let part = &s[0..e];
+    Marked {
+        star: index_of(part, tab, n as usize, b"*"),
+        ident: index_of(part, tab, n as usize, b"id"),
+    }
 }
 
 // The use ids of the names, and which of them are marked; tab is for their places.
@@ -30,14 +45,9 @@ pub fn scan(s: &[u8], p: Places, tab: &mut [u32], ids: &mut [u32]) -> Marked
     ensures { λ r. ⌜ Named (now (s .entry)) p (now (ids .exit)) × ((r .star ≡ indexOf (42 ∷ []) (namesOf (readSheet (now (s .entry))))) × (r .ident ≡ indexOf (105 ∷ 100 ∷ []) (namesOf (readSheet (now (s .entry)))))) ⌝ }
 {
     let rows = p.rows;
-    let n = p.names;
     let e = rows * 4;
-    let part = &s[0..e];
-    scan_names(part, n, tab, ids);
-    Marked {
-        star: index_of(part, tab, n as usize, b"*"),
-        ident: index_of(part, tab, n as usize, b"id"),
-    }
+    scan_names(&s[0..e], p.names, tab, ids);
+    marks_of(s, p, tab)
 }
 
 // The log; how many events it has.

@@ -59,7 +59,7 @@ read-whole c (ok a (w ∷ ws)) = not-held
 read-whole c (no d) = not-held
 
 -- the names and the bindings are what their sections give, and none stands twice
-pub record Tabled (s ws : List ℕ) (p : Places) (names : List (List ℕ)) (rows : List Row) : Type 0 where
+pub record TwoTables (s ws : List ℕ) (p : Places) (names : List (List ℕ)) (rows : List Row) : Type 0 where
   pub namesRead : many readName (p .names) (take (p .rows * 4) s) ≡ ok names []
   pub rowsRead : many (readRow (p .names)) (p .bindings) (section ws (p .rows) (p .head)) ≡ ok rows []
   pub apart : distinct nameIn names ≡ true
@@ -108,7 +108,7 @@ pub record Framed (p : Places) (st : Statement) : Type 0 where
   pub stop : st .stop ≡ p .end
   pub bound : Bound (map rowId (st .bindings)) (st .head) (st .arms)
 
-sections-hold : (s ws : List ℕ) (p : Places) → Holds (readSections s ws p) (λ st. Sections ws p (st .head) (st .arms) × Tabled s ws p (st .names) (st .bindings) × Framed p st)
+sections-hold : (s ws : List ℕ) (p : Places) → Holds (readSections s ws p) (λ st. Sections ws p (st .head) (st .arms) × TwoTables s ws p (st .names) (st .bindings) × Framed p st)
 unfolding readSections
 sections-hold s ws p =
     next (names-hold (p .names) (take (p .rows * 4) s))
@@ -129,7 +129,7 @@ abbrev pub Accepted : List ℕ → Statement → Type 0
 Accepted s st =
     (10 ≤ length (words s))
     × Sections (words s) (placesOf (words s)) (st .head) (st .arms)
-    × Tabled s (words s) (placesOf (words s)) (st .names) (st .bindings)
+    × TwoTables s (words s) (placesOf (words s)) (st .names) (st .bindings)
     × Framed (placesOf (words s)) st
     × Placed s
 

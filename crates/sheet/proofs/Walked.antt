@@ -23,7 +23,7 @@ use Rattle.sheet.specs.declared.trailer.Places.{Places}
 use Rattle.sheet.proofs.Placing.{within}
 use Rattle.sheet.proofs.Reading.{row-gives, rows-read}
 use Rattle.sheet.proofs.NameBytes.{names-give}
-use Rattle.sheet.proofs.Accepted.{Tabled, Sections, accepted-words}
+use Rattle.sheet.proofs.Accepted.{TwoTables, Sections, accepted-words}
 use Rattle.sheet.proofs.WrittenSheet.{cut}
 
 -- what is known of a sheet s whose sections stand at p, and which holds the statement st
@@ -33,7 +33,7 @@ pub record WalkedSheet (s : List ℕ) (p : Places) (st : Statement) : Type 0 whe
   pub whole : p .trailer + 10 ≡ length (words s)
   pub table : p .rows + p .bindings * 5 ≡ p .head
   -- the names and the bindings
-  pub tabled : Tabled s (words s) p (st .names) (st .bindings)
+  pub tabled : TwoTables s (words s) p (st .names) (st .bindings)
   pub named : length (st .names) ≡ p .names
   pub bindings : length (st .bindings) ≡ p .bindings
   pub rows : section (words s) (p .rows) (p .head) ≡ flatMap rowWords (st .bindings)
@@ -44,7 +44,7 @@ pub record WalkedSheet (s : List ℕ) (p : Places) (st : Statement) : Type 0 whe
 
 module _ (s : List ℕ) (p : Places) (st : Statement) where
   -- the bindings are their section's words, so they fill it
-  walks : InPlaces s p → Sections (words s) p (st .head) (st .arms) → Tabled s (words s) p (st .names) (st .bindings) → WalkedSheet s p st
+  walks : InPlaces s p → Sections (words s) p (st .head) (st .arms) → TwoTables s (words s) p (st .names) (st .bindings) → WalkedSheet s p st
   unfolding knownAt
   walks h x t =
       let ws = words s in

@@ -1,6 +1,6 @@
 // The lists of a sheet as text on standard output: each after a line of its name and count, an entry a line, fields between blanks.
 use checker::Checked;
-use checker::check;
+use checker::check_words;
 use libc::STDOUT_FILENO;
 
 enum Kind {
@@ -159,7 +159,8 @@ pub fn show(s: &[u8]) {
     let mut carried = [0u32; 6144];
     let mut recorded = [0u32; 10240];
     let mut findings = [0u32; 12288];
-    match check(
+    let room = findings.len() / 6;
+    match check_words(
         s,
         true,
         &mut scopes,
@@ -167,6 +168,7 @@ pub fn show(s: &[u8]) {
         &mut carried,
         &mut recorded,
         &mut findings,
+        room,
     ) {
         Checked::Refused(c) => refusal(c),
         Checked::Is(c) => {
