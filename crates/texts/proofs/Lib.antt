@@ -1,0 +1,4 @@
+pub mod Table
+pub mod Short
+pub mod Laying
+pub mod Giving

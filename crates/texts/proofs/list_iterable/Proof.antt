@@ -1,0 +1,16 @@
+-- What the callee lays is the definition's text.
+use borrow.Author.Needs.{needs}
+use Rattle.texts.specs.Texts.{textOf}
+use Rattle.texts.proofs.list_iterable.Statement.{statement}
+use Rattle.texts.proofs.list_iterable.Tie as tie
+
+pub list-iterable-spec : {M : Type 1} → statement M
+unfolding textOf
+list-iterable-spec =
+    tie.close
+    (tie.spec
+    (λ c. search needs)  -- slice-aggregate-typed
+    (λ c. search needs)  -- slice-aggregate-typed-2
+    (λ c κs. c .before .before .before .before .pre)  -- typed-requires
+    (λ c. search needs)  -- same-length
+    (λ c. c .before .before .typed .ensures))  -- returns
