@@ -1,11 +1,5 @@
 //! A row of sheets from a seed, each after its byte length as a little-endian word.
-mod clauses;
-mod damage;
-mod random;
-mod sheet;
-mod tables;
-
-use random::Random;
+use generator::{Random, one};
 use std::io::{BufWriter, Write, stdout};
 
 fn main() -> std::io::Result<()> {
@@ -22,10 +16,4 @@ fn main() -> std::io::Result<()> {
         row.write_all(&bytes)?;
     }
     row.flush()
-}
-
-/// A sheet; one in four is damaged.
-fn one(random: &mut Random) -> Vec<u8> {
-    let sheet = sheet::sheet(random);
-    if random.one_in(4) { damage::damaged(random, sheet) } else { damage::to_bytes(&sheet.words()) }
 }

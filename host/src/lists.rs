@@ -1,27 +1,34 @@
 //! What program `lists` writes for a sheet, from the Rust's answers.
 use crate::record::record;
-use crate::sheet::{KINDS, Sheet};
+use crate::sheet::KINDS;
 use cyrs_diag::{Diagnostic, DiagnosticsSink};
-use cyrs_hir::{BindingKind, HirSpan, Resolution, ResolvedNames, ScopeGraph, ScopeKind, VarId, VarKind};
+use cyrs_hir::{BindingKind, HirSpan, Resolution, ResolvedNames, ScopeGraph, ScopeKind, Statement, VarId, VarKind};
 use cyrs_sema::kinds::check_kinds;
-use cyrs_sema::resolve::resolve;
-use std::fmt::Display;
+use cyrs_sema::resolve::{ResolveResult, resolve};
+use std::fmt::{Display, Write};
 
-/// The program's page, in bytes.
-const PAGE: usize = 65_536;
+/// What the two passes give.
+pub struct Ran {
+    pub findings: Vec<Diagnostic>,
+    pub resolved: ResolveResult,
+}
 
-pub fn answers(sheet: &Sheet, warnings: bool) -> String {
+/// `resolve`, then `check_kinds`, on one sink.
+pub fn run(statement: &Statement, warnings: bool) -> Ran {
     let mut sink = DiagnosticsSink::default();
-    let resolved = resolve(&sheet.statement, warnings, &mut sink);
-    check_kinds(&sheet.statement, &mut sink);
-    let graph = &resolved.scope_graph;
+    let resolved = resolve(statement, warnings, &mut sink);
+    check_kinds(statement, &mut sink);
+    Ran { findings: sink.pushed, resolved }
+}
+
+pub fn lists(ran: &Ran, names: &[String]) -> String {
+    let graph = &ran.resolved.scope_graph;
     [
-        listing(&sink.pushed),
         list("scopes", scopes(graph)),
-        list("bindings", bindings(graph, &sheet.names)),
-        list("carried", carried(graph, &sheet.names)),
-        list("recorded", recorded(&resolved.resolved_names)),
-        list("records", sink.pushed.iter().map(|d| record(d, &sheet.names)).collect()),
+        list("bindings", bindings(graph, names)),
+        list("carried", carried(graph, names)),
+        list("recorded", recorded(&ran.resolved.resolved_names)),
+        list("records", ran.findings.iter().map(|d| record(d, names)).collect()),
     ]
     .concat()
 }
@@ -31,10 +38,13 @@ fn list(name: &str, entries: Vec<String>) -> String {
     std::iter::once(count).chain(entries).map(|line| line + "\n").collect()
 }
 
-fn listing(findings: &[Diagnostic]) -> String {
-    let lines = findings.iter().map(|d| format!("E{} {} {}", d.code as u32, ends(d.span), d.message)).collect();
-    let text = list("findings", lines);
-    if text.len() <= PAGE { text } else { "refused 10\n".to_owned() }
+pub fn listing(findings: &[Diagnostic]) -> String {
+    let mut text = format!("findings {}\n", findings.len());
+    for d in findings {
+        let (start, end) = (u32::from(d.span.start()), u32::from(d.span.end()));
+        writeln!(text, "E{} {start} {end} {}", d.code as u32, d.message).expect("a String takes all");
+    }
+    text
 }
 
 pub fn ends(span: HirSpan) -> String {

@@ -1,9 +1,6 @@
 //! The Rust's answers for a row of sheets on standard input, each after its byte length as a little-endian word.
-mod lists;
-mod record;
-mod sheet;
-
 use std::io::{Read, Write, stdin, stdout};
+use theirs::{lists, sheet};
 
 fn main() -> std::io::Result<()> {
     let warnings = std::env::args().nth(1).as_deref() != Some("0");
@@ -23,9 +20,16 @@ fn first(row: &[u8]) -> Option<(&[u8], &[u8])> {
     rest.split_at_checked(u32::from_le_bytes(*length) as usize)
 }
 
+/// The page of program `lists`, in bytes.
+const PAGE: usize = 65_536;
+
 fn answer(bytes: &[u8], warnings: bool) -> String {
-    match sheet::read(bytes) {
-        Ok(sheet) => lists::answers(&sheet, warnings),
-        Err(cause) => format!("refused {cause}\n"),
-    }
+    let sheet = match sheet::read(bytes) {
+        Ok(sheet) => sheet,
+        Err(cause) => return format!("refused {cause}\n"),
+    };
+    let ran = lists::run(&sheet.statement, warnings);
+    let text = lists::listing(&ran.findings);
+    let text = if text.len() <= PAGE { text } else { "refused 10\n".to_owned() };
+    text + &lists::lists(&ran, &sheet.names)
 }

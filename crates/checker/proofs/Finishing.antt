@@ -1,12 +1,12 @@
 -- The lists' room from the test of cause 8, and the whole answer from that of each step.
-use Prim.Native.Nat.{ℕ, suc, _+_, _*_, _/_, _<_, _≤_}
+use Prim.Native.Nat.{ℕ, _*_, _/_, _<_, _≤_}
 use native.Mathlib.Omega.{arith}
-use mathlib.Core.Path.{_≡_, refl, ap, sym, _∙_}
+use mathlib.Core.Path.{_≡_, refl, ap}
 use mathlib.Core.Bool.{Bool, true, false, _&&_}
-use mathlib.Core.List.{List, [], _∷_, _++_}
+use mathlib.Core.List.{List, [], _++_}
 use borrow.Author.Tests.{leb-true, le-leb, lt-leb}
 use lib.Dec.{leb}
-use lib.ListN.{length, length-append}
+use lib.ListN.{length}
 use Rattle.words.specs.Words.{words}
 use Rattle.expr.proofs.Inverse.{never}
 use Rattle.sheet.specs.Statement.{Statement}
@@ -22,7 +22,7 @@ use Rattle.kinds.specs.Kinds.{named-id}
 use Rattle.checker.specs.Lists.{puts, notes, lists}
 use Rattle.checker.specs.Room.{enough}
 use Rattle.checker.specs.Filled.{withScopes, withBindings, withCarried, withRecorded, withFindings}
-use Rattle.checker.specs.Accepted.{logOf, kindsOf, foundIn, Opens}
+use Rattle.checker.specs.Accepted.{logOf, kindsOf, foundIn}
 use Rattle.checker.specs.Checked.{Lent, roomy, countsOf, filledBy, answer, left, answerIn, leftIn, Fills}
 use Rattle.checker.specs.declared.Counts.{Counts}
 use Rattle.checker.specs.declared.Checked.the-variants as checked
@@ -125,13 +125,6 @@ module _ (warns : Bool) (s : List ℕ) (l : Lent) (room : ℕ) where
       shown (refused d) e = (cc, refl)
 
   module _ {p : Places} (e : opened.At p ≡ openedAs (readSheet s) s) where
-    pub opens : Opens s p
-    opens = shown (readSheet s) refl e
-      where
-        shown : (x : Sheet Statement) → readSheet s ≡ x → opened.At p ≡ openedAs x s → Opens s p
-        shown (accepted st) f e = record { accepted = rw f; places = cc }
-        shown (refused d) f e = never (cc)
-
     eight : roomyIn ≡ false → (checked.Refused 8 ≡ answerIn warns s l room) × (l ≡ leftIn warns s l room)
     unfolding answerIn leftIn answer left
     eight r = rw r (shown (readSheet s) e)

@@ -1,24 +1,22 @@
 -- What the steps of the check call ask follows from what the sheet's reader accepts.
-use Prim.Native.Nat.{ℕ, _+_, _-_, _*_, _≤_}
+use Prim.Native.Nat.{ℕ, _-_, _*_, _≤_}
 use native.Mathlib.Omega.{arith}
 use mathlib.Core.Path.{_≡_, refl, ap, sym, _∙_}
-use mathlib.Core.Bool.{Bool, true, false}
-use mathlib.Core.List.{List, [], _∷_, map, flatMap, append-nil}
+use mathlib.Core.Bool.{true, false}
+use mathlib.Core.List.{List, [], _∷_, flatMap, append-nil}
 use lib.ListN.{length, take, drop, length-take, length-append}
 use Rattle.words.specs.Words.{words}
-use Rattle.words.specs.Fnv.{useId}
-use Rattle.heads.specs.Got.{Got, ok, no, many, isOk}
-use Rattle.heads.specs.declared.Read.{Read}
-use Rattle.heads.specs.declared.Read.the-variants as read
+use Rattle.words.proofs.Words.{length-words}
+use Rattle.heads.specs.Got.{ok, many}
 use Rattle.expr.proofs.Inverse.{never}
-use Rattle.clauses.specs.Tree.{Clause}
 use Rattle.clauses.specs.Read.{readClause}
-use Rattle.tables.specs.Name.{readName}
-use Rattle.tables.specs.Answer.{namesIn, Scanned}
 use Rattle.tables.specs.Index.{indexOf}
+use Rattle.sheet.specs.Trailer.{placesOf}
 use Rattle.sheet.specs.Statement.{Statement}
 use Rattle.sheet.specs.Read.{Sheet, accepted, refused, readSheet}
+use Rattle.sheet.specs.Answer.{openedAs, Names}
 use Rattle.sheet.specs.declared.trailer.Places.{Places}
+use Rattle.sheet.specs.declared.trailer.Opened.the-variants as opened
 use Rattle.sheet.proofs.Accepted.{accepted-words}
 use Rattle.sheet.proofs.NameBytes.{nameBytes, names-give}
 use Rattle.sheet.proofs.Walked.{WalkedSheet, walked}
@@ -33,7 +31,25 @@ use Rattle.kinds.proofs.Accepted.{table-at, well-rows}
 use Rattle.kinds.proofs.Same.{true-world}
 use Rattle.checker.specs.Lists.{lists}
 use Rattle.checker.proofs.Sizes.{fits}
-use Rattle.checker.specs.Accepted.{isAccepted, namesOf, kindsOf, Opens, Wide}
+use Rattle.checker.specs.Accepted.{isAccepted, namesOf, kindsOf, Opens, Wide, Named, Placed}
+
+-- a sheet that was opened is accepted, and of two tables with an entry for each word one has the places of its names, the other their
+-- use ids
+module _ {s : List ℕ} {p : Places} (e : opened.At p ≡ openedAs (readSheet s) s) where
+  pub opens : Opens s p
+  opens = shown (readSheet s) refl e
+    where
+      shown : (x : Sheet Statement) → readSheet s ≡ x → opened.At p ≡ openedAs x s → Opens s p
+      shown (accepted st) f e = record { accepted = rw f; places = cc }
+      shown (refused c) f e = never (cc)
+
+  pub tabled : {tab ids : List ℕ} → Names (readSheet s) s tab ids → Wide 1 s tab → Wide 1 s ids → Placed s p tab × Named s p ids
+  tabled {tab} {ids} n wide wide' = rw (opens .places) (shown (readSheet s) refl e n)
+    where
+      shown : (x : Sheet Statement) → readSheet s ≡ x → opened.At p ≡ openedAs x s → Names x s tab ids → Placed s (placesOf (words s)) tab × Named s (placesOf (words s)) ids
+      shown (accepted st) f e n =
+          (record { long = omega (arith, n .many, length-words s); same = rw f (n .places) }, record { long = omega (arith, n .many, length-words s); same = rw f (n .uses) })
+      shown (refused c) f e n = never (cc)
 
 -- the statement that an accepted sheet holds
 pub record Held (s : List ℕ) (p : Places) : Type 0 where
@@ -82,27 +98,9 @@ module _ {s : List ℕ} {p : Places} (h : Held s p) {ws : List ℕ} (cut : ws �
       let f : found (kinds (worldAt ws (kindEnv p ident))) (many (readClause (tablesAt ws (kindEnv p ident))) (p .clauses) (drop (p .head) ws)) ≡ kindsOf (readSheet s) = ap (found (kinds (worldAt ws (kindEnv p ident)))) (head-is ident) ∙ t ∙ sym (ap kindsOf (h .reads)) in
       record { count = rw (← f) (v .count); wrote = rw (← f) (v .wrote) }
 
--- the names, and their use ids
-pub scanned-names : {s : List ℕ} {n : ℕ} {tab ids : List ℕ} (r : Read) {ns : List (List ℕ)} → Scanned s n tab ids r → many readName n s ≡ ok ns [] → (namesIn s n tab ≡ ns) × ((take n ids ≡ map useId ns) × (n * 4 ≤ length s))
-scanned-names (read.Next q) x e =
-    let f = sym (x .same) ∙ e in
-    let g = named f in
-    (g, (x .fit ∙ ap (map useId) g, omega (arith, x .ends .0, x .ends .1)))
-  where
-    named : {ns ms : List (List ℕ)} {l m : List ℕ} → _≡_ {A = Got (List (List ℕ))} (ok ns l) (ok ms m) → ns ≡ ms
-    named f = cc
-scanned-names (read.Refused c) x e = never (let f = sym (x .same) ∙ e in cc)
-
 -- a part from the first byte on, as the code lends it
 pub first : (e : ℕ) (s : List ℕ) → take (e * 4 - 0) s ≡ take (e * 4) s
 first e s = let z : e * 4 - 0 ≡ e * 4 = omega arith in ap (λ (k : ℕ). take k s) z
-
-module _ {s : List ℕ} {p : Places} (h : Held s p) {part : List ℕ} (cut : part ≡ take (p .rows * 4) s) where
-  pub names-read : many readName (p .names) part ≡ ok (h .statement .names) []
-  names-read = rw cut (h .walked .tabled .namesRead)
-
-  pub part-long : length part ≡ p .rows * 4
-  part-long = let w = h .walked .places in ap length cut ∙ length-take (p .rows * 4) s ∙ omega (arith, w .rows, w .head, w .tail, w .trailer)
 
 -- as many findings as words, at most
 pub kinds-few : {s : List ℕ} {p : Places} → Held s p → length (kindsOf (readSheet s)) ≤ length (words s)

@@ -7,7 +7,6 @@ pub mod Sheets
 pub mod Agree
 pub mod Fits
 pub mod Uses
-pub mod Cases
 pub mod Filled
 pub mod Adding
 pub mod Checked

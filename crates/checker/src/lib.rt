@@ -14,26 +14,24 @@ use lists::fill_scopes;
 use passes::kinds_of;
 use passes::log_of;
 use passes::marks_of;
-use passes::scan;
 use sheet::Opened;
 use sheet::Places;
-use sheet::open;
+use sheet::open_in;
 use words::count;
 ghost use mathlib.Core.Path.{_≡_};
-ghost use mathlib.Core.Bool.{Bool, true};
-ghost use mathlib.Core.List.{List, [], _∷_, _++_};
-ghost use Prim.Native.Nat.{ℕ, _*_, _≤_};
+ghost use mathlib.Core.Bool.{true};
+ghost use mathlib.Core.List.{[], _∷_, _++_};
+ghost use Prim.Native.Nat.{_*_, _≤_};
 ghost use lib.ListN.{length};
 ghost use Rattle.words.specs.Words.{words};
 ghost use Rattle.tables.specs.Index.{indexOf};
 ghost use Rattle.sheet.specs.Read.{readSheet};
-ghost use Rattle.resolve.specs.Log.{scopesIn, bindsIn, carriesIn, answersIn, findsIn};
+ghost use Rattle.resolve.specs.Log.{findsIn};
 ghost use Rattle.resolve.specs.Walk.{events};
-ghost use Rattle.checker.specs.Lists.{puts, notes};
 ghost use Rattle.checker.specs.Room.{enough};
-ghost use Rattle.checker.specs.Filled.{withScopes, withBindings, withCarried, withRecorded, withFindings};
-ghost use Rattle.checker.specs.Accepted.{namesOf, logOf, kindsOf, foundIn, Opens, Wide, Named, Placed};
-ghost use Rattle.checker.specs.Checked.{Lent, roomy, Fills, answerIn, leftIn, findingsIn};
+ghost use Rattle.checker.specs.Filled.{withFindings};
+ghost use Rattle.checker.specs.Accepted.{namesOf, kindsOf, foundIn, Opens, Wide, Named, Placed};
+ghost use Rattle.checker.specs.Checked.{roomy, Fills, answerIn, leftIn, findingsIn};
 
 // How many entries the lists have.
 pub struct Counts {
@@ -115,13 +113,13 @@ pub fn findings_of(
     fill_all_findings(s, p, m.ident, log, n, out)
 }
 
-// The lists of an accepted sheet, which have room; the other four are scratch, with as many entries as the sheet has words.
+// The lists of an accepted sheet, which have room, where the names' places and use ids are known; the other two are scratch.
 fn fill(
     s: &[u8],
     p: Places,
     warns: bool,
-    tab: &mut [u32],
-    ids: &mut [u32],
+    tab: &[u32],
+    ids: &[u32],
     vis: &mut [u32],
     log: &mut [u32],
     scopes: &mut [u32],
@@ -130,10 +128,10 @@ fn fill(
     recorded: &mut [u32],
     findings: &mut [u32],
 ) -> Counts
-    requires { ⌜ (Opens (now s) p × ((Wide 1 (now s) (now tab) × Wide 1 (now s) (now ids)) × (Wide 2 (now s) (now vis) × Wide 6 (now s) (now log)))) × (roomy (length (words (now s))) (record { scopes = now scopes; bindings = now bindings; carried = now carried; recorded = now recorded; findings = now findings }) ≡ true) ⌝ }
+    requires { ⌜ (Opens (now s) p × ((Placed (now s) p (now tab) × Named (now s) p (now ids)) × (Wide 2 (now s) (now vis) × Wide 6 (now s) (now log)))) × (roomy (length (words (now s))) (record { scopes = now scopes; bindings = now bindings; carried = now carried; recorded = now recorded; findings = now findings }) ≡ true) ⌝ }
     ensures { λ r. ⌜ Fills warns (readSheet (now (s .entry))) (record { scopes = now (scopes .entry); bindings = now (bindings .entry); carried = now (carried .entry); recorded = now (recorded .entry); findings = now (findings .entry) }) r (record { scopes = now (scopes .exit); bindings = now (bindings .exit); carried = now (carried .exit); recorded = now (recorded .exit); findings = now (findings .exit) }) ⌝ }
 {
-    let m = scan(s, p, tab, ids);
+    let m = marks_of(s, p, tab);
     let n = log_of(s, p, m.star, warns, ids, vis, log);
     let a = fill_scopes(log, n, scopes);
     let b = fill_bindings(log, n, bindings);
@@ -149,169 +147,6 @@ fn fill(
     }
 }
 
-// With scratch for sheets of up to 64 words.
-fn fill_64(
-    s: &[u8],
-    p: Places,
-    warns: bool,
-    scopes: &mut [u32],
-    bindings: &mut [u32],
-    carried: &mut [u32],
-    recorded: &mut [u32],
-    findings: &mut [u32],
-) -> Counts
-    requires { ⌜ (Opens (now s) p × (length (words (now s)) ≤ 64)) × (roomy (length (words (now s))) (record { scopes = now scopes; bindings = now bindings; carried = now carried; recorded = now recorded; findings = now findings }) ≡ true) ⌝ }
-    ensures { λ r. ⌜ Fills warns (readSheet (now (s .entry))) (record { scopes = now (scopes .entry); bindings = now (bindings .entry); carried = now (carried .entry); recorded = now (recorded .entry); findings = now (findings .entry) }) r (record { scopes = now (scopes .exit); bindings = now (bindings .exit); carried = now (carried .exit); recorded = now (recorded .exit); findings = now (findings .exit) }) ⌝ }
-{
-    let mut tab = [0u32; 64];
-    let mut ids = [0u32; 64];
-    let mut vis = [0u32; 128];
-    let mut log = [0u32; 384];
-    fill(
-        s,
-        p,
-        warns,
-        &mut tab,
-        &mut ids,
-        &mut vis,
-        &mut log,
-        scopes,
-        bindings,
-        carried,
-        recorded,
-        findings,
-    )
-}
-
-// With scratch for sheets of up to 256 words.
-fn fill_256(
-    s: &[u8],
-    p: Places,
-    warns: bool,
-    scopes: &mut [u32],
-    bindings: &mut [u32],
-    carried: &mut [u32],
-    recorded: &mut [u32],
-    findings: &mut [u32],
-) -> Counts
-    requires { ⌜ (Opens (now s) p × (length (words (now s)) ≤ 256)) × (roomy (length (words (now s))) (record { scopes = now scopes; bindings = now bindings; carried = now carried; recorded = now recorded; findings = now findings }) ≡ true) ⌝ }
-    ensures { λ r. ⌜ Fills warns (readSheet (now (s .entry))) (record { scopes = now (scopes .entry); bindings = now (bindings .entry); carried = now (carried .entry); recorded = now (recorded .entry); findings = now (findings .entry) }) r (record { scopes = now (scopes .exit); bindings = now (bindings .exit); carried = now (carried .exit); recorded = now (recorded .exit); findings = now (findings .exit) }) ⌝ }
-{
-    let mut tab = [0u32; 256];
-    let mut ids = [0u32; 256];
-    let mut vis = [0u32; 512];
-    let mut log = [0u32; 1536];
-    fill(
-        s,
-        p,
-        warns,
-        &mut tab,
-        &mut ids,
-        &mut vis,
-        &mut log,
-        scopes,
-        bindings,
-        carried,
-        recorded,
-        findings,
-    )
-}
-
-// With scratch for sheets of up to 1,024 words.
-fn fill_1024(
-    s: &[u8],
-    p: Places,
-    warns: bool,
-    scopes: &mut [u32],
-    bindings: &mut [u32],
-    carried: &mut [u32],
-    recorded: &mut [u32],
-    findings: &mut [u32],
-) -> Counts
-    requires { ⌜ (Opens (now s) p × (length (words (now s)) ≤ 1024)) × (roomy (length (words (now s))) (record { scopes = now scopes; bindings = now bindings; carried = now carried; recorded = now recorded; findings = now findings }) ≡ true) ⌝ }
-    ensures { λ r. ⌜ Fills warns (readSheet (now (s .entry))) (record { scopes = now (scopes .entry); bindings = now (bindings .entry); carried = now (carried .entry); recorded = now (recorded .entry); findings = now (findings .entry) }) r (record { scopes = now (scopes .exit); bindings = now (bindings .exit); carried = now (carried .exit); recorded = now (recorded .exit); findings = now (findings .exit) }) ⌝ }
-{
-    let mut tab = [0u32; 1024];
-    let mut ids = [0u32; 1024];
-    let mut vis = [0u32; 2048];
-    let mut log = [0u32; 6144];
-    fill(
-        s,
-        p,
-        warns,
-        &mut tab,
-        &mut ids,
-        &mut vis,
-        &mut log,
-        scopes,
-        bindings,
-        carried,
-        recorded,
-        findings,
-    )
-}
-
-// With scratch for sheets of up to 2,048 words.
-fn fill_2048(
-    s: &[u8],
-    p: Places,
-    warns: bool,
-    scopes: &mut [u32],
-    bindings: &mut [u32],
-    carried: &mut [u32],
-    recorded: &mut [u32],
-    findings: &mut [u32],
-) -> Counts
-    requires { ⌜ (Opens (now s) p × (length (words (now s)) ≤ 2048)) × (roomy (length (words (now s))) (record { scopes = now scopes; bindings = now bindings; carried = now carried; recorded = now recorded; findings = now findings }) ≡ true) ⌝ }
-    ensures { λ r. ⌜ Fills warns (readSheet (now (s .entry))) (record { scopes = now (scopes .entry); bindings = now (bindings .entry); carried = now (carried .entry); recorded = now (recorded .entry); findings = now (findings .entry) }) r (record { scopes = now (scopes .exit); bindings = now (bindings .exit); carried = now (carried .exit); recorded = now (recorded .exit); findings = now (findings .exit) }) ⌝ }
-{
-    let mut tab = [0u32; 2048];
-    let mut ids = [0u32; 2048];
-    let mut vis = [0u32; 4096];
-    let mut log = [0u32; 12288];
-    fill(
-        s,
-        p,
-        warns,
-        &mut tab,
-        &mut ids,
-        &mut vis,
-        &mut log,
-        scopes,
-        bindings,
-        carried,
-        recorded,
-        findings,
-    )
-}
-
-// Scratch is sized to the sheet, since clearing it costs a small sheet more than its check.
-fn fill_sized(
-    s: &[u8],
-    p: Places,
-    warns: bool,
-    n: usize,
-    scopes: &mut [u32],
-    bindings: &mut [u32],
-    carried: &mut [u32],
-    recorded: &mut [u32],
-    findings: &mut [u32],
-) -> Counts
-    requires { ⌜ (Opens (now s) p × (n ≡ length (words (now s)))) × (roomy (length (words (now s))) (record { scopes = now scopes; bindings = now bindings; carried = now carried; recorded = now recorded; findings = now findings }) ≡ true) ⌝ }
-    ensures { λ r. ⌜ Fills warns (readSheet (now (s .entry))) (record { scopes = now (scopes .entry); bindings = now (bindings .entry); carried = now (carried .entry); recorded = now (recorded .entry); findings = now (findings .entry) }) r (record { scopes = now (scopes .exit); bindings = now (bindings .exit); carried = now (carried .exit); recorded = now (recorded .exit); findings = now (findings .exit) }) ⌝ }
-{
-    if n <= 64 {
-        return fill_64(s, p, warns, scopes, bindings, carried, recorded, findings);
-    }
-    if n <= 256 {
-        return fill_256(s, p, warns, scopes, bindings, carried, recorded, findings);
-    }
-    if n <= 1024 {
-        return fill_1024(s, p, warns, scopes, bindings, carried, recorded, findings);
-    }
-    fill_2048(s, p, warns, scopes, bindings, carried, recorded, findings)
-}
-
 // How many findings a check answers; none where the sheet is refused.
 pub fn findings_in(c: Checked) -> usize
     ensures { λ r. ⌜ r ≡ findingsIn c ⌝ }
@@ -322,7 +157,190 @@ pub fn findings_in(c: Checked) -> usize
     }
 }
 
-// The check call, warnings on or off. Its findings are flat words, for a list of finding records that has room for so many.
+// The check call, where the other four are scratch.
+fn check_with(
+    s: &[u8],
+    warns: bool,
+    tab: &mut [u32],
+    ids: &mut [u32],
+    vis: &mut [u32],
+    log: &mut [u32],
+    scopes: &mut [u32],
+    bindings: &mut [u32],
+    carried: &mut [u32],
+    recorded: &mut [u32],
+    findings: &mut [u32],
+    room: usize,
+) -> Checked
+    requires { ⌜ (Wide 1 (now s) (now tab) × Wide 1 (now s) (now ids)) × (Wide 2 (now s) (now vis) × Wide 6 (now s) (now log)) ⌝ }
+    ensures { λ r. ⌜ (r ≡ answerIn warns (now (s .entry)) (record { scopes = now (scopes .entry); bindings = now (bindings .entry); carried = now (carried .entry); recorded = now (recorded .entry); findings = now (findings .entry) }) room) × (record { scopes = now (scopes .exit); bindings = now (bindings .exit); carried = now (carried .exit); recorded = now (recorded .exit); findings = now (findings .exit) } ≡ leftIn warns (now (s .entry)) (record { scopes = now (scopes .entry); bindings = now (bindings .entry); carried = now (carried .entry); recorded = now (recorded .entry); findings = now (findings .entry) }) room) ⌝ }
+{
+    match open_in(s, tab, ids) {
+        Opened::Refused(c) => Checked::Refused(c),
+        Opened::At(p) => {
+            let n = count(s);
+            if !have_room(n, scopes, bindings, carried, recorded, findings) {
+                return Checked::Refused(8);
+            }
+            if room < n {
+                return Checked::Refused(8);
+            }
+            Checked::Is(fill(
+                s,
+                p,
+                warns,
+                tab,
+                ids,
+                vis,
+                log,
+                scopes,
+                bindings,
+                carried,
+                recorded,
+                findings,
+            ))
+        }
+    }
+}
+
+// With scratch for sheets of up to 64 words.
+fn check_64(
+    s: &[u8],
+    warns: bool,
+    scopes: &mut [u32],
+    bindings: &mut [u32],
+    carried: &mut [u32],
+    recorded: &mut [u32],
+    findings: &mut [u32],
+    room: usize,
+) -> Checked
+    requires { ⌜ length (words (now s)) ≤ 64 ⌝ }
+    ensures { λ r. ⌜ (r ≡ answerIn warns (now (s .entry)) (record { scopes = now (scopes .entry); bindings = now (bindings .entry); carried = now (carried .entry); recorded = now (recorded .entry); findings = now (findings .entry) }) room) × (record { scopes = now (scopes .exit); bindings = now (bindings .exit); carried = now (carried .exit); recorded = now (recorded .exit); findings = now (findings .exit) } ≡ leftIn warns (now (s .entry)) (record { scopes = now (scopes .entry); bindings = now (bindings .entry); carried = now (carried .entry); recorded = now (recorded .entry); findings = now (findings .entry) }) room) ⌝ }
+{
+    let mut tab = [0u32; 64];
+    let mut ids = [0u32; 64];
+    let mut vis = [0u32; 128];
+    let mut log = [0u32; 384];
+    check_with(
+        s,
+        warns,
+        &mut tab,
+        &mut ids,
+        &mut vis,
+        &mut log,
+        scopes,
+        bindings,
+        carried,
+        recorded,
+        findings,
+        room,
+    )
+}
+
+// With scratch for sheets of up to 256 words.
+fn check_256(
+    s: &[u8],
+    warns: bool,
+    scopes: &mut [u32],
+    bindings: &mut [u32],
+    carried: &mut [u32],
+    recorded: &mut [u32],
+    findings: &mut [u32],
+    room: usize,
+) -> Checked
+    requires { ⌜ length (words (now s)) ≤ 256 ⌝ }
+    ensures { λ r. ⌜ (r ≡ answerIn warns (now (s .entry)) (record { scopes = now (scopes .entry); bindings = now (bindings .entry); carried = now (carried .entry); recorded = now (recorded .entry); findings = now (findings .entry) }) room) × (record { scopes = now (scopes .exit); bindings = now (bindings .exit); carried = now (carried .exit); recorded = now (recorded .exit); findings = now (findings .exit) } ≡ leftIn warns (now (s .entry)) (record { scopes = now (scopes .entry); bindings = now (bindings .entry); carried = now (carried .entry); recorded = now (recorded .entry); findings = now (findings .entry) }) room) ⌝ }
+{
+    let mut tab = [0u32; 256];
+    let mut ids = [0u32; 256];
+    let mut vis = [0u32; 512];
+    let mut log = [0u32; 1536];
+    check_with(
+        s,
+        warns,
+        &mut tab,
+        &mut ids,
+        &mut vis,
+        &mut log,
+        scopes,
+        bindings,
+        carried,
+        recorded,
+        findings,
+        room,
+    )
+}
+
+// With scratch for sheets of up to 1,024 words.
+fn check_1024(
+    s: &[u8],
+    warns: bool,
+    scopes: &mut [u32],
+    bindings: &mut [u32],
+    carried: &mut [u32],
+    recorded: &mut [u32],
+    findings: &mut [u32],
+    room: usize,
+) -> Checked
+    requires { ⌜ length (words (now s)) ≤ 1024 ⌝ }
+    ensures { λ r. ⌜ (r ≡ answerIn warns (now (s .entry)) (record { scopes = now (scopes .entry); bindings = now (bindings .entry); carried = now (carried .entry); recorded = now (recorded .entry); findings = now (findings .entry) }) room) × (record { scopes = now (scopes .exit); bindings = now (bindings .exit); carried = now (carried .exit); recorded = now (recorded .exit); findings = now (findings .exit) } ≡ leftIn warns (now (s .entry)) (record { scopes = now (scopes .entry); bindings = now (bindings .entry); carried = now (carried .entry); recorded = now (recorded .entry); findings = now (findings .entry) }) room) ⌝ }
+{
+    let mut tab = [0u32; 1024];
+    let mut ids = [0u32; 1024];
+    let mut vis = [0u32; 2048];
+    let mut log = [0u32; 6144];
+    check_with(
+        s,
+        warns,
+        &mut tab,
+        &mut ids,
+        &mut vis,
+        &mut log,
+        scopes,
+        bindings,
+        carried,
+        recorded,
+        findings,
+        room,
+    )
+}
+
+// With scratch for sheets of up to 2,048 words.
+fn check_2048(
+    s: &[u8],
+    warns: bool,
+    scopes: &mut [u32],
+    bindings: &mut [u32],
+    carried: &mut [u32],
+    recorded: &mut [u32],
+    findings: &mut [u32],
+    room: usize,
+) -> Checked
+    requires { ⌜ length (words (now s)) ≤ 2048 ⌝ }
+    ensures { λ r. ⌜ (r ≡ answerIn warns (now (s .entry)) (record { scopes = now (scopes .entry); bindings = now (bindings .entry); carried = now (carried .entry); recorded = now (recorded .entry); findings = now (findings .entry) }) room) × (record { scopes = now (scopes .exit); bindings = now (bindings .exit); carried = now (carried .exit); recorded = now (recorded .exit); findings = now (findings .exit) } ≡ leftIn warns (now (s .entry)) (record { scopes = now (scopes .entry); bindings = now (bindings .entry); carried = now (carried .entry); recorded = now (recorded .entry); findings = now (findings .entry) }) room) ⌝ }
+{
+    let mut tab = [0u32; 2048];
+    let mut ids = [0u32; 2048];
+    let mut vis = [0u32; 4096];
+    let mut log = [0u32; 12288];
+    check_with(
+        s,
+        warns,
+        &mut tab,
+        &mut ids,
+        &mut vis,
+        &mut log,
+        scopes,
+        bindings,
+        carried,
+        recorded,
+        findings,
+        room,
+    )
+}
+
+// The check call, warnings on or off. Its findings are flat words, for a list of finding records that has room for so many. Scratch is
+// sized to the sheet, since clearing it costs a small sheet more than its check.
 pub fn check_words(
     s: &[u8],
     warns: bool,
@@ -335,27 +353,53 @@ pub fn check_words(
 ) -> Checked
     ensures { λ r. ⌜ (r ≡ answerIn warns (now (s .entry)) (record { scopes = now (scopes .entry); bindings = now (bindings .entry); carried = now (carried .entry); recorded = now (recorded .entry); findings = now (findings .entry) }) room) × (record { scopes = now (scopes .exit); bindings = now (bindings .exit); carried = now (carried .exit); recorded = now (recorded .exit); findings = now (findings .exit) } ≡ leftIn warns (now (s .entry)) (record { scopes = now (scopes .entry); bindings = now (bindings .entry); carried = now (carried .entry); recorded = now (recorded .entry); findings = now (findings .entry) }) room) ⌝ }
 {
-    match open(s) {
-        Opened::Refused(c) => Checked::Refused(c),
-        Opened::At(p) => {
-            let n = count(s);
-            if !have_room(n, scopes, bindings, carried, recorded, findings) {
-                return Checked::Refused(8);
-            }
-            if room < n {
-                return Checked::Refused(8);
-            }
-            Checked::Is(fill_sized(
-                s,
-                p,
-                warns,
-                n,
-                scopes,
-                bindings,
-                carried,
-                recorded,
-                findings,
-            ))
-        }
+    if s.len() <= 256 {
+        return check_64(
+            s,
+            warns,
+            scopes,
+            bindings,
+            carried,
+            recorded,
+            findings,
+            room,
+        );
     }
+    if s.len() <= 1024 {
+        return check_256(
+            s,
+            warns,
+            scopes,
+            bindings,
+            carried,
+            recorded,
+            findings,
+            room,
+        );
+    }
+    if s.len() <= 4096 {
+        return check_1024(
+            s,
+            warns,
+            scopes,
+            bindings,
+            carried,
+            recorded,
+            findings,
+            room,
+        );
+    }
+    if s.len() <= 8192 {
+        return check_2048(
+            s,
+            warns,
+            scopes,
+            bindings,
+            carried,
+            recorded,
+            findings,
+            room,
+        );
+    }
+    Checked::Refused(1)
 }

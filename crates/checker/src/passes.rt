@@ -5,13 +5,9 @@ use logs::resolve_clauses;
 use logs::root;
 use sheet::Places;
 use tables::index_of;
-use tables::scan_names;
 ghost use mathlib.Core.Path.{_≡_};
-ghost use mathlib.Core.Bool.{Bool};
-ghost use mathlib.Core.List.{List, [], _∷_};
-ghost use Prim.Native.Nat.{ℕ, _*_, _≤_};
+ghost use mathlib.Core.List.{[], _∷_};
 ghost use lib.ListN.{length};
-ghost use Rattle.words.specs.Words.{words};
 ghost use Rattle.tables.specs.Index.{indexOf};
 ghost use Rattle.sheet.specs.Read.{readSheet};
 ghost use Rattle.resolve.specs.Walk.{events};
@@ -37,17 +33,6 @@ pub fn marks_of(s: &[u8], p: Places, tab: &[u32]) -> Marked
         star: index_of(part, tab, n as usize, b"*"),
         ident: index_of(part, tab, n as usize, b"id"),
     }
-}
-
-// The use ids of the names, and which of them are marked; tab is for their places.
-pub fn scan(s: &[u8], p: Places, tab: &mut [u32], ids: &mut [u32]) -> Marked
-    requires { ⌜ Opens (now s) p × ((length (words (now s)) ≤ length (now tab)) × (length (words (now s)) ≤ length (now ids))) ⌝ }
-    ensures { λ r. ⌜ Named (now (s .entry)) p (now (ids .exit)) × ((r .star ≡ indexOf (42 ∷ []) (namesOf (readSheet (now (s .entry))))) × (r .ident ≡ indexOf (105 ∷ 100 ∷ []) (namesOf (readSheet (now (s .entry)))))) ⌝ }
-{
-    let rows = p.rows;
-    let e = rows * 4;
-    scan_names(&s[0..e], p.names, tab, ids);
-    marks_of(s, p, tab)
 }
 
 // The log; how many events it has.

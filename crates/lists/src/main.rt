@@ -1,4 +1,4 @@
-// A sheet on standard input: its lists, warnings on, or its refusal. More than 8,192 bytes are refused 1.
+// A sheet on standard input: its listing and its lists, warnings on, or its refusal. More than 8,192 bytes are refused 1.
 use libc::STDIN_FILENO;
 
 fn main() {

@@ -3,4 +3,3 @@ pub mod Statement
 pub mod Read
 pub mod Answer
 pub mod Write
-pub mod Cases

@@ -1,15 +1,13 @@
--- The names, the log, and each list from it; every list has room, since it has no more entries than the sheet has words.
-use Prim.Native.Nat.{ℕ, _*_, _≤_}
+-- The marked names, the log, and each list from it; every list has room, since it has no more entries than the sheet has words.
 use borrow.Author.Needs.{needs}
 use native.Mathlib.Omega.{arith}
-use mathlib.Core.Path.{_≡_, refl, ap, sym, _∙_}
+use mathlib.Core.Path.{ap}
 use mathlib.Core.List.{List, _++_}
 use lib.ListN.{length}
 use Rattle.heads.proofs.Chain.{fact}
 use Rattle.sheet.specs.Read.{readSheet}
 use Rattle.resolve.specs.Log.{Event, findsIn}
-use Rattle.resolve.specs.Walk.{events}
-use Rattle.checker.specs.Accepted.{logOf, kindsOf}
+use Rattle.checker.specs.Accepted.{kindsOf}
 use Rattle.checker.specs.Checked.{Lent}
 use Rattle.checker.proofs.Opening.{held}
 use Rattle.checker.proofs.Finishing.{long, log-few, findings-few, fills}
@@ -17,26 +15,25 @@ use Rattle.checker.proofs.fill.Statement.{statement}
 use Rattle.checker.proofs.fill.Tie as tie
 
 -- what is shown where the log is written
-abbrev start : tie.After-slice-known13 → tie.Start
-start k = k .before .before .before .before .before .before .before .before .before .before .before .before .before .before .before .before .before .before .before .before .before .before .before .before .before
+abbrev start : tie.After-slice-known9 → tie.Start
+start k = k .before .before .before .before .before .before .before .before .before .before .before .before .before .before .before .before .before .before
 
 abbrev lent : tie.Start → Lent
 lent s = record { scopes = s .args .scopes .now; bindings = s .args .bindings .now; carried = s .args .carried .now; recorded = s .args .recorded .now; findings = s .args .findings .now }
 
-abbrev log-call : tie.After-slice-known13 → tie.After-log-of
+abbrev log-call : tie.After-slice-known9 → tie.After-log-of
 log-call k = k .before .before .before .before
 
 pub fill-spec : {M : Type 1} → statement M
 fill-spec =
-    let few = fact (λ (k : tie.After-slice-known13). let s = start k in log-few (s .args .warns) (held (s .pre .0 .0))) in
-    let roomy = fact (λ (k : tie.After-slice-known13). let s = start k in long _ (lent s) (s .pre .1)) in
+    let few = fact (λ (k : tie.After-slice-known9). let s = start k in log-few (s .args .warns) (held (s .pre .0 .0))) in
+    let roomy = fact (λ (k : tie.After-slice-known9). let s = start k in long _ (lent s) (s .pre .1)) in
     tie.close
     (tie.spec
-    (λ c κs. let s = c .before .before .before .before .before .before .before .before .before .before .before .before in (s .pre .0 .0, (omega (arith, s .pre .0 .1 .0 .0), omega (arith, s .pre .0 .1 .0 .1))))  -- scan-requires
+    (λ c κs. search needs)  -- marks-of-requires
     (λ c κs.  -- log-of-requires
-    let s = c .before .before .before .before .before .before .before .before .before .before .before .before .before .before .before .before .before .before .before .before in
-    let x = c .before .before .before .before .before .before .before .scan .ensures in
-    ((s .pre .0 .0, x .0), (x .1 .0, (s .pre .0 .1 .1 .0, omega (arith, s .pre .0 .1 .1 .1)))))
+    let s = c .before .before .before .before .before .before .before .before .before .before .before .before .before in
+    ((s .pre .0 .0, s .pre .0 .1 .0 .1), (c .before .before .marks-of .ensures .0, (s .pre .0 .1 .1 .0, omega (arith, s .pre .0 .1 .1 .1)))))
     (λ c κs.  -- fill-scopes-requires
     let k = c .before .before in
     let e = log-call k .log-of .ensures .0 in
@@ -57,18 +54,16 @@ fill-spec =
     let k = c .before .before .before .before .before .before .before .before .before .before .before .before .before .before .before .before .before .before .before .before .before .before in
     let s = start k in
     let e = log-call k .log-of .ensures in
-    let x = k .before .before .before .before .before .before .before .before .before .before .before .before .scan .ensures in
+    let x = k .before .before .before .before .before .before .before .marks-of .ensures in
     let t = ap (λ (l : List Event). length (findsIn l ++ kindsOf (readSheet (s .args .s .now)))) (e .1) in
-    ((s .pre .0 .0, x .1 .1), ((omega (arith, few k, e .0, s .pre .0 .1 .1 .1), omega (arith, s .pre .0 .1 .1 .1)), (omega (arith, few k, e .0, roomy k .findings), omega (arith, t, findings-few (s .args .warns) (held (s .pre .0 .0)), roomy k .findings)))))
-    (λ c. c .before .before .before .before .before .before .before .before .before .before .before .before .before .before .before .before .before .before .before .before .before .before .before .before .before .before .before .before .before .before .before .before .before .before .before .before .before .before .before .scan .kept .1 .1 .0)  -- same-length
-    (λ c. c .before .before .before .before .before .before .before .before .before .before .before .before .before .before .before .before .before .before .before .before .before .before .before .before .before .before .before .before .before .before .before .before .before .before .before .before .before .before .before .scan .kept .1 .1 .1 .0)  -- same-length-2
+    ((s .pre .0 .0, x .1), ((omega (arith, few k, e .0, s .pre .0 .1 .1 .1), omega (arith, s .pre .0 .1 .1 .1)), (omega (arith, few k, e .0, roomy k .findings), omega (arith, t, findings-few (s .args .warns) (held (s .pre .0 .0)), roomy k .findings)))))
+    (λ c. search needs)  -- same-length
+    (λ c. search needs)  -- same-length-2
     (λ c. search needs)  -- same-length-3
     (λ c. search needs)  -- same-length-4
     (λ c. search needs)  -- same-length-5
     (λ c. search needs)  -- same-length-6
     (λ c. search needs)  -- same-length-7
-    (λ c. search needs)  -- same-length-8
-    (λ c. search needs)  -- same-length-9
     (λ c.  -- returns
     let k = c .before .before .before .before .before .before .before .before .before .before .before .before .before .before .before .before .before .before .before .before .before .before .before .before .before .before .before in
     let s = start k in

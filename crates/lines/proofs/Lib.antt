@@ -1,0 +1,5 @@
+pub mod Said
+pub mod Sizes
+pub mod Pieces
+pub mod Places
+pub mod Told

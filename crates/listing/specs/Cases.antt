@@ -1,0 +1,174 @@
+-- Document 01's label-desk cases that are marked +, one table: from bytes to use ids, refusals, lists and the listing, warnings on.
+use Prim.Native.Nat.{ℕ}
+use mathlib.Core.Path.{_≡_, refl}
+use mathlib.Core.Bool.{true}
+use mathlib.Core.List.{List, [], _∷_, map}
+use mathlib.Core.Option.{Option, none, some}
+use lib.ListN.{replicate}
+use Rattle.words.specs.Words.{words}
+use Rattle.words.specs.Fnv.{useId, fnv1Of, fnvFrom, fnvStep, xorByte, xorBits}
+use Rattle.words.specs.Decimal.{digits, widthWithin, width as decimalWidth, decimal}
+use Rattle.words.specs.Utf8.{isUtf8, goesOn, step, after}
+use Rattle.heads.specs.Got.{wordIn, many, counted}
+use Rattle.heads.specs.Form.{shapeOf, limitOf, formNone, formOne, caseRest, compRest, restOf, readForm}
+use Rattle.heads.specs.Head.{readMaybe, readPart, readElem, deepCause}
+use Rattle.heads.specs.Answer.{isIn}
+use Rattle.expr.specs.Tree.{tree}
+use Rattle.expr.specs.Read.{reading}
+use Rattle.expr.specs.Binders.{binder, bindersE, allKnown}
+use Rattle.clauses.specs.Read.{clausal}
+use Rattle.clauses.specs.Binders.{bindersP, bindersC, bindersA}
+use Rattle.tables.specs.Distinct.{sameBytes, nameIn, freshAfter, distinct}
+use Rattle.tables.specs.Name.{allZero, nameBody, readName}
+use Rattle.tables.specs.Row.{rowId, readRow}
+use Rattle.sheet.specs.Trailer.{sized, inPlace, placesOf}
+use Rattle.sheet.specs.Statement.{Statement}
+use Rattle.sheet.specs.Read.{Sheet, accepted, refused, readNames, readRows, readClauses, locate, readSections, readSheet}
+use Rattle.sheet.specs.Write.{bytesOf}
+use Rattle.scope.specs.Graph.{Scope, scope, Entry, entry, Carried, carried}
+use Rattle.scope.specs.Offset.{covers, width, better, narrowest, scopeAtOffset}
+use Rattle.resolve.specs.Log.{Finding, finding, logs}
+use Rattle.resolve.specs.Resolve.{walk}
+use Rattle.kinds.specs.Kinds.{kindWalk}
+use Rattle.checker.specs.Lists.{scopes, bindings, carriedList, findings, lists}
+use Rattle.texts.specs.Bytes.{bytes}
+use Rattle.texts.specs.Texts.{typeName, kindName, textOf}
+use Rattle.texts.specs.Codes.{of2007, of2008, of5010, unused, textFor}
+use Rattle.lines.specs.Lines.{front, lineFor, line, listed}
+use Rattle.listing.specs.Listing.{listing}
+
+-- What a case shows.
+pub data Shown : Type 0 where
+  turnedBack : (cause : ℕ) → Shown
+  useIds : ℕ → Shown
+  scopeList : List Scope → Shown
+  bindingList : List Entry → Shown
+  carries : List Carried → Shown
+  finds : List Finding → Shown
+  inScope : Option ℕ → Shown  -- the scope at an offset
+  text : List ℕ → Shown
+
+-- Bytes, what is asked of them, and what that shows.
+pub data Case : Type 0 where
+  case : (bytes : List ℕ) (asks : List ℕ → Shown) → Shown → Case
+
+-- what is asked of an accepted sheet; else its refusal
+abbrev pub ask : {A : Type 0} → (A → Shown) → Sheet A → Shown
+ask q (accepted a) = q a
+ask q (refused c) = turnedBack c
+
+abbrev pub itsUseId : List ℕ → Shown
+itsUseId name = useIds (useId name)
+
+abbrev pub itsScopes : List ℕ → Shown
+itsScopes s = ask (λ st. scopeList (scopes true st)) (readSheet s)
+
+abbrev pub itsBindings : List ℕ → Shown
+itsBindings s = ask (λ st. bindingList (bindings true st)) (readSheet s)
+
+abbrev pub itsCarried : List ℕ → Shown
+itsCarried s = ask (λ st. carries (carriedList true st)) (readSheet s)
+
+abbrev pub itsFindings : List ℕ → Shown
+itsFindings s = ask (λ st. finds (findings true st)) (readSheet s)
+
+abbrev pub scopeAt : ℕ → List ℕ → Shown
+scopeAt o s = ask (λ st. inScope (scopeAtOffset (scopes true st) o)) (readSheet s)
+
+abbrev pub itsListing : List ℕ → Shown
+itsListing s = ask text (listing true s)
+
+abbrev pub given : Case → Shown
+given (case s asks a) = asks s
+
+abbrev pub expected : Case → Shown
+expected (case s asks a) = a
+
+-- `MATCH (a) WITH a RETURN b`
+abbrev pub example : List ℕ
+example =
+    1 ∷ 97 ∷ 1 ∷ 98
+    ∷ 1 ∷ 0 ∷ 1 ∷ 7 ∷ 8
+    ∷ 1 ∷ 0 ∷ 9 ∷ 0 ∷ 1 ∷ 0 ∷ 1 ∷ 1 ∷ 6 ∷ 9 ∷ 1 ∷ 1 ∷ 0
+    ∷ 3 ∷ 10 ∷ 16 ∷ 1 ∷ 0 ∷ 7 ∷ 1 ∷ 0
+    ∷ 4 ∷ 17 ∷ 25 ∷ 1 ∷ 0 ∷ 8 ∷ 1
+    ∷ 37 ∷ 2 ∷ 33 ∷ 1 ∷ 28 ∷ 3 ∷ 0 ∷ 0 ∷ 0 ∷ 25 ∷ []
+
+-- `CALL f() YIELD t, t`
+abbrev pub yields : List ℕ
+yields =
+    1 ∷ 116
+    ∷ 0 ∷ 0 ∷ 4 ∷ 15 ∷ 16 ∷ 1 ∷ 0 ∷ 4 ∷ 18 ∷ 19
+    ∷ 11 ∷ 0 ∷ 19 ∷ 0 ∷ 2 ∷ 0 ∷ 0 ∷ 0 ∷ 0 ∷ 0 ∷ 1
+    ∷ 23 ∷ 1 ∷ 21 ∷ 2 ∷ 11 ∷ 1 ∷ 0 ∷ 0 ∷ 0 ∷ 19 ∷ []
+
+-- `MATCH (a) UNWIND [1] AS a`
+abbrev pub unwinds : List ℕ
+unwinds =
+    1 ∷ 97
+    ∷ 0 ∷ 0 ∷ 1 ∷ 7 ∷ 8 ∷ 1 ∷ 0 ∷ 4 ∷ 24 ∷ 25
+    ∷ 1 ∷ 0 ∷ 9 ∷ 0 ∷ 1 ∷ 0 ∷ 1 ∷ 1 ∷ 6 ∷ 9 ∷ 1 ∷ 0 ∷ 0
+    ∷ 5 ∷ 10 ∷ 25 ∷ 1 ∷ 12 ∷ 1 ∷ 3
+    ∷ 32 ∷ 1 ∷ 30 ∷ 2 ∷ 20 ∷ 2 ∷ 0 ∷ 0 ∷ 0 ∷ 25 ∷ []
+
+-- `MATCH (a), (b) WITH a AS t, b AS t`
+abbrev pub replaces : List ℕ
+replaces =
+    1 ∷ 97 ∷ 1 ∷ 98 ∷ 1 ∷ 116
+    ∷ 0 ∷ 0 ∷ 1 ∷ 7 ∷ 8 ∷ 1 ∷ 1 ∷ 1 ∷ 12 ∷ 13
+    ∷ 1 ∷ 0 ∷ 14 ∷ 0 ∷ 2 ∷ 0 ∷ 1 ∷ 1 ∷ 6 ∷ 9 ∷ 1 ∷ 0 ∷ 0 ∷ 0 ∷ 1 ∷ 1 ∷ 11 ∷ 14 ∷ 1 ∷ 1 ∷ 0
+    ∷ 3 ∷ 15 ∷ 34 ∷ 2 ∷ 3 ∷ 7 ∷ 0 ∷ 3 ∷ 7 ∷ 1 ∷ 0
+    ∷ 48 ∷ 3 ∷ 42 ∷ 2 ∷ 32 ∷ 2 ∷ 0 ∷ 0 ∷ 0 ∷ 34 ∷ []
+
+-- `MATCH p = (a) RETURN p.id`
+abbrev pub pathId : List ℕ
+pathId =
+    1 ∷ 112 ∷ 1 ∷ 97 ∷ 2 ∷ 25705
+    ∷ 0 ∷ 0 ∷ 3 ∷ 6 ∷ 7 ∷ 1 ∷ 1 ∷ 1 ∷ 11 ∷ 12
+    ∷ 1 ∷ 0 ∷ 13 ∷ 0 ∷ 1 ∷ 1 ∷ 0 ∷ 1 ∷ 1 ∷ 10 ∷ 13 ∷ 1 ∷ 1 ∷ 0
+    ∷ 4 ∷ 14 ∷ 25 ∷ 1 ∷ 0 ∷ 9 ∷ 2 ∷ 7 ∷ 0
+    ∷ 39 ∷ 3 ∷ 33 ∷ 2 ∷ 23 ∷ 2 ∷ 0 ∷ 0 ∷ 0 ∷ 25 ∷ []
+
+-- `MATCH p = (a) RETURN p.x`
+abbrev pub pathOther : List ℕ
+pathOther =
+    1 ∷ 112 ∷ 1 ∷ 97 ∷ 1 ∷ 120
+    ∷ 0 ∷ 0 ∷ 3 ∷ 6 ∷ 7 ∷ 1 ∷ 1 ∷ 1 ∷ 11 ∷ 12
+    ∷ 1 ∷ 0 ∷ 13 ∷ 0 ∷ 1 ∷ 1 ∷ 0 ∷ 1 ∷ 1 ∷ 10 ∷ 13 ∷ 1 ∷ 1 ∷ 0
+    ∷ 4 ∷ 14 ∷ 24 ∷ 1 ∷ 0 ∷ 9 ∷ 2 ∷ 7 ∷ 0
+    ∷ 39 ∷ 3 ∷ 33 ∷ 2 ∷ 23 ∷ 2 ∷ 0 ∷ 0 ∷ 0 ∷ 24 ∷ []
+
+abbrev pub cases : List Case
+cases =
+    -- 40 zero bytes are accepted; 36, 42 and 8,196 bytes are not
+    case (replicate 40 0) itsScopes (scopeList (scope 1 none 0 0 ∷ []))
+    ∷ case (replicate 40 0) itsListing (text (bytes "findings 0\n"))
+    ∷ case (replicate 36 0) itsFindings (turnedBack 1)
+    ∷ case (replicate 42 0) itsFindings (turnedBack 1)
+    ∷ case (replicate 8196 0) itsFindings (turnedBack 1)
+    -- use ids
+    ∷ case [] itsUseId (useIds 0xFEE3623A)
+    ∷ case (bytes "a") itsUseId (useIds 0xFAF3A281)
+    ∷ case (bytes "*") itsUseId (useIds 0xFAF3A2CA)
+    -- `MATCH (a) WITH a RETURN b`
+    ∷ case (bytesOf example) itsScopes (scopeList (scope 1 none 0 25 ∷ scope 2 (some 0) 0 9 ∷ scope 7 (some 1) 10 16 ∷ scope 1 (some 2) 16 16 ∷ scope 8 (some 3) 17 25 ∷ []))
+    ∷ case (bytesOf example) (scopeAt 16) (inScope (some 2))
+    ∷ case (bytesOf example) (scopeAt 26) (inScope none)
+    ∷ case (bytesOf example) itsFindings (finds (finding 1001 0 0 2 0 0 ∷ []))
+    ∷ case (bytesOf example) itsListing (text (bytes "findings 1\nE1001 0 0 unresolved variable `b`\n"))
+    -- two yields `t`, and an Unwind of a visible name
+    ∷ case (bytesOf yields) itsFindings (finds (finding 1002 0 19 1 0 0 ∷ []))
+    ∷ case (bytesOf yields) itsListing (text (bytes "findings 1\nE1002 0 19 variable `t` shadows an earlier binding\n"))
+    ∷ case (bytesOf unwinds) itsListing (text (bytes "findings 0\n"))
+    -- `WITH a AS t, b AS t`
+    ∷ case (bytesOf replaces) itsBindings (bindingList (entry 1 0 0 1 none ∷ entry 1 1 1 1 none ∷ entry 3 2 1 1 (some 0) ∷ []))
+    ∷ case (bytesOf replaces) itsCarried (carries (carried 2 2 0 ∷ carried 2 2 1 ∷ []))
+    -- a path's property `id`, and another
+    ∷ case (bytesOf pathId) itsListing (text (bytes "findings 0\n"))
+    ∷ case (bytesOf pathOther) itsFindings (finds (finding 2007 0 0 1 2 3 ∷ []))
+    ∷ case (bytesOf pathOther) itsListing (text (bytes "findings 1\nE2007 0 0 variable `p` has kind `Path` and does not support property access; use `nodes()` or `relationships()` to extract graph elements first\n"))
+    ∷ []
+
+pub cases-hold : map given cases ≡ map expected cases
+unfolding words useId fnv1Of fnvFrom fnvStep xorByte xorBits digits widthWithin decimalWidth decimal isUtf8 goesOn step after wordIn many counted shapeOf limitOf formNone formOne caseRest compRest restOf readForm readMaybe readPart readElem deepCause isIn tree reading binder bindersE allKnown clausal bindersP bindersC bindersA sameBytes nameIn freshAfter distinct allZero nameBody readName rowId readRow sized inPlace placesOf readNames readRows readClauses locate readSections readSheet bytesOf covers width better narrowest scopeAtOffset logs walk kindWalk lists typeName kindName textOf of2007 of2008 of5010 unused textFor front lineFor line listed listing
+cases-hold = refl

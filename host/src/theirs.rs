@@ -1,0 +1,4 @@
+//! The Rust's answers for a sheet.
+pub mod lists;
+mod record;
+pub mod sheet;
