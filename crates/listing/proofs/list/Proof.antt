@@ -4,8 +4,8 @@ use native.Mathlib.Omega.{arith}
 use mathlib.Core.Path.{sym, _∙_}
 use Rattle.words.proofs.Words.{length-words}
 use Rattle.heads.proofs.Chain.{fact}
-use Rattle.checker.proofs.Opening.{held}
-use Rattle.listing.proofs.Opened.{refused-listing, ready, given, listed-is}
+use Rattle.checker.proofs.Opening.{opens, tabled, held}
+use Rattle.listing.proofs.Opened.{refused-listing, given, listed-is}
 use Rattle.listing.proofs.list.Statement.{statement}
 use Rattle.listing.proofs.list.Tie as tie
 
@@ -18,11 +18,11 @@ start q = call q .before .before .before .before .before .before .before .before
 
 pub list-spec : {M : Type 1} → statement M
 list-spec =
-    let opened = fact (λ (q : tie.After-p).
-    let o = call q .open-in in
+    let opened = fact (λ (q : tie.After-p). opens (sym (q .p .given .1) ∙ call q .open-in .ensures .0)) in
+    let tables = fact (λ (q : tie.After-p).
+    let c = call q .open-in in
     let s = start q in
-    let w = length-words (s .args .s .now) in
-    ready (s .args .s .now) (o .last .1 .0) (o .last .1 .1 .0) _ (sym (q .p .given .1) ∙ o .ensures .0) (o .ensures .1) (omega (arith, w, s .pre .0 .0, o .kept .1 .0)) (omega (arith, w, s .pre .0 .1, o .kept .1 .1 .0))) in
+    tabled (sym (q .p .given .1) ∙ c .ensures .0) (c .ensures .1) (omega (arith, s .pre .0 .0, c .kept .1 .0)) (omega (arith, s .pre .0 .1, c .kept .1 .1 .0))) in
     tie.close
     (tie.spec
     (λ c κs. let s = c .before .before .before .before .before .before .before .before .before in omega (arith, length-words (s .args .s .now), s .pre .0))  -- open-in-requires
@@ -30,21 +30,20 @@ list-spec =
     (λ c. search needs)  -- enum-known-p
     (λ c κs.  -- findings-of-requires
     let q = c .before .before .before .before .before .before in
-    let r = opened q in
-    ((r .opens, (r .placed, r .named)), start q .pre .1))
+    ((opened q, tables q), start q .pre .1))
     (λ c.  -- mul-e
-    let w = held (opened (c .before .before .before .before .before .before .before .before .before .before .before .before .before) .opens) .walked .places in
+    let w = held (opened (c .before .before .before .before .before .before .before .before .before .before .before .before .before)) .walked .places in
     omega (arith, w .rows, w .head, w .tail, w .trailer, w .short))
     (λ c. search needs)  -- sub-write-listing
     (λ c. search needs)  -- part-write-listing-start
     (λ c.  -- part-write-listing-end
-    let w = held (opened (c .before .before .before .before .before .before .before .before .before .before .before .before .before) .opens) .walked .places in
+    let w = held (opened (c .before .before .before .before .before .before .before .before .before .before .before .before .before)) .walked .places in
     omega (arith, w .rows, w .head, w .tail, w .trailer))
     (λ c. search needs)  -- cast-write-listing
     (λ c κs.  -- write-listing-requires
     let f = c .before .before .before .before .before .before .before .before .before .before .before in
     let q = f .before .before .before .before .before .before .before in
-    given (start q .args .warns) (opened q) (start q .args .found .now) (start q .pre .1 .1 .1) (f .findings-of .ensures))
+    given (start q .args .warns) (opened q) (tables q .0) (start q .args .found .now) (start q .pre .1 .1 .1) (f .findings-of .ensures))
     (λ c. search needs)  -- same-length
     (λ c. search needs)  -- same-length-2
     (λ c.  -- returns
@@ -63,4 +62,4 @@ list-spec =
     let w = c .before .before .write-listing .ensures in
     let f = c .before .before .before .before .before .before .before .before .before .before .before .before .before .before in
     let q = f .before .before .before .before .before .before .before in
-    (listed-is (start q .args .warns) (opened q) (start q .args .found .now) (start q .pre .1 .1 .1) (f .findings-of .ensures) (w .0), w .1)))
+    (listed-is (start q .args .warns) (opened q) (tables q .0) (start q .args .found .now) (start q .pre .1 .1 .1) (f .findings-of .ensures) (w .0), w .1)))
