@@ -13,13 +13,13 @@ use Rattle.kinds.specs.Walk.{findingWords, stored}
 use Rattle.checker.specs.Filled.{filled, scopeWords, bindingWords, carriedWords, recordedWords, withScopes, withBindings, withCarried, withRecorded, withFindings}
 
 -- words that are filled, and words stored after them
-pub length-filled : (old ws : List ℕ) → length ws ≤ length old → length (filled old ws) ≡ length old
-unfolding filled
-length-filled old ws h = simp (length-append, length-drop) (omega arith)
-
 pub filled-nil : (old : List ℕ) → filled old [] ≡ old
 unfolding filled
 filled-nil old = refl
+
+pub length-filled : (old ws : List ℕ) → length ws ≤ length old → length (filled old ws) ≡ length old
+unfolding filled
+length-filled old ws h = simp (length-append, length-drop) (omega arith)
 
 pub filled-append : (old ws xs : List ℕ) → filled old (ws ++ xs) ≡ ws ++ filled (drop (length ws) old) xs
 unfolding filled

@@ -83,16 +83,16 @@ module _ (warns : Bool) {s : List ℕ} {p : Places} (h : Held s p) {ids : List �
         }
 
   -- the head, after the Root
-  module _ {ws : List ℕ} (cut : ws ≡ take (p .tail) (words s)) (vis log : List ℕ) (wide : Wide 2 s vis) (deep : Wide 5 s log) (a : Walk) (at : a .at ≡ p .head) (one : a .events ≡ 1) (top : a .top ≡ 0) (last : a .last ≡ 0) (cur : a .cur ≡ 0) (state : stateOf vis log a ≡ begun) where
-    head-read : many (readClause (tablesAt ws env)) (p .clauses) (drop (a .at) ws) ≡ ok (st .head) []
-    head-read = rw (at, cut) (h .walked .headRead)
+  module _ {ws : List ℕ} (cut : ws ≡ take (p .tail) (words s)) (vis log : List ℕ) (wide : Wide 2 s vis) (deep : Wide 5 s log) (a : Walk) (at : a .at ≡ p .head) (one : a .events ≡ 1) (top : a .top ≡ 0) (last : a .last ≡ 0) (cur : a .cur ≡ 0) (state : stateOf vis log a ≡ begun) {count : ℕ} (all : count ≡ p .clauses) where
+    head-read : many (readClause (tablesAt ws env)) count (drop (a .at) ws) ≡ ok (st .head) []
+    head-read = rw (at, cut, all) (h .walked .headRead)
 
-    head-runs : after (runCs (factsAt ws env ids)) (many (readClause (tablesAt ws env)) (p .clauses) (drop (a .at) ws)) (stateOf vis log a) ≡ headed
+    head-runs : after (runCs (factsAt ws env ids)) (many (readClause (tablesAt ws env)) count (drop (a .at) ws)) (stateOf vis log a) ≡ headed
     head-runs =
         let w = h .walked in
         rw (head-read, state, facts-cut (p .tail) (w .places .head) (w .places .tail) cut)
 
-    pub head-ready : Ready ws env ids vis log a (runCs (factsAt ws env ids)) (many (readClause (tablesAt ws env)) (p .clauses) (drop (a .at) ws))
+    pub head-ready : Ready ws env ids vis log a (runCs (factsAt ws env ids)) (many (readClause (tablesAt ws env)) count (drop (a .at) ws))
     head-ready =
         let w = h .walked in
         let l = length-cut (p .tail) (w .places .head) (w .places .tail) cut in
@@ -111,7 +111,7 @@ module _ (warns : Bool) {s : List ℕ} {p : Places} (h : Held s p) {ids : List �
         }
 
     -- the arms, after the head
-    module _ {vis' log' : List ℕ} {b : Walk} (v : Resolved ws vis log vis' log' a (runCs (factsAt ws env ids)) (many (readClause (tablesAt ws env)) (p .clauses) (drop (a .at) ws)) b) {ws' : List ℕ} (cut' : ws' ≡ take (p .trailer) (words s)) where
+    module _ {vis' log' : List ℕ} {b : Walk} (v : Resolved ws vis log vis' log' a (runCs (factsAt ws env ids)) (many (readClause (tablesAt ws env)) count (drop (a .at) ws)) b) {ws' : List ℕ} (cut' : ws' ≡ take (p .trailer) (words s)) where
       abbrev next : Walk
       next = record { at = p .tail; events = b .events; last = b .last; top = b .top; base = b .base; cur = b .cur }
 

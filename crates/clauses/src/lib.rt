@@ -16,7 +16,7 @@ ghost use Rattle.heads.specs.Answer.{Reads, tables};
 ghost use Rattle.clauses.specs.Read.{readProjection, readYield, countedExprs, countedMarks, readMatch, readWith, readUnwind, readCall, readBody, readClause, readArm};
 
 // The deepest expression that is read.
-const MAX_DEPTH: u32 = 48;
+pub const MAX_DEPTH: u32 = 48;
 
 // A projection: an alias or none, and an expression.
 pub fn read_projection(s: &[u8], names: u32, rows: usize, k: usize, at: usize) -> Read

@@ -6,6 +6,7 @@ use crate::check_kids;
 use crate::check_marks;
 use crate::check_pattern;
 use crate::settings::Setting;
+use clauses::MAX_DEPTH;
 use clauses::counted_yields;
 use heads::Read;
 use words::word;
@@ -15,9 +16,6 @@ ghost use Rattle.heads.specs.Got.{many, counted};
 ghost use Rattle.clauses.specs.Read.{filterExprs, readProjection, readWith, countedExprs, countedMarks, readCall, readBody, readClause};
 ghost use Rattle.kinds.specs.Kinds.{general, kindsS, kindsC, kinds};
 ghost use Rattle.kinds.specs.Walk.{worldAt, tablesAt, ofE, ofEs, matchSteps, unwindExpr, ofProjection, ofProjections, Ready, Checked};
-
-// The deepest expression that is read.
-const MAX_DEPTH: u32 = 48;
 
 // A projection: an alias or none, and an expression.
 fn check_projection(s: &[u8], e: Env, at: usize, out: &mut [u32], count: usize) -> Walked

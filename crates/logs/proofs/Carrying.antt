@@ -255,7 +255,7 @@ module _ (a b : ℕ) {ws : List ℕ} {e : Env} {ids vis log : List ℕ} {w : Wal
         bound-fits =
             ((o .tabled .bindings, o .tabled .well), (omega (arith, d .top, g .0, d2 .top), (omega (arith, left .stack, d2 .top), omega (arith, left .events, d2 .top, d2 .said .count, d2 .said .kept))))
 
-        pub carried-done : {log4 : List ℕ} {m : ℕ} (p : ℕ) → Said log3 log4 (y .events) (boundUp (tableAt ws (e .rows) (e .bindings)) (y .cur) (w .top) vis2 (y .top)) m → Moves vis log vis2 log4 w (record { at = p; events = m; last = y .last; top = y .top; base = w .top; cur = y .cur }) (after (runCarried facts a b) whole (stateOf vis log w))
+        pub carried-done : {log4 : List ℕ} {m base : ℕ} (p : ℕ) → base ≡ w .top → Said log3 log4 (y .events) (boundUp (tableAt ws (e .rows) (e .bindings)) (y .cur) (w .top) vis2 (y .top)) m → Moves vis log vis2 log4 w (record { at = p; events = m; last = y .last; top = y .top; base = base; cur = y .cur }) (after (runCarried facts a b) whole (stateOf vis log w))
         unfolding bindFrom
-        carried-done {log4} {m} p s =
-            rw all-is (rebased (moves-then (bindFrom facts (w .top)) roots (said-moves vis2 y (record { at = p; events = m; last = y .last; top = y .top; base = y .base; cur = y .cur }) (roots .cur) s refl)) (w .top))
+        carried-done {log4} {m} p here s =
+            rw (here, all-is) (rebased (moves-then (bindFrom facts (w .top)) roots (said-moves vis2 y (record { at = p; events = m; last = y .last; top = y .top; base = y .base; cur = y .cur }) (roots .cur) s refl)) (w .top))

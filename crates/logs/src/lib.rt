@@ -1,6 +1,7 @@
 // The resolve walk (000) over clauses and arms of an accepted section, in place: each says its events, and leaves what is visible then.
 mod with;
 
+use clauses::MAX_DEPTH;
 use clauses::counted_exprs;
 use clauses::read_unwind;
 use heads::Read;
@@ -24,13 +25,10 @@ ghost use lib.ListN.{length, drop};
 ghost use Rattle.words.specs.Words.{words};
 ghost use Rattle.heads.specs.Got.{many, counted};
 ghost use Rattle.expr.specs.Read.{pattern};
-ghost use Rattle.clauses.specs.Read.{aliasOf, readProjection, readYield, filterExprs, countedExprs, countedMarks, readMatch, readWith, readUnwind, readCall, readBody, readClause, readArm};
+ghost use Rattle.clauses.specs.Read.{maxDepth, aliasOf, readProjection, readYield, filterExprs, countedExprs, countedMarks, readMatch, readWith, readUnwind, readCall, readBody, readClause, readArm};
 ghost use Rattle.resolve.specs.Walk.{factsAt, tablesAt, readerAt, runEs, Ready, Resolved};
 ghost use Rattle.resolve.specs.Lowering.{yielded, runP, runPs, runY, runYs, runOpening, runReturn, runC, runCs, runA, runAs};
 ghost use Rattle.logs.specs.Root.{Rooted};
-
-// The deepest expression that is read.
-const MAX_DEPTH: u32 = 48;
 
 // The kinds of scopes.
 const MATCH: u32 = 2;
@@ -57,8 +55,8 @@ pub fn resolve_opening(
     end: u32,
     w: Walk,
 ) -> Walk
-    requires { ⌜ Ready (words (now s)) e (now ids) (now vis) (now log) w (runOpening (factsAt (words (now s)) e (now ids)) kind start end) (pattern (tablesAt (words (now s)) e) (readerAt (words (now s)) e 48) (drop (w .at) (words (now s)))) ⌝ }
-    ensures { λ r. ⌜ Resolved (words (now (s .entry))) (now (vis .entry)) (now (log .entry)) (now (vis .exit)) (now (log .exit)) w (runOpening (factsAt (words (now (s .entry))) e (now (ids .entry))) kind start end) (pattern (tablesAt (words (now (s .entry))) e) (readerAt (words (now (s .entry))) e 48) (drop (w .at) (words (now (s .entry))))) r ⌝ }
+    requires { ⌜ Ready (words (now s)) e (now ids) (now vis) (now log) w (runOpening (factsAt (words (now s)) e (now ids)) kind start end) (pattern (tablesAt (words (now s)) e) (readerAt (words (now s)) e maxDepth) (drop (w .at) (words (now s)))) ⌝ }
+    ensures { λ r. ⌜ Resolved (words (now (s .entry))) (now (vis .entry)) (now (log .entry)) (now (vis .exit)) (now (log .exit)) w (runOpening (factsAt (words (now (s .entry))) e (now (ids .entry))) kind start end) (pattern (tablesAt (words (now (s .entry))) e) (readerAt (words (now (s .entry))) e maxDepth) (drop (w .at) (words (now (s .entry))))) r ⌝ }
 {
     let v = enter(log, kind, start, end, w);
     bind_pattern(s, e, ids, vis, log, MAX_DEPTH, v)

@@ -225,7 +225,7 @@ pub record Tabled (ws : List ℕ) (e : Env) (ids : List ℕ) : Type 0 where
   pub well : wellRows (e .names) (tableAt ws (e .rows) (e .bindings)) ≡ true
   pub named : e .names ≤ length ids
 
--- so many words lists have room for n events in all, each of which may see a name or open a scope
+-- the stack and the log have room for n events in all, each of which may see a name or open a scope
 pub record Room (n : ℕ) (vis log : List ℕ) (w : Walk) : Type 0 where
   pub events : n * 5 ≤ length log
   pub stack : (w .top + n) * 2 ≤ length vis + w .events * 2

@@ -6,11 +6,11 @@ use mathlib.Core.Option.{Option, none, some}
 use mathlib.Core.Path.{_≡_, refl, ap}
 use native.Mathlib.Omega.{arith}
 use borrow.Author.Tests.{ltb-true, lt-ltb, le-ltb}
-use lib.Dec.{eqb, ltb}
+use lib.Dec.{ltb}
 use lib.ListN.{getD}
 use Rattle.scope.specs.Graph.{Scope, Entry, Carried}
 use Rattle.scope.specs.Flat.{parentOf, scopesOf, bindingsOf, carriedsOf}
-use Rattle.scope.specs.Lookup.{Looked, refused, boundIn, carries, passes, answerAt, climb}
+use Rattle.scope.specs.Lookup.{Looked, refused, boundIn, carries, letsOn, passes, answerAt, climb}
 use Rattle.scope.proofs.Entries.{scope-at}
 
 -- what a scope answers depends on what the scopes below it answer, and on no others
@@ -48,7 +48,7 @@ module _ (a : ℕ) (scopes : List ℕ) (b : ℕ) (bindings : List ℕ) (c : ℕ)
   climbs s = climb (scopesOf a scopes) (bindingsOf b bindings) (carriedsOf c carriedList) (suc s) s x
 
   -- one scope's answer, by the words of the lists
-  pub answers : (s : ℕ) → s < a → {v : Option ℕ} {goesOn : Bool} {p : Option ℕ} → v ≡ boundIn (bindingsOf b bindings) s x → goesOn ≡ cond (eqb (getD scopes (s * 4) 0) 7) (carries (carriedsOf c carriedList) s x) true → parentOf (getD scopes (s * 4 + 1) 0) ≡ p → climbs s ≡ answerAt s v goesOn p climbs
+  pub answers : (s : ℕ) → s < a → {v : Option ℕ} {goesOn : Bool} {p : Option ℕ} → v ≡ boundIn (bindingsOf b bindings) s x → goesOn ≡ letsOn (getD scopes (s * 4) 0) (carries (carriedsOf c carriedList) s x) → parentOf (getD scopes (s * 4 + 1) 0) ≡ p → climbs s ≡ answerAt s v goesOn p climbs
   unfolding climb passes
   answers s h e f g =
       let here = scope-at s a scopes h in

@@ -2,7 +2,7 @@
 use Prim.Native.Nat.{ℕ, _+_, _-_, _<_, _≤_}
 use native.Mathlib.Omega.{arith}
 use mathlib.Core.Path.{_≡_, refl}
-use mathlib.Core.Bool.{_&&_}
+use mathlib.Core.Bool.{Bool, _&&_}
 use mathlib.Core.List.{List, [], _∷_}
 use borrow.Author.Tests.{le-leb, lt-leb}
 use lib.ListN.{length, take, drop, length-drop}
@@ -40,13 +40,13 @@ pub body-short : (s : List ℕ) (at n : ℕ) → n ≤ 255 → length s - at < p
 unfolding nameBody
 body-short s at n h k = rw (le-leb n 255 h, length-drop at s, lt-leb (padded n) (length s - at) k)
 
-pub body-fits : (s : List ℕ) (at n : ℕ) → n ≤ 255 → at + padded n ≤ length s → nameBody n (drop at s) ≡ pick (allZero (take (at + padded n - (at + n)) (drop (at + n) s)) && isUtf8 (take (at + n - at) (drop at s))) (ok (textAt s at n) (drop (at + padded n) s)) (no 3)
+pub body-fits : (s : List ℕ) (at n : ℕ) → n ≤ 255 → at + padded n ≤ length s → {z : Bool} → z ≡ allZero (take (at + padded n - (at + n)) (drop (at + n) s)) → nameBody n (drop at s) ≡ pick (z && isUtf8 (take (at + n - at) (drop at s))) (ok (textAt s at n) (drop (at + padded n) s)) (no 3)
 unfolding nameBody textAt
-body-fits s at n h k =
+body-fits s at n h k zero =
     let text : at + n - at ≡ n = omega arith in
     let rest : at + padded n - (at + n) ≡ padded n - n = omega arith in
     rw
-    (text, rest, le-leb n 255 h, length-drop at s, le-leb (padded n) (length s - at) (omega arith), drop-drop n at s, drop-drop (padded n) at s, le-leb (at + n) (length s) (omega arith))
+    (zero, text, rest, le-leb n 255 h, length-drop at s, le-leb (padded n) (length s - at) (omega arith), drop-drop n at s, drop-drop (padded n) at s, le-leb (at + n) (length s) (omega arith))
 
 -- the first four bytes of what is left make the length; fewer are refused
 pub name-short : (s : List ℕ) → length s < 4 → readName s ≡ no 3

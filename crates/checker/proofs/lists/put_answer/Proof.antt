@@ -9,12 +9,14 @@ use Rattle.checker.proofs.lists.put_answer.Tie as tie
 returns : tie.Need-returns
 returns c a e =
     let k = c .before in
-    answer-placed _ _ _ _ _ _ _ a (k .place-of-use .result) e (k .place-of-use .ensures) (k .before .before .before .pre) (omega arith)
+    let s = k .before .before .before in
+    answer-placed (s .args .out .now) (s .args .m) _ (s .args .id) _ _ _ a (k .place-of-use .result) e (k .place-of-use .ensures) (s .pre) (omega arith)
 
 returns-2 : tie.Need-returns-2
 returns-2 c a e =
     let k = c .before in
-    answer-placed _ _ _ _ _ _ _ a (k .place-of-use .result) e (k .place-of-use .ensures) (k .before .before .before .pre) (omega arith)
+    let s = k .before .before .before in
+    answer-placed (s .args .out .now) (s .args .m) _ (s .args .id) _ _ _ a (k .place-of-use .result) e (k .place-of-use .ensures) (s .pre) (omega arith)
 
 pub put-answer-spec : {M : Type 1} → statement M
 put-answer-spec =

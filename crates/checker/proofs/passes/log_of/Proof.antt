@@ -34,7 +34,7 @@ log-of-spec =
     let k = c .before .before .before in
     let s = start k in
     let r = k .before .before .root .ensures in
-    head-ready (s .args .warns) (held (s .pre .0 .0)) (s .pre .0 .1) (s .args .star) (s .pre .1 .0) (words-take (s .args .p .tail) (s .args .s .now)) (s .args .vis .now) _ (s .pre .1 .1 .0) (deep k) _ (r .0) (r .1 .one) (r .1 .none .0) (r .1 .none .1) (r .1 .cur) (r .1 .state _))
+    head-ready (s .args .warns) (held (s .pre .0 .0)) (s .pre .0 .1) (s .args .star) (s .pre .1 .0) (words-take (s .args .p .tail) (s .args .s .now)) (s .args .vis .now) _ (s .pre .1 .1 .0) (deep k) _ (r .0) (r .1 .one) (r .1 .none .0) (r .1 .none .1) (r .1 .cur) (r .1 .state _) (omega arith))
     (λ c. search needs)  -- sub-resolve-arms
     (λ c. search needs)  -- part-resolve-arms-start
     (λ c. let w = held (start (c .before .before .before .before .before .before .before .before) .pre .0 .0) .walked .places in omega (arith, w .trailer))  -- part-resolve-arms-end
@@ -43,7 +43,7 @@ log-of-spec =
     let k = b .before .before .before .before in
     let s = start k in
     let r = k .before .before .root .ensures in
-    arms-ready (s .args .warns) (held (s .pre .0 .0)) (s .pre .0 .1) (s .args .star) (s .pre .1 .0) (words-take (s .args .p .tail) (s .args .s .now)) (s .args .vis .now) _ (s .pre .1 .1 .0) (deep k) _ (r .0) (r .1 .one) (r .1 .none .0) (r .1 .none .1) (r .1 .cur) (r .1 .state _) (b .resolve-clauses .ensures) (words-take (s .args .p .trailer) (s .args .s .now)))
+    arms-ready (s .args .warns) (held (s .pre .0 .0)) (s .pre .0 .1) (s .args .star) (s .pre .1 .0) (words-take (s .args .p .tail) (s .args .s .now)) (s .args .vis .now) _ (s .pre .1 .1 .0) (deep k) _ (r .0) (r .1 .one) (r .1 .none .0) (r .1 .none .1) (r .1 .cur) (r .1 .state _) (omega arith) (b .resolve-clauses .ensures) (words-take (s .args .p .trailer) (s .args .s .now)))
     (λ c. search needs)  -- same-length
     (λ c. search needs)  -- same-length-2
     (λ c.  -- returns
@@ -52,4 +52,4 @@ log-of-spec =
     let k = b .before .before .before .before in
     let s = start k in
     let r = k .before .before .root .ensures in
-    arms-done (s .args .warns) (held (s .pre .0 .0)) (s .pre .0 .1) (s .args .star) (s .pre .1 .0) (words-take (s .args .p .tail) (s .args .s .now)) (s .args .vis .now) _ (s .pre .1 .1 .0) (deep k) _ (r .0) (r .1 .one) (r .1 .none .0) (r .1 .none .1) (r .1 .cur) (r .1 .state _) (b .resolve-clauses .ensures) (words-take (s .args .p .trailer) (s .args .s .now)) (d .resolve-arms .ensures)))
+    arms-done (s .args .warns) (held (s .pre .0 .0)) (s .pre .0 .1) (s .args .star) (s .pre .1 .0) (words-take (s .args .p .tail) (s .args .s .now)) (s .args .vis .now) _ (s .pre .1 .1 .0) (deep k) _ (r .0) (r .1 .one) (r .1 .none .0) (r .1 .none .1) (r .1 .cur) (r .1 .state _) (omega arith) (b .resolve-clauses .ensures) (words-take (s .args .p .trailer) (s .args .s .now)) (d .resolve-arms .ensures)))

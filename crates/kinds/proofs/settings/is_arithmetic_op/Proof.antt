@@ -8,6 +8,6 @@ pub is-arithmetic-op-spec : {M : Type 1} → statement M
 is-arithmetic-op-spec =
     tie.close
     (tie.spec
-    (λ c. low _ (c .if1 .taken))  -- returns
+    (λ c. low _ (omega arith))  -- returns
     (λ c. between _ (c .before .if1 .left) (c .if2 .taken))  -- returns-2
     (λ c. high _ (c .before .if1 .left) (c .if2 .left)))  -- returns-3

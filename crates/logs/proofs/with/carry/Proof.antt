@@ -48,4 +48,4 @@ carry-spec =
     let k = p .before .before .before .before .before in
     let x = k .before .before in
     let s = x .before .before .before .before .before in
-    (refl, carried-done (s .args .start) (s .args .end) (s .pre) (x .word .result) (x .word .ensures) (k .enter .ensures) (p .carry-projections .ensures) (z .enter2 .ensures) (s .args .at) (y .bind-carried .ensures))))
+    (refl, carried-done (s .args .start) (s .args .end) (s .pre) (x .word .result) (x .word .ensures) (k .enter .ensures) (p .carry-projections .ensures) (z .enter2 .ensures) (s .args .at) (omega arith) (y .bind-carried .ensures))))

@@ -1,9 +1,12 @@
 -- One answer where the name is found. Else one that says so, and the finding unless the name is `*`.
+use Prim.Native.Nat.{suc}
 use borrow.Author.Needs.{needs}
 use native.Mathlib.Numerals.{add-one}
 use native.Mathlib.Omega.{arith}
-use mathlib.Core.Path.{sym, _∙_}
+use mathlib.Core.Path.{_≡_, sym, _∙_}
+use mathlib.Core.Bool.{true}
 use borrow.Author.Tests.{eq-eqb, ne-eqb}
+use lib.Dec.{eqb}
 use Rattle.resolve.specs.Resolve.{variable}
 use Rattle.resolve.specs.Walk.{usesName, kindIn}
 use Rattle.resolve.proofs.Decode.{said-then}
@@ -36,7 +39,8 @@ record-name-spec =
     let k = c .before .before .before .before .before .before in
     let l = k .before .before in
     let start = l .before .before .before .before .before .before in
-    rw (← (l .lookup .ensures), k .enum-told .given .1, id-is _ (start .pre .0) (start .pre .1 .0), eq-eqb _ _ (sym (add-one _) ∙ c .if1 .taken)) (c .before .before .before .before .put2 .ensures))
+    let star : eqb (suc (start .args .name)) (start .args .e .star) ≡ true = eq-eqb _ _ (sym (add-one _) ∙ c .if1 .taken) in
+    rw (← (l .lookup .ensures), k .enum-told .given .1, id-is _ (start .pre .0) (start .pre .1 .0), star) (c .before .before .before .before .put2 .ensures))
     (λ c κs.  -- put-requires-3
     let k = c .before .before .before .before .before .before .before in
     let l = k .before .before in

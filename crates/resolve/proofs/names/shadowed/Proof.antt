@@ -7,7 +7,8 @@ use mathlib.Core.Path.{_≡_, refl}
 use mathlib.Core.Bool.{false}
 use mathlib.Core.List.{[]}
 use mathlib.Core.Option.{Option, none, some}
-use Rattle.resolve.specs.Resolve.{again, variable}
+use Rattle.resolve.specs.Resolve.{lookup, again, variable}
+use Rattle.resolve.specs.Walk.{above, seens}
 use Rattle.resolve.proofs.Decode.{none-said}
 use Rattle.resolve.proofs.names.shadowed.Statement.{statement}
 use Rattle.resolve.proofs.names.shadowed.Tie as tie
@@ -27,7 +28,9 @@ shadowed-spec =
     (λ c. search needs)  -- add-put
     (λ c κs.  -- put-requires
     let k = c .before .before .before in
-    let h = rw (← (k .lookup .ensures), c .before .enum-told .given .1, k .before .if1 .taken) at (k .before .before .before .before .pre .1 .1) in
+    let s = k .before .before .before .before in
+    let l : variable (k .lookup .result) ≡ lookup (s .args .name) (above (s .args .own) (seens (s .args .top) (s .args .vis .now))) = k .lookup .ensures in
+    let h = rw (← l, c .before .enum-told .given .1, k .before .if1 .taken) at (s .pre .1 .1) in
     omega (arith, h))
     (λ c. search needs)  -- enum-told-2
     (λ c. search needs)  -- same-length

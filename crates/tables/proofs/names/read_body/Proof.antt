@@ -28,7 +28,7 @@ read-body-spec =
     (λ c.  -- returns-3
     let z = c .before .all-zero in
     let a = c .before .before .before .before .before .before .args in
-    refuse (omega arith) (body-fits (a .s .now) (a .at) (a .n) (omega arith) (omega arith) ∙ rw (← z .ensures, not-true (z .result) (c .if3 .taken))))
+    refuse (omega arith) (body-fits (a .s .now) (a .at) (a .n) (omega arith) (omega arith) (z .ensures) ∙ rw (not-true (z .result) (c .if3 .taken))))
     (λ c. omega arith)  -- sub-is-utf8
     (λ c. omega arith)  -- part-is-utf8-start
     (λ c. omega arith)  -- part-is-utf8-end
@@ -36,8 +36,8 @@ read-body-spec =
     (λ c.  -- returns-4
     let z = c .before .before .before .before .all-zero in
     let a = c .before .before .before .before .before .before .before .before .before .args in
-    record { same = body-fits (a .s .now) (a .at) (a .n) (omega arith) (omega arith) ∙ rw (← z .ensures, not-false (z .result) (c .before .before .before .if3 .left), ← c .before .is-utf8 .ensures, c .if4 .taken); from = omega arith; within = omega arith })
+    record { same = body-fits (a .s .now) (a .at) (a .n) (omega arith) (omega arith) (z .ensures) ∙ rw (not-false (z .result) (c .before .before .before .if3 .left), ← c .before .is-utf8 .ensures, c .if4 .taken); from = omega arith; within = omega arith })
     (λ c.  -- returns-5
     let z = c .before .before .before .before .all-zero in
     let a = c .before .before .before .before .before .before .before .before .before .args in
-    refuse (omega arith) (body-fits (a .s .now) (a .at) (a .n) (omega arith) (omega arith) ∙ rw (← z .ensures, not-false (z .result) (c .before .before .before .if3 .left), ← c .before .is-utf8 .ensures, c .if4 .left))))
+    refuse (omega arith) (body-fits (a .s .now) (a .at) (a .n) (omega arith) (omega arith) (z .ensures) ∙ rw (not-false (z .result) (c .before .before .before .if3 .left), ← c .before .is-utf8 .ensures, c .if4 .left))))
