@@ -1,0 +1,73 @@
+-- Plain heads: at most one word follows the code, and then so many expressions in a row and nothing else. What the code sees of a head
+-- without taking it apart.
+use Prim.Native.Nat.{ℕ, _+_, _<_, _≤_}
+use mathlib.Core.Path.{_≡_}
+use mathlib.Core.List.{List}
+use lib.ListN.{length, drop}
+use Rattle.heads.specs.Got.{Got, ok, no}
+use Rattle.heads.specs.Form.{readForm}
+use Rattle.heads.specs.declared.Form.{Form}
+use Rattle.heads.specs.declared.Form.the-variants.{Leaf, Var, Unresolved, Prop, Two, Many, BinOp, UnaryOp, IsNull, ListComprehension, ListPredicate}
+use Rattle.flat.specs.declared.Plain.{Plain}
+use Rattle.flat.specs.declared.Plain.the-variants as plain
+use Rattle.flat.specs.declared.Quiet.{Quiet}
+use Rattle.flat.specs.declared.Quiet.the-variants as quiet
+use Rattle.flat.specs.declared.PlainRead.{PlainRead}
+use Rattle.flat.specs.declared.PlainRead.the-variants as plain-read
+
+-- a head that is no use of a name or a variable, and how many expressions follow it
+pub data Parts : Form → ℕ → Type 0 where
+  leaf : {code : ℕ} → Parts (Leaf code) 0
+  prop : {name : ℕ} → Parts (Prop name) 1
+  two : {code : ℕ} → Parts (Two code) 2
+  many : {code n : ℕ} → Parts (Many code n) n
+  binary : {op : ℕ} → Parts (BinOp op) 2
+  unary : {op : ℕ} → Parts (UnaryOp op) 1
+  is-null : Parts IsNull 1
+  list-comprehension : {flag : ℕ} → Parts (ListComprehension flag) (2 + flag)
+  list-predicate : {flag : ℕ} → Parts (ListPredicate flag) (1 + flag)
+
+-- any plain head
+pub data Simple : Form → ℕ → Type 0 where
+  variable : {v : ℕ} → Simple (Var v) 0
+  name : {x : ℕ} → Simple (Unresolved x) 0
+  parts : {f : Form} {k : ℕ} → Parts f k → Simple f k
+
+-- a plain head whose parts stand in the general setting of the kinds walk
+pub data Calm : Form → ℕ → Type 0 where
+  leaf : {code : ℕ} → Calm (Leaf code) 0
+  variable : {v : ℕ} → Calm (Var v) 0
+  name : {x : ℕ} → Calm (Unresolved x) 0
+  many : {code n : ℕ} → Calm (Many code n) n
+  is-null : Calm IsNull 1
+  in-list : Calm (Two 19) 2
+
+-- the words after a head, from p on
+pub record Ends (ws : List ℕ) (at p : ℕ) (r : List ℕ) : Type 0 where
+  pub rest : r ≡ drop p ws
+  pub longer : at < p
+  pub within : p ≤ length ws
+
+-- what was seen of a head that reads as f, with r left
+abbrev pub Sees : List ℕ → ℕ → Form → List ℕ → Plain → Type 0
+Sees ws at f r (plain.Var x) = (f ≡ Var x) × Ends ws at (at + 2) r
+Sees ws at f r (plain.Name x) = (f ≡ Unresolved x) × Ends ws at (at + 2) r
+Sees ws at f r (plain.Parts p k) = Parts f k × Ends ws at p r
+Sees ws at f r plain.Rare = Unit {0}
+
+abbrev pub Quiets : List ℕ → ℕ → Form → List ℕ → Quiet → Type 0
+Quiets ws at f r (quiet.Parts p k) = Calm f k × Ends ws at p r
+Quiets ws at f r quiet.No = Unit {0}
+
+-- Where a head reads at `at`, v is what is seen of it.
+pub record Seen (ws : List ℕ) (at : ℕ) (v : Plain) : Type 0 where
+  pub of : (names : ℕ) (f : Form) (r : List ℕ) → readForm names (drop at ws) ≡ ok f r → Sees ws at f r v
+
+pub record Calmed (ws : List ℕ) (at : ℕ) (v : Quiet) : Type 0 where
+  pub of : (names : ℕ) (f : Form) (r : List ℕ) → readForm names (drop at ws) ≡ ok f r → Quiets ws at f r v
+
+-- a plain head that reads, or none that does
+abbrev pub PlainAt : List ℕ → ℕ → ℕ → PlainRead → Type 0
+PlainAt ws names at (plain-read.Is p k) = (f : Form) × (Simple f k × ((readForm names (drop at ws) ≡ ok f (drop p ws)) × Ends ws at p (drop p ws)))
+PlainAt ws names at plain-read.Rare = Unit {0}
+PlainAt ws names at plain-read.No = readForm names (drop at ws) ≡ no 5
