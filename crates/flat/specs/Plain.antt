@@ -1,8 +1,10 @@
 -- Plain heads: at most one word follows the code, and then so many expressions in a row and nothing else. What the code sees of a head
 -- without taking it apart.
-use Prim.Native.Nat.{ℕ, _+_, _<_, _≤_}
+use Prim.Native.Nat.{ℕ, _+_, _*_, _/_, _%_, _^_, _<_, _≤_}
 use mathlib.Core.Path.{_≡_}
+use mathlib.Core.Bool.{Bool, false, cond, _&&_, _||_}
 use mathlib.Core.List.{List}
+use lib.Dec.{eqb, leb, ltb}
 use lib.ListN.{length, drop}
 use Rattle.heads.specs.Got.{Got, ok, no}
 use Rattle.heads.specs.Form.{readForm}
@@ -14,6 +16,24 @@ use Rattle.flat.specs.declared.Quiet.{Quiet}
 use Rattle.flat.specs.declared.Quiet.the-variants as quiet
 use Rattle.flat.specs.declared.PlainRead.{PlainRead}
 use Rattle.flat.specs.declared.PlainRead.the-variants as plain-read
+
+-- the bit of a code in a table, whether the table has the code, and the number of parts by the code and the word after it
+abbrev pub bitOf : ℕ → ℕ → ℕ
+bitOf table code = table / 2 ^ code % 2
+
+abbrev pub has : ℕ → ℕ → Bool
+has table code = cond (ltb code 26) (eqb (bitOf table code) 1) false
+
+abbrev pub counted : ℕ → ℕ → ℕ
+counted code a = cond (eqb (bitOf 10514432 code) 1) a 0
+
+abbrev pub partsOf : ℕ → ℕ → ℕ
+partsOf code a = 79789757300736 / 2 ^ (code * 2) % 4 + counted code a
+
+-- whether the word after a plain head's code is out of range
+abbrev pub isOut : ℕ → ℕ → ℕ → Bool
+isOut code names a =
+    (eqb (bitOf 768 code) 1 && leb names a) || ((eqb (bitOf 10551296 code) 1 && leb 2 a) || (eqb code 15 && leb 20 a))
 
 -- a head that is no use of a name or a variable, and how many expressions follow it
 pub data Parts : Form → ℕ → Type 0 where

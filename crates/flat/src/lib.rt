@@ -4,15 +4,13 @@ use heads::Read;
 use words::count;
 use words::word;
 ghost use mathlib.Core.Path.{_≡_};
-ghost use mathlib.Core.Bool.{false, cond};
-ghost use Prim.Native.Nat.{ℕ, _+_, _*_, _/_, _%_, _^_, _<_, _≤_};
-ghost use lib.Dec.{eqb, ltb};
+ghost use Prim.Native.Nat.{ℕ, _<_, _≤_};
 ghost use lib.ListN.{length, drop};
 ghost use Rattle.words.specs.Words.{words};
 ghost use Rattle.heads.specs.Got.{bare};
 ghost use Rattle.heads.specs.Answer.{Reads};
 ghost use Rattle.expr.specs.Read.{reader, noMore, times};
-ghost use Rattle.flat.specs.Plain.{Seen, Calmed, PlainAt};
+ghost use Rattle.flat.specs.Plain.{bitOf, has, counted, partsOf, isOut, Seen, Calmed, PlainAt};
 ghost use Rattle.flat.specs.Skim.{Skims};
 
 // A plain head: a use of a variable or of a name, of two words, or parts, with where they begin and how many there are. Any other is rare.
@@ -61,15 +59,15 @@ const MAX_ROW: usize = 8192;
 
 // The bit of a code.
 fn bit(table: u32, code: u32) -> u32
-    requires { ⌜ code < 32 ⌝ }
-    ensures { λ r. ⌜ r ≡ (table / 2 ^ code) % 2 ⌝ }
+    requires { ⌜ code < 26 ⌝ }
+    ensures { λ r. ⌜ r ≡ bitOf table code ⌝ }
 {
     (table >> code) % 2
 }
 
 // Whether a table has a code.
 fn is_in(table: u32, code: u32) -> bool
-    ensures { λ r. ⌜ r ≡ cond (ltb code 26) (eqb ((table / 2 ^ code) % 2) 1) false ⌝ }
+    ensures { λ r. ⌜ r ≡ has table code ⌝ }
 {
     if code < 26 {
         return bit(table, code) == 1;
@@ -79,8 +77,8 @@ fn is_in(table: u32, code: u32) -> bool
 
 // The word after a code, where it counts parts; else 0.
 fn counted(code: u32, a: u32) -> usize
-    requires { ⌜ code < 32 ⌝ }
-    ensures { λ r. ⌜ r ≡ cond (eqb ((10514432 / 2 ^ code) % 2) 1) a 0 ⌝ }
+    requires { ⌜ code < 26 ⌝ }
+    ensures { λ r. ⌜ r ≡ counted code a ⌝ }
 {
     if bit(COUNTED, code) == 1 {
         return a as usize;
@@ -91,7 +89,7 @@ fn counted(code: u32, a: u32) -> usize
 // How many parts follow a plain head, of which a is the word after the code.
 fn parts_of(code: u32, a: u32) -> usize
     requires { ⌜ code < 26 ⌝ }
-    ensures { λ r. ⌜ r ≡ (79789757300736 / 2 ^ (code * 2)) % 4 + cond (eqb ((10514432 / 2 ^ code) % 2) 1) a 0 ⌝ }
+    ensures { λ r. ⌜ r ≡ partsOf code a ⌝ }
 {
     ((PARTS >> (code * 2)) % 4) as usize + counted(code, a)
 }
@@ -133,6 +131,7 @@ pub fn quiet_at(s: &[u8], at: usize) -> Quiet
 // Whether the word after a plain head's code is out of range: a name that the table has not, a flag above 1, no operator.
 fn is_out(code: u32, names: u32, a: u32) -> bool
     requires { ⌜ code < 26 ⌝ }
+    ensures { λ r. ⌜ r ≡ isOut code names a ⌝ }
 {
     let n = (bit(NAMED, code) == 1) & (names <= a);
     let f = (bit(FLAGGED, code) == 1) & (2 <= a);

@@ -1,21 +1,14 @@
+-- The bit is tested as the definition tests it.
 use borrow.Author.Needs.{needs}
+use borrow.Author.Tests.{eq-eqb, ne-eqb}
+use mathlib.Core.Path.{sym, _∙_}
 use Rattle.flat.proofs.counted.Statement.{statement}
 use Rattle.flat.proofs.counted.Tie as tie
-use Rattle.flat.proofs.counted.Reads as reads
-use Rattle.flat.proofs.counted.Lts as lts
-use Rattle.flat.proofs.bit.Reads as bit-reads
-
--- src/lib.rt:85:8
-bit-requires : tie.Need-bit-requires
-bit-requires c κs = search needs
-
--- src/lib.rt:86:9
-returns : tie.Need-returns
-returns c = ?
-
--- src/lib.rt:81:1
-returns-2 : tie.Need-returns-2
-returns-2 c = ?
 
 pub counted-spec : {M : Type 1} → statement M
-counted-spec = tie.close (tie.spec bit-requires returns returns-2)
+counted-spec =
+    tie.close
+    (tie.spec
+    (λ c κs. search needs)  -- bit-requires
+    (λ c. simp (eq-eqb _ _ (sym (c .before .bit .ensures) ∙ c .if1 .taken)))  -- returns
+    (λ c. simp (ne-eqb _ _ (rw (c .before .bit .ensures) at (c .if1 .left)))))  -- returns-2

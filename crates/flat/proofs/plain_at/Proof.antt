@@ -1,74 +1,39 @@
+-- The code that stands there decides (`Sights`).
 use borrow.Author.Needs.{needs}
+use native.Mathlib.Omega.{arith}
+use mathlib.Core.Path.{sym, _∙_}
+use Rattle.words.proofs.Words.{length-words}
+use Rattle.flat.proofs.Codes.{has-below, parts-sort}
+use Rattle.flat.proofs.Sights.{var-sees, name-sees, sees}
 use Rattle.flat.proofs.plain_at.Statement.{statement}
 use Rattle.flat.proofs.plain_at.Tie as tie
-use Rattle.flat.proofs.plain_at.Reads as reads
-use Rattle.flat.proofs.plain_at.Lts as lts
-use Rattle.flat.proofs.bit.Reads as bit-reads
-use Rattle.flat.proofs.is_in.Reads as is-in-reads
-use Rattle.flat.proofs.parts_of.Reads as parts-of-reads
-use Rattle.words.proofs.word.Reads as word-reads
-
--- src/lib.rt:104:9
-word-requires : tie.Need-word-requires
-word-requires c κs = search needs
-
--- src/lib.rt:105:13
-add-p : tie.Need-add-p
-add-p c = ?
-
--- src/lib.rt:106:9
-word-requires-2 : tie.Need-word-requires-2
-word-requires-2 c κs = search needs
-
--- src/lib.rt:108:9
-returns : tie.Need-returns
-returns c = ?
-
--- src/lib.rt:111:9
-returns-2 : tie.Need-returns-2
-returns-2 c = ?
-
--- src/lib.rt:113:8
-is-in-requires : tie.Need-is-in-requires
-is-in-requires c κs = search needs
-
--- src/lib.rt:114:33
-bit-requires : tie.Need-bit-requires
-bit-requires c κs = ?
-
--- src/lib.rt:114:33
-cast-t9 : tie.Need-cast-t9
-cast-t9 c = search needs
-
--- src/lib.rt:114:29
-add-t10 : tie.Need-add-t10
-add-t10 c = ?
-
--- src/lib.rt:114:60
-parts-of-requires : tie.Need-parts-of-requires
-parts-of-requires c κs = ?
-
--- src/lib.rt:114:9
-returns-3 : tie.Need-returns-3
-returns-3 c = ?
-
--- src/lib.rt:100:1
-returns-4 : tie.Need-returns-4
-returns-4 c = search needs
 
 pub plain-at-spec : {M : Type 1} → statement M
 plain-at-spec =
     tie.close
     (tie.spec
-    word-requires
-    add-p
-    word-requires-2
-    returns
-    returns-2
-    is-in-requires
-    bit-requires
-    cast-t9
-    add-t10
-    parts-of-requires
-    returns-3
-    returns-4)
+    (λ c κs. search needs)  -- word-requires
+    (λ c. omega (arith, length-words (c .before .before .args .s .now)))  -- add-p
+    (λ c κs. search needs)  -- word-requires-2
+    (λ c.  -- returns
+    let w = c .before in
+    record { of = λ names f r e. var-sees _ _ names f r e _ (sym (w .before .word .ensures) ∙ c .if1 .taken) (w .word2 .ensures) })
+    (λ c.  -- returns-2
+    let w = c .before .before in
+    record { of = λ names f r e. name-sees _ _ names f r e _ (sym (w .before .word .ensures) ∙ c .if2 .taken) (w .word2 .ensures) })
+    (λ c κs. search needs)  -- is-in-requires
+    (λ c κs. has-below _ _ (sym (c .before .is-in .ensures) ∙ c .if3 .taken))  -- bit-requires
+    (λ c. search needs)  -- cast-t9
+    (λ c.  -- add-t10
+    omega (arith, c .bit .ensures, length-words (c .before .before .before .before .before .before .before .before .args .s .now)))
+    (λ c κs. has-below _ _ (sym (c .before .before .is-in .ensures) ∙ c .before .if3 .taken))  -- parts-of-requires
+    (λ c.  -- returns-3
+    let b = c .before in
+    let t = b .before in
+    let i = t .before in
+    let w = i .before .before .before in
+    let q = w .before .word .ensures in
+    record {
+      of = λ names f r e. rw (c .parts-of .ensures, b .bit .ensures, q, w .word2 .ensures) (sees _ _ names f r e (parts-sort _ (rw q at (sym (i .is-in .ensures) ∙ t .if3 .taken)) (rw q at (i .before .before .if1 .left)) (rw q at (i .before .if2 .left))));
+    })
+    (λ c. search needs))  -- returns-4

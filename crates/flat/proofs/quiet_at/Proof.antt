@@ -1,64 +1,33 @@
+-- The code that stands there decides (`Sights`).
 use borrow.Author.Needs.{needs}
+use native.Mathlib.Omega.{arith}
+use mathlib.Core.Path.{sym, _∙_}
+use Rattle.words.proofs.Words.{length-words}
+use Rattle.flat.proofs.Codes.{has-below, calm-sort}
+use Rattle.flat.proofs.Sights.{sees}
 use Rattle.flat.proofs.quiet_at.Statement.{statement}
 use Rattle.flat.proofs.quiet_at.Tie as tie
-use Rattle.flat.proofs.quiet_at.Reads as reads
-use Rattle.flat.proofs.quiet_at.Lts as lts
-use Rattle.flat.proofs.bit.Reads as bit-reads
-use Rattle.flat.proofs.is_in.Reads as is-in-reads
-use Rattle.flat.proofs.parts_of.Reads as parts-of-reads
-use Rattle.words.proofs.word.Reads as word-reads
-
--- src/lib.rt:124:9
-word-requires : tie.Need-word-requires
-word-requires c κs = search needs
-
--- src/lib.rt:125:13
-add-p : tie.Need-add-p
-add-p c = ?
-
--- src/lib.rt:126:9
-word-requires-2 : tie.Need-word-requires-2
-word-requires-2 c κs = search needs
-
--- src/lib.rt:127:8
-is-in-requires : tie.Need-is-in-requires
-is-in-requires c κs = search needs
-
--- src/lib.rt:128:33
-bit-requires : tie.Need-bit-requires
-bit-requires c κs = ?
-
--- src/lib.rt:128:33
-cast-t8 : tie.Need-cast-t8
-cast-t8 c = search needs
-
--- src/lib.rt:128:29
-add-t9 : tie.Need-add-t9
-add-t9 c = ?
-
--- src/lib.rt:128:60
-parts-of-requires : tie.Need-parts-of-requires
-parts-of-requires c κs = ?
-
--- src/lib.rt:128:9
-returns : tie.Need-returns
-returns c = ?
-
--- src/lib.rt:120:1
-returns-2 : tie.Need-returns-2
-returns-2 c = search needs
 
 pub quiet-at-spec : {M : Type 1} → statement M
 quiet-at-spec =
     tie.close
     (tie.spec
-    word-requires
-    add-p
-    word-requires-2
-    is-in-requires
-    bit-requires
-    cast-t8
-    add-t9
-    parts-of-requires
-    returns
-    returns-2)
+    (λ c κs. search needs)  -- word-requires
+    (λ c. omega (arith, length-words (c .before .before .args .s .now)))  -- add-p
+    (λ c κs. search needs)  -- word-requires-2
+    (λ c κs. search needs)  -- is-in-requires
+    (λ c κs. has-below _ _ (sym (c .before .is-in .ensures) ∙ c .if1 .taken))  -- bit-requires
+    (λ c. search needs)  -- cast-t8
+    (λ c.  -- add-t9
+    omega (arith, c .bit .ensures, length-words (c .before .before .before .before .before .before .args .s .now)))
+    (λ c κs. has-below _ _ (sym (c .before .before .is-in .ensures) ∙ c .before .if1 .taken))  -- parts-of-requires
+    (λ c.  -- returns
+    let b = c .before in
+    let t = b .before in
+    let i = t .before in
+    let w = i .before in
+    let q = w .before .word .ensures in
+    record {
+      of = λ names f r e. rw (c .parts-of .ensures, b .bit .ensures, q, w .word2 .ensures) (sees _ _ names f r e (calm-sort _ (rw q at (sym (i .is-in .ensures) ∙ t .if1 .taken))));
+    })
+    (λ c. search needs))  -- returns-2
