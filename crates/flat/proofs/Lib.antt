@@ -1,3 +1,4 @@
 pub mod Codes
 pub mod Few
+pub mod Reading
 pub mod Sights
