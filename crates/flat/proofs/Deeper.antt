@@ -1,12 +1,15 @@
 -- With one level more of room a reading is the same, but where less room refuses it by cause 6.
 use Prim.Native.Nat.{ℕ, zero, suc}
 use mathlib.Core.Bool.{Bool, true, false}
+use mathlib.Core.Path.{_≡_}
 use mathlib.Core.List.{List, [], _∷_}
-use Rattle.heads.specs.Got.{Got, ok, no, bind, bare, pick, wordIn, any}
+use Rattle.heads.specs.Got.{Got, ok, no, bind, next, bare, pick, wordIn, any}
 use Rattle.heads.specs.Form.{readForm, kidsOf, itemsOf, hasPattern}
 use Rattle.heads.specs.Head.{Tables, allowed, readPart, readElem, markLow, markHigh, markKids, deepCause}
 use Rattle.heads.specs.declared.Form.{Form}
+use Rattle.heads.proofs.Shapes.{Rest}
 use Rattle.expr.specs.Read.{Reader, RestE, RestS, noMore, noSteps, times, marks, elemOne, elems, parts, pattern, maybePattern, afterForm, readExpr}
+use Rattle.expr.proofs.Inverse.{never}
 
 -- the answer with more room, and the one with less
 pub data Deep {A : Type 0} : Got A → Got A → Type 0 where
@@ -30,6 +33,15 @@ deep-bind deep f = deep
 pub deep-bare : {A : Type 0} {g h : Got A} → Deep g h → Deep (bare g) (bare h)
 deep-bare same = same
 deep-bare deep = deep
+
+pub deep-next : {h h' : Rest} (g : Got (Unit {0})) → ((r : List ℕ) → Deep (h r) (h' r)) → Deep (next g h) (next g h')
+deep-next (ok a r) f = f r
+deep-next (no c) f = same
+
+-- what is read with less room is read the same with more
+pub deep-ok : {A : Type 0} {g h : Got A} {a : A} {r : List ℕ} → Deep g h → h ≡ ok a r → g ≡ ok a r
+deep-ok same e = e
+deep-ok deep e = never (cc)
 
 deep-pick : {A : Type 0} {g h : Got A} (b : Bool) → Deep g h → Deep (pick b g (no 7)) (pick b h (no 7))
 deep-pick true d = d
