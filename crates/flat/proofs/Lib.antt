@@ -1,2 +1,3 @@
 pub mod Deeper
 pub mod Flat
+pub mod Skimmed
