@@ -40,6 +40,27 @@ fn list(
     }
 }
 
+fn list_32(s: &[u8], warns: bool, page: &mut [u8]) -> Written
+    requires { ⌜ length (words (now s)) ≤ 32 ⌝ }
+    ensures { λ r. ⌜ Writes (listing warns (now (s .entry))) (now (page .entry)) (now (page .exit)) r × (number r < 4294967296) ⌝ }
+{
+    let mut tab = [0u32; 32];
+    let mut ids = [0u32; 32];
+    let mut vis = [0u32; 64];
+    let mut log = [0u32; 192];
+    let mut found = [0u32; 192];
+    list(
+        s,
+        warns,
+        &mut tab,
+        &mut ids,
+        &mut vis,
+        &mut log,
+        &mut found,
+        page,
+    )
+}
+
 fn list_64(s: &[u8], warns: bool, page: &mut [u8]) -> Written
     requires { ⌜ length (words (now s)) ≤ 64 ⌝ }
     ensures { λ r. ⌜ Writes (listing warns (now (s .entry))) (now (page .entry)) (now (page .exit)) r × (number r < 4294967296) ⌝ }
@@ -61,6 +82,27 @@ fn list_64(s: &[u8], warns: bool, page: &mut [u8]) -> Written
     )
 }
 
+fn list_128(s: &[u8], warns: bool, page: &mut [u8]) -> Written
+    requires { ⌜ length (words (now s)) ≤ 128 ⌝ }
+    ensures { λ r. ⌜ Writes (listing warns (now (s .entry))) (now (page .entry)) (now (page .exit)) r × (number r < 4294967296) ⌝ }
+{
+    let mut tab = [0u32; 128];
+    let mut ids = [0u32; 128];
+    let mut vis = [0u32; 256];
+    let mut log = [0u32; 768];
+    let mut found = [0u32; 768];
+    list(
+        s,
+        warns,
+        &mut tab,
+        &mut ids,
+        &mut vis,
+        &mut log,
+        &mut found,
+        page,
+    )
+}
+
 fn list_256(s: &[u8], warns: bool, page: &mut [u8]) -> Written
     requires { ⌜ length (words (now s)) ≤ 256 ⌝ }
     ensures { λ r. ⌜ Writes (listing warns (now (s .entry))) (now (page .entry)) (now (page .exit)) r × (number r < 4294967296) ⌝ }
@@ -70,6 +112,27 @@ fn list_256(s: &[u8], warns: bool, page: &mut [u8]) -> Written
     let mut vis = [0u32; 512];
     let mut log = [0u32; 1536];
     let mut found = [0u32; 1536];
+    list(
+        s,
+        warns,
+        &mut tab,
+        &mut ids,
+        &mut vis,
+        &mut log,
+        &mut found,
+        page,
+    )
+}
+
+fn list_512(s: &[u8], warns: bool, page: &mut [u8]) -> Written
+    requires { ⌜ length (words (now s)) ≤ 512 ⌝ }
+    ensures { λ r. ⌜ Writes (listing warns (now (s .entry))) (now (page .entry)) (now (page .exit)) r × (number r < 4294967296) ⌝ }
+{
+    let mut tab = [0u32; 512];
+    let mut ids = [0u32; 512];
+    let mut vis = [0u32; 1024];
+    let mut log = [0u32; 3072];
+    let mut found = [0u32; 3072];
     list(
         s,
         warns,
@@ -124,15 +187,15 @@ fn list_2048(s: &[u8], warns: bool, page: &mut [u8]) -> Written
     )
 }
 
-// The listing of a sheet, warnings on or off.
-pub fn listing(s: &[u8], warns: bool, page: &mut [u8]) -> Written
+// A sheet of any size, with scratch for 256 words at least. Its frame is that of the largest scratch, and is touched page by page.
+fn list_large(s: &[u8], warns: bool, page: &mut [u8]) -> Written
     ensures { λ r. ⌜ Writes (listing warns (now (s .entry))) (now (page .entry)) (now (page .exit)) r × (number r < 4294967296) ⌝ }
 {
-    if s.len() <= 256 {
-        return list_64(s, warns, page);
-    }
     if s.len() <= 1024 {
         return list_256(s, warns, page);
+    }
+    if s.len() <= 2048 {
+        return list_512(s, warns, page);
     }
     if s.len() <= 4096 {
         return list_1024(s, warns, page);
@@ -141,6 +204,25 @@ pub fn listing(s: &[u8], warns: bool, page: &mut [u8]) -> Written
         return list_2048(s, warns, page);
     }
     Written::Refused(1)
+}
+
+// The listing of a sheet, warnings on or off. The large sizes are called from two places, which keeps their frame out of this one's.
+pub fn listing(s: &[u8], warns: bool, page: &mut [u8]) -> Written
+    ensures { λ r. ⌜ Writes (listing warns (now (s .entry))) (now (page .entry)) (now (page .exit)) r × (number r < 4294967296) ⌝ }
+{
+    if s.len() <= 128 {
+        return list_32(s, warns, page);
+    }
+    if s.len() <= 256 {
+        return list_64(s, warns, page);
+    }
+    if s.len() <= 512 {
+        return list_128(s, warns, page);
+    }
+    if warns {
+        return list_large(s, true, page);
+    }
+    list_large(s, false, page)
 }
 
 // The refusal's number, or 256 and the length.
