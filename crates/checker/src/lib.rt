@@ -339,8 +339,49 @@ fn check_2048(
     )
 }
 
+// A sheet of any size, with scratch for 1,024 words at least. Its frame is that of the largest scratch, and is touched page by page.
+fn check_large(
+    s: &[u8],
+    warns: bool,
+    scopes: &mut [u32],
+    bindings: &mut [u32],
+    carried: &mut [u32],
+    recorded: &mut [u32],
+    findings: &mut [u32],
+    room: usize,
+) -> Checked
+    ensures { λ r. ⌜ (r ≡ answerIn warns (now (s .entry)) (record { scopes = now (scopes .entry); bindings = now (bindings .entry); carried = now (carried .entry); recorded = now (recorded .entry); findings = now (findings .entry) }) room) × (record { scopes = now (scopes .exit); bindings = now (bindings .exit); carried = now (carried .exit); recorded = now (recorded .exit); findings = now (findings .exit) } ≡ leftIn warns (now (s .entry)) (record { scopes = now (scopes .entry); bindings = now (bindings .entry); carried = now (carried .entry); recorded = now (recorded .entry); findings = now (findings .entry) }) room) ⌝ }
+{
+    if s.len() <= 4096 {
+        return check_1024(
+            s,
+            warns,
+            scopes,
+            bindings,
+            carried,
+            recorded,
+            findings,
+            room,
+        );
+    }
+    if s.len() <= 8192 {
+        return check_2048(
+            s,
+            warns,
+            scopes,
+            bindings,
+            carried,
+            recorded,
+            findings,
+            room,
+        );
+    }
+    Checked::Refused(1)
+}
+
 // The check call, warnings on or off. Its findings are flat words, for a list of finding records that has room for so many. Scratch is
-// sized to the sheet, since clearing it costs a small sheet more than its check.
+// sized to the sheet, since clearing it costs a small sheet more than its check; the large sizes are called from two places, which keeps
+// their frame out of this one's.
 pub fn check_words(
     s: &[u8],
     warns: bool,
@@ -377,10 +418,10 @@ pub fn check_words(
             room,
         );
     }
-    if s.len() <= 4096 {
-        return check_1024(
+    if warns {
+        return check_large(
             s,
-            warns,
+            true,
             scopes,
             bindings,
             carried,
@@ -389,17 +430,14 @@ pub fn check_words(
             room,
         );
     }
-    if s.len() <= 8192 {
-        return check_2048(
-            s,
-            warns,
-            scopes,
-            bindings,
-            carried,
-            recorded,
-            findings,
-            room,
-        );
-    }
-    Checked::Refused(1)
+    check_large(
+        s,
+        false,
+        scopes,
+        bindings,
+        carried,
+        recorded,
+        findings,
+        room,
+    )
 }
