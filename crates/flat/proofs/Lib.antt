@@ -1,2 +1,4 @@
 pub mod Codes
+pub mod Deeper
+pub mod Flat
 pub mod Sights
