@@ -25,7 +25,7 @@ use Rattle.resolve.specs.Table.{BoundAt, boundOf}
 use Rattle.resolve.specs.declared.rows.Bound.{Bound}
 use Rattle.resolve.specs.declared.rows.Bound.the-variants as bound
 use Rattle.kinds.specs.Kinds.{Setting, general, arithmetic, property, boolean, listed, Pair, both, plain, isId, noType, intType, stringType, kindType, typeOf, settings, atType, atRow, misplaced, rowFor, named-id, kindsE, kindsEs, kindsS}
-use Rattle.kinds.specs.Walk.{idNames, Pushed, atBound, misplacedBound, varOf, shownOf, ownFor, ownOf, found, ofE, ofEs}
+use Rattle.kinds.specs.Walk.{stored, idNames, Pushed, atBound, misplacedBound, varOf, shownOf, ownFor, ownOf, found, ofE, ofEs}
 use Rattle.kinds.proofs.Bounds.{bound-row}
 use Rattle.kinds.proofs.Split.{after, kinds-join, plain-join}
 
@@ -178,6 +178,18 @@ after-found t P f r r2 e2 r3 e3 r4 e4 w c p q =
     rw (i2 .1, times-split P (marks 0 (itemsOf f) P) (kidsOf f) r2, i3 .1, i4 .1, q) (parts-found w t P f r r2 r3 r4 (i2 .0) (i3 .0) (i4 .0) c (i2 .1) (i3 .1) (i4 .1))
 
 -- the findings that `check_head` stores
+pub own-general : (w : World) (f : Form) (c : Setting) {old : List ℕ} {n : ℕ} → c ≡ general → Pushed old old n (ownOf w f c) n
+unfolding atType stored
+own-general w f c {old} {n} e = rw (e, own-none (varOf f) (rowFor w (varOf f)) (shownOf f)) (record { count = omega arith; wrote = refl })
+  where
+    bound-none : (b : Bound) → atBound general b ≡ []
+    bound-none bound.No = refl
+    bound-none (bound.Is y k) = refl
+
+    own-none : (m : Maybe) (o : Option Row) (t : ℕ) → ownFor general m o t ≡ []
+    own-none (maybe.Var v) o t = bound-none (boundOf o)
+    own-none maybe.Nothing o t = refl
+
 pub own-var : (w : World) (f : Form) (c : Setting) {m : Maybe} {v : ℕ} {b : Bound} {old new : List ℕ} {n r : ℕ} → m ≡ varOf f → m ≡ maybe.Var v → BoundAt (rowFor w m) b → Pushed old new n (atBound c b) r → Pushed old new n (ownOf w f c) r
 own-var w f c {m} {v} {b} e1 e2 x y =
     let z : atBound c b ≡ ownFor c m (rowFor w m) (shownOf f) = rw (x .same, e2) in

@@ -4,6 +4,7 @@ pub mod Accepted
 pub mod Bounds
 pub mod Split
 pub mod Walks
+pub mod Quiet
 pub mod Found
 pub mod Steps
 pub mod Decoded

@@ -87,6 +87,17 @@ module _ {A B : Type 0} (R : Repeats A B) where
           splits = b .splits ∙ ap (λ (l : List Finding). b .gone ++ l) (one-of left (drop p ws) (drop (r .at) ws) (b .fine) h (w .rest)) ∙ sym (append-assoc (b .gone) (found g (R .one (drop p ws))) (found f' (R .all (left - 1) (drop (r .at) ws))));
         }
 
+  -- up to q nothing is found, and what is left there reads as what was left
+  pub pass : {ws : List ℕ} {at n : ℕ} {old : List ℕ} {whole : Got (Unit {0})} {fs : List Finding} {p m : ℕ} {log : List ℕ} {left : ℕ} {f : B → List Finding} {q : ℕ} (k : ℕ) → Going R ws at n old whole fs p m log left f → p ≤ q → q ≤ length ws → isOk (R .all k (drop q ws)) ≡ true → bare (R .all left (drop p ws)) ≡ bare (R .all k (drop q ws)) → found f (R .all left (drop p ws)) ≡ found f (R .all k (drop q ws)) → Going R ws at n old whole fs q m log k f
+  pass {ws} {at} {n} {old} {whole} {fs} {p} {m} {log} {left} {f} {q} k b h l o s e =
+      record {
+        gone = b .gone;
+        far = told (and-then (b .far) (stands p q m log h l)) refl (sym (append-nil (b .gone)));
+        fine = o;
+        shape = b .shape ∙ s;
+        splits = b .splits ∙ ap (λ (x : List Finding). b .gone ++ x) e;
+      }
+
   pub first-fine : {ws : List ℕ} {at n : ℕ} {old : List ℕ} {whole : Got (Unit {0})} {fs : List Finding} {p m : ℕ} {log : List ℕ} {left : ℕ} {f : B → List Finding} → 0 < left → Going R ws at n old whole fs p m log left f → isOk (R .one (drop p ws)) ≡ true
   first-fine {ws} {at} {n} {old} {whole} {fs} {p} {m} {log} {left} {f} h b = first-of R left (drop p ws) (b .fine) h
 

@@ -1,6 +1,7 @@
 // What is found at one head or at one binder, and stored: E2007, E2008, E2011, E5010 and E5011.
 use crate::Env;
 use crate::settings::Setting;
+use crate::settings::is_general;
 use heads::Form;
 use heads::Maybe;
 use resolve::Bound;
@@ -241,6 +242,9 @@ pub fn check_head(
     requires { ⌜ ((count + 1) * 6 ≤ length (now out)) × ((e .rows + e .bindings * 5 ≤ length (words (now s))) × (wellRows (e .names) (tableAt (words (now s)) (e .rows) (e .bindings)) ≡ true)) ⌝ }
     ensures { λ r. ⌜ Pushed (now (out .entry)) (now (out .exit)) count (ownOf (worldAt (words (now (s .entry))) e) f (settingOf setting)) r ⌝ }
 {
+    if is_general(setting) {
+        return count;
+    }
     let m = var_of(f);
     match m {
         Maybe::Var(_) => at_row(setting, row_for(s, e, m), out, count),

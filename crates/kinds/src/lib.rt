@@ -9,6 +9,8 @@ use findings::check_head;
 use findings::misplaced;
 pub use findings::push;
 use findings::row_for;
+use flat::Quiet;
+use flat::quiet_at;
 use heads::ElemRead;
 use heads::FormRead;
 use heads::PartRead;
@@ -20,6 +22,7 @@ use heads::read_elem_head;
 use heads::read_form;
 use heads::read_part_head;
 use settings::Setting;
+use settings::is_general;
 use settings::settings_of;
 use words::word;
 ghost use lib.ListN.{drop};
@@ -87,6 +90,11 @@ fn check_kids(
     requires { ⌜ Ready (words (now s)) e at count (now out) (times n (readerAt (words (now s)) e room) noMore (drop at (words (now s)))) ⌝ }
     ensures { λ r. ⌜ Checked (words (now (s .entry))) at count (now (out .entry)) (now (out .exit)) (ofEs (worldAt (words (now (s .entry))) e) (settingOf first) (settingOf later)) (times n (readerAt (words (now (s .entry))) e room) noMore (drop at (words (now (s .entry))))) r ⌝ }
 {
+    if is_general(first) {
+        if is_general(later) {
+            return check_row(s, e, at, room, n, out, count);
+        }
+    }
     let mut p = at;
     let mut m = count;
     let mut setting = first;
@@ -97,6 +105,39 @@ fn check_kids(
         m = w.count;
         setting = later;
         left -= 1;
+    }
+    Walked { at: p, count: m }
+}
+
+// n expressions in a row in the general setting: the parts of a quiet head, which has no findings of its own, are counted with the row.
+fn check_row(
+    s: &[u8],
+    e: Env,
+    at: usize,
+    room: u32,
+    n: usize,
+    out: &mut [u32],
+    count: usize,
+) -> Walked
+    requires { ⌜ Ready (words (now s)) e at count (now out) (times n (readerAt (words (now s)) e room) noMore (drop at (words (now s)))) ⌝ }
+    ensures { λ r. ⌜ Checked (words (now (s .entry))) at count (now (out .entry)) (now (out .exit)) (ofEs (worldAt (words (now (s .entry))) e) general general) (times n (readerAt (words (now (s .entry))) e room) noMore (drop at (words (now (s .entry))))) r ⌝ }
+{
+    let mut p = at;
+    let mut m = count;
+    let mut left = n;
+    while 0 < left {
+        match quiet_at(s, p) {
+            Quiet::Parts(q, k) => {
+                p = q;
+                left = left - 1 + k;
+            }
+            Quiet::No => {
+                let w = check_expr(s, e, p, room, Setting::General, out, m);
+                p = w.at;
+                m = w.count;
+                left -= 1;
+            }
+        }
     }
     Walked { at: p, count: m }
 }

@@ -1,7 +1,7 @@
 // Settings: where an expression stands, and so what may stand there; a head gives its parts theirs.
 use heads::Form;
 ghost use mathlib.Core.Path.{_≡_};
-ghost use mathlib.Core.Bool.{cond};
+ghost use mathlib.Core.Bool.{true, cond};
 ghost use Prim.Native.Nat.{suc};
 ghost use lib.Dec.{eqb};
 ghost use Rattle.resolve.specs.Log.{e5010};
@@ -35,6 +35,20 @@ fn is_arithmetic_op(o: u32) -> bool
         return false;
     }
     o <= 11
+}
+
+// Whether a setting is the general one.
+pub fn is_general(setting: Setting) -> bool
+    ensures { λ r. ⌜ (r ≡ true → settingOf setting ≡ general) ⌝ }
+{
+    match setting {
+        Setting::General => true,
+        Setting::Arithmetic => false,
+        Setting::Property => false,
+        Setting::Boolean => false,
+        Setting::Indexable(_) => false,
+        Setting::Iterable => false,
+    }
 }
 
 // A unary operator passes its setting on.

@@ -16,8 +16,8 @@ use Rattle.kinds.proofs.Walks.{stands, and-then, told, kept, ready-on}
 use Rattle.words.proofs.word.Reads as word
 use Rattle.kinds.proofs.check_parts.Reads as check-parts
 use Rattle.kinds.proofs.check_pattern.Reads as check-pattern
-use Rattle.kinds.proofs.+check_elem+check_elems+check_expr+check_kids+check_mark+check_marks+check_part+check_parts+check_pattern.Lts-check_pattern.{Claims, Closed, ps, spec}
-use Rattle.kinds.proofs.+check_elem+check_elems+check_expr+check_kids+check_mark+check_marks+check_part+check_parts+check_pattern.Proof.Measures.{is, below, μ-parts, μ-pattern}
+use Rattle.kinds.proofs.+check_elem+check_elems+check_expr+check_kids+check_mark+check_marks+check_part+check_parts+check_pattern+check_row.Lts-check_pattern.{Claims, Closed, ps, spec}
+use Rattle.kinds.proofs.+check_elem+check_elems+check_expr+check_kids+check_mark+check_marks+check_part+check_parts+check_pattern+check_row.Proof.Measures.{is, below, μ-parts, μ-pattern}
 
 abbrev calls : ℕ → Claims
 calls t = (word.Asked, word.Learnt, below μ-parts check-parts.Pre t, check-parts.Post)

@@ -15,8 +15,8 @@ use Rattle.kinds.proofs.Walks.{Going, begin, turn, first-fine, finish, 
 use Rattle.kinds.proofs.Split.{plain-join}
 use Rattle.kinds.proofs.check_mark.Reads as check-mark
 use Rattle.kinds.proofs.check_marks.Reads as check-marks
-use Rattle.kinds.proofs.+check_elem+check_elems+check_expr+check_kids+check_mark+check_marks+check_part+check_parts+check_pattern.Lts-check_marks.{Claims, Closed, ps, spec, InvT-loop, MeasureT-loop}
-use Rattle.kinds.proofs.+check_elem+check_elems+check_expr+check_kids+check_mark+check_marks+check_part+check_parts+check_pattern.Proof.Measures.{is, below, μ-mark, μ-marks}
+use Rattle.kinds.proofs.+check_elem+check_elems+check_expr+check_kids+check_mark+check_marks+check_part+check_parts+check_pattern+check_row.Lts-check_marks.{Claims, Closed, ps, spec, InvT-loop, MeasureT-loop}
+use Rattle.kinds.proofs.+check_elem+check_elems+check_expr+check_kids+check_mark+check_marks+check_part+check_parts+check_pattern+check_row.Proof.Measures.{is, below, μ-mark, μ-marks}
 
 abbrev calls : ℕ → Claims
 calls t = (below μ-mark check-mark.Pre t, check-mark.Post)

@@ -22,8 +22,8 @@ use Rattle.kinds.proofs.findings.row_for.Reads as row-for
 use Rattle.kinds.proofs.findings.misplaced.Reads as misplaced
 use Rattle.kinds.proofs.check_elem.Reads as check-elem
 use Rattle.kinds.proofs.check_kids.Reads as check-kids
-use Rattle.kinds.proofs.+check_elem+check_elems+check_expr+check_kids+check_mark+check_marks+check_part+check_parts+check_pattern.Lts-check_elem.{Claims, Closed, ps, spec, Start, After-known-told, After-slice-known2}
-use Rattle.kinds.proofs.+check_elem+check_elems+check_expr+check_kids+check_mark+check_marks+check_part+check_parts+check_pattern.Proof.Measures.{is, below, μ-elem, μ-kids}
+use Rattle.kinds.proofs.+check_elem+check_elems+check_expr+check_kids+check_mark+check_marks+check_part+check_parts+check_pattern+check_row.Lts-check_elem.{Claims, Closed, ps, spec, Start, After-known-told, After-slice-known2}
+use Rattle.kinds.proofs.+check_elem+check_elems+check_expr+check_kids+check_mark+check_marks+check_part+check_parts+check_pattern+check_row.Proof.Measures.{is, below, μ-elem, μ-kids}
 
 abbrev calls : ℕ → Claims
 calls t = (read-elem-head.Asked, read-elem-head.Learnt, row-for.Asked, row-for.Learnt, misplaced.Asked, misplaced.Learnt, below μ-kids check-kids.Pre t, check-kids.Post)

@@ -31,8 +31,8 @@ use Rattle.kinds.proofs.check_expr.Reads as check-expr
 use Rattle.kinds.proofs.check_kids.Reads as check-kids
 use Rattle.kinds.proofs.check_marks.Reads as check-marks
 use Rattle.kinds.proofs.check_pattern.Reads as check-pattern
-use Rattle.kinds.proofs.+check_elem+check_elems+check_expr+check_kids+check_mark+check_marks+check_part+check_parts+check_pattern.Lts-check_expr.{Claims, Closed, ps, spec, Start, After-known-told, After-slice-known2, After-slice-known3, After-slice-known4}
-use Rattle.kinds.proofs.+check_elem+check_elems+check_expr+check_kids+check_mark+check_marks+check_part+check_parts+check_pattern.Proof.Measures.{is, below, μ-expr, μ-kids, μ-marks, μ-pattern}
+use Rattle.kinds.proofs.+check_elem+check_elems+check_expr+check_kids+check_mark+check_marks+check_part+check_parts+check_pattern+check_row.Lts-check_expr.{Claims, Closed, ps, spec, Start, After-known-told, After-slice-known2, After-slice-known3, After-slice-known4}
+use Rattle.kinds.proofs.+check_elem+check_elems+check_expr+check_kids+check_mark+check_marks+check_part+check_parts+check_pattern+check_row.Proof.Measures.{is, below, μ-expr, μ-kids, μ-marks, μ-pattern}
 
 abbrev calls : ℕ → Claims
 calls t = (read-form.Asked, read-form.Learnt, check-head.Asked, check-head.Learnt, has-pattern.Asked, has-pattern.Learnt, below μ-pattern check-pattern.Pre t, check-pattern.Post, settings-of.Asked, settings-of.Learnt, kids-of.Asked, kids-of.Learnt, below μ-kids check-kids.Pre t, check-kids.Post, items-of.Asked, items-of.Learnt, below μ-marks check-marks.Pre t, check-marks.Post)

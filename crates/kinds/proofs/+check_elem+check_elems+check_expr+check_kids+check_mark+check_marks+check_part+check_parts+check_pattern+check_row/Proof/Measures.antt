@@ -15,6 +15,7 @@ use Rattle.kinds.proofs.check_marks.Kinds as marks
 use Rattle.kinds.proofs.check_part.Kinds as part
 use Rattle.kinds.proofs.check_parts.Kinds as parts
 use Rattle.kinds.proofs.check_pattern.Kinds as pattern
+use Rattle.kinds.proofs.check_row.Kinds as row
 
 abbrev size : List ℕ → ℕ → ℕ → ℕ
 size ws at rank = 7 * (length ws - at) + rank
@@ -29,7 +30,7 @@ abbrev pub μ-expr : Measures 2 expr.ps ℕ
 μ-expr κs a = size (words (a .0 .now)) (a .1 .1 .0) 0
 
 abbrev pub μ-kids : Measures 2 kids.ps ℕ
-μ-kids κs a = size (words (a .0 .now)) (a .1 .1 .0) 1
+μ-kids κs a = size (words (a .0 .now)) (a .1 .1 .0) 2
 
 abbrev pub μ-mark : Measures 2 mark.ps ℕ
 μ-mark κs a = size (words (a .0 .now)) (a .1 .1 .0) 2
@@ -45,6 +46,9 @@ abbrev pub μ-parts : Measures 2 parts.ps ℕ
 
 abbrev pub μ-pattern : Measures 2 pattern.ps ℕ
 μ-pattern κs a = size (words (a .0 .now)) (a .1 .1 .0) 6
+
+abbrev pub μ-row : Measures 2 row.ps ℕ
+μ-row κs a = size (words (a .0 .now)) (a .1 .1 .0) 1
 
 -- what a function asks, P, where its measure is t, and where it is below t
 module _ {D : Lfts 2 → Type 0} (μ : (κs : Lfts 2) → D κs → ℕ) (P : (κs : Lfts 2) → D κs → Type 0) (t : ℕ) where

@@ -22,8 +22,8 @@ use Rattle.kinds.proofs.findings.row_for.Reads as row-for
 use Rattle.kinds.proofs.findings.misplaced.Reads as misplaced
 use Rattle.kinds.proofs.check_elems.Reads as check-elems
 use Rattle.kinds.proofs.check_part.Reads as check-part
-use Rattle.kinds.proofs.+check_elem+check_elems+check_expr+check_kids+check_mark+check_marks+check_part+check_parts+check_pattern.Lts-check_part.{Claims, Closed, ps, spec, Start, After-known-told, After-slice-known2}
-use Rattle.kinds.proofs.+check_elem+check_elems+check_expr+check_kids+check_mark+check_marks+check_part+check_parts+check_pattern.Proof.Measures.{is, below, μ-elems, μ-part}
+use Rattle.kinds.proofs.+check_elem+check_elems+check_expr+check_kids+check_mark+check_marks+check_part+check_parts+check_pattern+check_row.Lts-check_part.{Claims, Closed, ps, spec, Start, After-known-told, After-slice-known2}
+use Rattle.kinds.proofs.+check_elem+check_elems+check_expr+check_kids+check_mark+check_marks+check_part+check_parts+check_pattern+check_row.Proof.Measures.{is, below, μ-elems, μ-part}
 
 abbrev calls : ℕ → Claims
 calls t = (read-part-head.Asked, read-part-head.Learnt, row-for.Asked, row-for.Learnt, misplaced.Asked, misplaced.Learnt, below μ-elems check-elems.Pre t, check-elems.Post)

@@ -15,8 +15,8 @@ use Rattle.words.proofs.word.Reads as word
 use Rattle.heads.proofs.mark_kids.Reads as mark-kids
 use Rattle.kinds.proofs.check_kids.Reads as check-kids
 use Rattle.kinds.proofs.check_mark.Reads as check-mark
-use Rattle.kinds.proofs.+check_elem+check_elems+check_expr+check_kids+check_mark+check_marks+check_part+check_parts+check_pattern.Lts-check_mark.{Claims, Closed, ps, spec}
-use Rattle.kinds.proofs.+check_elem+check_elems+check_expr+check_kids+check_mark+check_marks+check_part+check_parts+check_pattern.Proof.Measures.{is, below, μ-kids, μ-mark}
+use Rattle.kinds.proofs.+check_elem+check_elems+check_expr+check_kids+check_mark+check_marks+check_part+check_parts+check_pattern+check_row.Lts-check_mark.{Claims, Closed, ps, spec}
+use Rattle.kinds.proofs.+check_elem+check_elems+check_expr+check_kids+check_mark+check_marks+check_part+check_parts+check_pattern+check_row.Proof.Measures.{is, below, μ-kids, μ-mark}
 
 abbrev calls : ℕ → Claims
 calls t = (word.Asked, word.Learnt, mark-kids.Asked, mark-kids.Learnt, below μ-kids check-kids.Pre t, check-kids.Post)
