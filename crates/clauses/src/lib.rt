@@ -1,8 +1,8 @@
 // Clauses and arms of a section, read in place. Each reader's answer is opened, and a refusal is handed up with its number.
-use expr::read_expr;
-use expr::read_kids;
 use expr::read_marks;
 use expr::read_pattern;
+use flat::read_expr;
+use flat::read_kids;
 use heads::Read;
 use heads::Word;
 use heads::known;

@@ -12,11 +12,11 @@ use Rattle.expr.proofs.Inverse.{never}
 use Rattle.flat.specs.Plain.{bitOf, has, partsOf, Parts, Simple, Calm}
 
 -- by cases on a number: at 0, and at those above
-record Each (P : ℕ → Type 0) : Type 0 where
-  at : (k : ℕ) → P k
+pub record Each (P : ℕ → Type 0) : Type 0 where
+  pub at : (k : ℕ) → P k
 
 infixr 5 _▹_
-_▹_ : {P : ℕ → Type 0} → P zero → Each (λ k. P (suc k)) → Each P
+pub _▹_ : {P : ℕ → Type 0} → P zero → Each (λ k. P (suc k)) → Each P
 _▹_ {P} z s = record { at = go }
   where
     go : (k : ℕ) → P k

@@ -8,7 +8,7 @@ use Rattle.heads.specs.Form.{readForm, kidsOf, itemsOf, hasPattern}
 use Rattle.heads.specs.Head.{Tables, allowed, readPart, readElem, markLow, markHigh, markKids, deepCause}
 use Rattle.heads.specs.declared.Form.{Form}
 use Rattle.heads.proofs.Shapes.{Rest}
-use Rattle.expr.specs.Read.{Reader, RestE, RestS, noMore, noSteps, times, marks, elemOne, elems, parts, pattern, maybePattern, afterForm, readExpr}
+use Rattle.expr.specs.Read.{Reader, RestE, RestS, noMore, times, marks, elemOne, elems, parts, pattern, maybePattern, afterForm, readExpr}
 use Rattle.expr.proofs.Inverse.{never}
 
 -- the answer with more room, and the one with less

@@ -1,6 +1,6 @@
 -- A plain head's parts and the rest of its row are one row. The parts have a level of room less than the row, so that with less room the one
--- row is read as the other unless room runs out, and with as much it is read where the other is accepted.
-use Prim.Native.Nat.{ℕ, zero, suc, _+_, _-_}
+-- row is read as the other unless room runs out; with as much it is read wherever the other is accepted.
+use Prim.Native.Nat.{ℕ, zero, suc, _+_}
 use native.Mathlib.Omega.{arith}
 use native.Mathlib.Nat.{zero-add, suc-add}
 use mathlib.Core.Bool.{true, false}
@@ -10,8 +10,8 @@ use Rattle.heads.specs.Got.{Got, ok, no, bind, next, bare, isOk}
 use Rattle.heads.specs.Form.{readForm, kidsOf, itemsOf, hasPattern}
 use Rattle.heads.specs.Head.{Tables}
 use Rattle.heads.specs.declared.Form.{Form}
-use Rattle.heads.proofs.Shapes.{Rest, bare-map, bind-each}
-use Rattle.expr.specs.Tree.{Expr, Exprs, more, end, tree}
+use Rattle.heads.proofs.Shapes.{bare-map, bind-each}
+use Rattle.expr.specs.Tree.{Exprs, more, end, tree}
 use Rattle.expr.specs.Read.{Reader, noMore, times, marks, maybePattern, afterForm, readExpr}
 use Rattle.expr.proofs.Rows.{times-more, times-rest}
 use Rattle.expr.proofs.Split.{joinE, times-split}
@@ -100,7 +100,8 @@ module _ (w : Tables) (k : ℕ) (ws : List ℕ) (f : Form) (r : List ℕ) (s : S
   unfolding times
   flat-none d m z = whole-row d m ∙ rw z
 
-  module _ (d m : ℕ) (o : isOk (times (suc m) (readExpr w (suc d)) noMore ws) ≡ true) (es : Exprs) (t : List ℕ) (a : times k (readExpr w d) noMore r ≡ ok es t) where
+  -- where the parts are read, so is the rest of the row
+  module _ (d m : ℕ) (es : Exprs) (t : List ℕ) (a : times k (readExpr w d) noMore r ≡ ok es t) where
     whole-after : times (suc m) (readExpr w (suc d)) noMore ws ≡ bind (times m (readExpr w (suc d)) noMore t) (λ os l. ok (more (tree f end es) os) l)
     unfolding times
     whole-after = rw (plain-expr d, a)
@@ -111,17 +112,10 @@ module _ (w : Tables) (k : ℕ) (ws : List ℕ) (f : Form) (r : List ℕ) (s : S
         ∙ times-split (readExpr w (suc d)) (times m (readExpr w (suc d)) noMore) k r
         ∙ rw (deep-ok (deep-row k (deep-expr w d) r) a)
 
-    flat-after : Flattened (times (suc m) (readExpr w (suc d)) noMore ws) (times (k + m) (readExpr w (suc d)) noMore r) f
-    flat-after = flat-end f es (times m (readExpr w (suc d)) noMore t) whole-after rest-after o
-
-  flat-suc : (d m : ℕ) → isOk (times (suc m) (readExpr w (suc d)) noMore ws) ≡ true → Flattened (times (suc m) (readExpr w (suc d)) noMore ws) (times (k + m) (readExpr w (suc d)) noMore r) f
-  unfolding times
-  flat-suc d m o =
-      let first : isOk (bind (times k (readExpr w d) noMore r) (λ es l. ok (tree f end es) l)) ≡ true = sym (ap isOk (plain-expr d)) ∙ ok-left (readExpr w (suc d) ws) _ o in
-      let a = ok-inverse (times k (readExpr w d) noMore r) (ok-left (times k (readExpr w d) noMore r) _ first) in
-      flat-after d m o (a .0) (a .1 .0) (a .1 .1)
-
   pub flat-ok : (room m : ℕ) → isOk (times (suc m) (readExpr w room) noMore ws) ≡ true → Flattened (times (suc m) (readExpr w room) noMore ws) (times (k + m) (readExpr w room) noMore r) f
   unfolding times
   flat-ok zero m o = absurd (omega (arith, room-left w zero ws (ok-left (readExpr w zero ws) _ o)))
-  flat-ok (suc d) m o = flat-suc d m o
+  flat-ok (suc d) m o =
+      let first : isOk (bind (times k (readExpr w d) noMore r) (λ es l. ok (tree f end es) l)) ≡ true = sym (ap isOk (plain-expr d)) ∙ ok-left (readExpr w (suc d) ws) _ o in
+      let a = ok-inverse (times k (readExpr w d) noMore r) (ok-left (times k (readExpr w d) noMore r) _ first) in
+      flat-end f (a .0) (times m (readExpr w (suc d)) noMore (a .1 .0)) (whole-after d m (a .0) (a .1 .0) (a .1 .1)) (rest-after d m (a .0) (a .1 .0) (a .1 .1)) o
