@@ -1,20 +1,21 @@
--- The loop over a row in which the parts of a plain head are counted with the row: what each kind of head leaves of `Going`.
+-- The loop over a row in which the parts of a plain head are counted with the row: what each kind of head leaves of `Going`. An expression
+-- by itself is a row of one.
 use Prim.Native.Nat.{ℕ, zero, suc, _+_, _-_, _*_, _≤_, _<_}
 use native.Mathlib.Omega.{arith}
 use mathlib.Core.Path.{_≡_, refl, ap, sym, subst, _∙_}
 use mathlib.Core.Bool.{true}
 use mathlib.Core.List.{List}
 use lib.ListN.{length, drop, length-drop}
-use Rattle.heads.specs.Got.{Got, ok, bare, isOk}
+use Rattle.heads.specs.Got.{Got, ok, no, bind, bare, isOk}
 use Rattle.heads.specs.Form.{readForm}
 use Rattle.heads.specs.Head.{Tables}
 use Rattle.heads.specs.declared.Form.{Form}
 use Rattle.heads.specs.declared.Form.the-variants.{Var, Unresolved}
-use Rattle.expr.specs.Tree.{Expr, var, unresolved, node, Exprs, more, end, tree}
-use Rattle.expr.specs.Read.{noMore, times, readExpr}
+use Rattle.expr.specs.Tree.{Expr, var, unresolved, node, Exprs, done, more, end, tree}
+use Rattle.expr.specs.Read.{Reader, noMore, times, readExpr}
 use Rattle.expr.proofs.Inverse.{never}
 use Rattle.expr.proofs.Heads.{form-gives}
-use Rattle.expr.proofs.Accepted.{ok-inverse, ok-left, room-left, expr-is}
+use Rattle.expr.proofs.Accepted.{ok-inverse, ok-left, ok-bare, room-left, expr-is}
 use Rattle.expr.proofs.Repeats.{kidsOfRow, first-of}
 use Rattle.expr.proofs.Split.{joinE}
 use Rattle.flat.specs.Plain.{Parts, Simple, Ends, Seen}
@@ -29,7 +30,7 @@ use Rattle.resolve.specs.declared.Walk.{Walk}
 use Rattle.resolve.proofs.Decode.{length-seens}
 use Rattle.resolve.proofs.Keeps.{after-keeps}
 use Rattle.resolve.proofs.Rounds.{run-join, kids-rounds, byTurn, after-turn, name-below}
-use Rattle.resolve.proofs.Walks.{Rounds, Going, begin, first-ready, turn, finish, stepped, and-then, said-fits, said-done}
+use Rattle.resolve.proofs.Walks.{bare-map, Rounds, Going, begin, first-ready, turn, finish, told, stepped, and-then, said-fits, said-done}
 
 -- where an expression is accepted its head is
 head-fine : (t : Tables) (room : ℕ) (r : List ℕ) → isOk (readExpr t room r) ≡ true → isOk (readForm (t .names) r) ≡ true
@@ -192,3 +193,24 @@ module _ {ws : List ℕ} {e : Env} {ids : List ℕ} {room : ℕ} {vis log : List
                   ∙ sym (ap (λ (y : Got Exprs). after (runEs g) y state) (t .rest-is));
             };
           }
+
+-- an expression by itself is a row of one
+module _ (f : Facts) (P : Reader) (r : List ℕ) where
+  single-bare : bare (times 1 P noMore r) ≡ bare (P r)
+  unfolding times
+  single-bare = bare-map (λ x. more x done) (P r)
+
+  single-runs : (σ : State) → after (runEs f) (times 1 P noMore r) σ ≡ after (runE f) (P r) σ
+  unfolding times runE
+  single-runs σ = shown (P r)
+    where
+      shown : (g : Got Expr) → after (runEs f) (bind g (λ x r1. ok (more x done) r1)) σ ≡ after (runE f) g σ
+      shown (ok a r1) = refl
+      shown (no c) = refl
+
+  module _ {ws vis log : List ℕ} {w : Walk} where
+    pub single-ready : {e : Env} {ids : List ℕ} → Ready ws e ids vis log w (runE f) (P r) → Ready ws e ids vis log w (runEs f) (times 1 P noMore r)
+    single-ready o = record { within = o .within; tabled = o .tabled; room = rw (single-runs (stateOf vis log w)) (o .room); fine = ok-bare (times 1 P noMore r) (P r) (sym single-bare) (o .fine) }
+
+    pub single-done : {vis' log' : List ℕ} {q : Walk} → Resolved ws vis log vis' log' w (runEs f) (times 1 P noMore r) q → Resolved ws vis log vis' log' w (runE f) (P r) q
+    single-done v = told v (sym single-bare ∙ v .rest) (sym (single-runs (stateOf vis log w)))
