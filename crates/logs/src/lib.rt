@@ -13,7 +13,6 @@ use resolve::bind_pattern;
 use resolve::enter;
 use resolve::name_of;
 use resolve::put;
-use resolve::resolve_expr;
 use resolve::resolve_kids;
 use resolve::resolve_marks;
 use with::carry;
@@ -95,7 +94,7 @@ pub fn resolve_projection(
 {
     let mut v = w;
     v.at = w.at + 1;
-    resolve_expr(s, e, ids, vis, log, MAX_DEPTH, v)
+    resolve_kids(s, e, ids, vis, log, MAX_DEPTH, 1, v)
 }
 
 // n projections.

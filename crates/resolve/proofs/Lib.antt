@@ -9,5 +9,7 @@ pub mod Walks
 pub mod Adds
 pub mod Runs
 pub mod Heights
+pub mod Keeps
 pub mod Rounds
+pub mod Flat
 pub mod Lowered

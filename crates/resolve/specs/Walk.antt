@@ -24,6 +24,7 @@ use Rattle.resolve.specs.Log.{e1001, finding, Answer, found, missing, bo
 use Rattle.resolve.specs.Resolve.{World, Seen, seen, lookup, rowOf, rowName, rowKind, variable, again, recordVar}
 use Rattle.resolve.specs.Table.{tableAt, wellRows}
 use Rattle.resolve.specs.declared.Env.{Env}
+use Rattle.resolve.specs.declared.Trail.{Trail}
 use Rattle.resolve.specs.declared.Walk.{Walk}
 use Rattle.resolve.specs.declared.Turn.{Turn}
 use Rattle.resolve.specs.declared.Turn.the-variants as turn
@@ -285,6 +286,10 @@ pub record Walks (ws vis log vis' log' : List ℕ) (w r : Walk) (g : Got (Unit {
 
 abbrev pub Resolved : {A : Type 0} → List ℕ → List ℕ → List ℕ → List ℕ → List ℕ → Walk → (A → State → State) → Got A → Walk → Type 0
 Resolved ws vis log vis' log' w run g r = Walks ws vis log vis' log' w r (bare g) (after run g (stateOf vis log w))
+
+-- where a walk stands that went so far, the stack and the scope as they were
+abbrev pub trailed : Walk → Trail → Walk
+trailed w t = record { at = t .at; events = t .events; last = t .last; top = w .top; base = w .base; cur = w .cur }
 
 -- the readers of a section that was accepted, where any variable may be bound
 abbrev pub tablesAt : List ℕ → Env → Tables

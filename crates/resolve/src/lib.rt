@@ -6,6 +6,8 @@ mod names;
 mod rows;
 
 use expr::read_pattern;
+use flat::Plain;
+use flat::plain_at;
 use heads::ElemRead;
 use heads::Form;
 use heads::FormRead;
@@ -39,7 +41,7 @@ ghost use lib.ListN.{length, drop};
 ghost use Rattle.words.specs.Words.{words};
 ghost use Rattle.heads.specs.Got.{bare, isOk};
 ghost use Rattle.expr.specs.Read.{noMore, noSteps, times, marks, markFull, elemOne, elems, partFull, parts, pattern};
-ghost use Rattle.resolve.specs.Walk.{factsAt, runE, runInner, runEs, runS, runElem, runPattern, innerOf, turnOf, tablesAt, readerAt, Skipped, Ready, Resolved};
+ghost use Rattle.resolve.specs.Walk.{factsAt, trailed, runE, runInner, runEs, runS, runElem, runPattern, innerOf, turnOf, tablesAt, readerAt, Skipped, Ready, Resolved};
 
 // What a walk goes by: how many names there are, the first word and the number of the bindings, the index + 1 of the name `*` or 0, and
 // the warning choice.
@@ -60,6 +62,13 @@ pub struct Walk {
     pub top: usize,
     pub base: usize,
     pub cur: u32,
+}
+
+// How far a row went: the next word, how many events there are, the last scope's number. The names, and the current scope, are as before.
+pub struct Trail {
+    pub at: usize,
+    pub events: usize,
+    pub last: u32,
 }
 
 // What a head asks of the walk: a use of a variable or of a name, a pattern to step over, a scope of its own with its span, or its parts.
@@ -190,13 +199,76 @@ pub fn resolve_kids(
     requires { ⌜ Ready (words (now s)) e (now ids) (now vis) (now log) w (runEs (factsAt (words (now s)) e (now ids))) (times n (readerAt (words (now s)) e room) noMore (drop (w .at) (words (now s)))) ⌝ }
     ensures { λ r. ⌜ Resolved (words (now (s .entry))) (now (vis .entry)) (now (log .entry)) (now (vis .exit)) (now (log .exit)) w (runEs (factsAt (words (now (s .entry))) e (now (ids .entry)))) (times n (readerAt (words (now (s .entry))) e room) noMore (drop (w .at) (words (now (s .entry))))) r ⌝ }
 {
+    let t = resolve_run(s, e, ids, vis, log, room, n, w);
     let mut v = w;
+    v.at = t.at;
+    v.events = t.events;
+    v.last = t.last;
+    v
+}
+
+// n expressions in a row: the parts of a plain head are counted with the row.
+fn resolve_run(
+    s: &[u8],
+    e: Env,
+    ids: &[u32],
+    vis: &mut [u32],
+    log: &mut [u32],
+    room: u32,
+    n: usize,
+    w: Walk,
+) -> Trail
+    requires { ⌜ Ready (words (now s)) e (now ids) (now vis) (now log) w (runEs (factsAt (words (now s)) e (now ids))) (times n (readerAt (words (now s)) e room) noMore (drop (w .at) (words (now s)))) ⌝ }
+    ensures { λ r. ⌜ Resolved (words (now (s .entry))) (now (vis .entry)) (now (log .entry)) (now (vis .exit)) (now (log .exit)) w (runEs (factsAt (words (now (s .entry))) e (now (ids .entry)))) (times n (readerAt (words (now (s .entry))) e room) noMore (drop (w .at) (words (now (s .entry))))) (trailed w r) ⌝ }
+{
+    let mut at = w.at;
+    let mut events = w.events;
+    let mut last = w.last;
+    let top = w.top;
+    let base = w.base;
+    let cur = w.cur;
     let mut left = n;
     while 0 < left {
-        v = resolve_expr(s, e, ids, vis, log, room, v);
-        left -= 1;
+        match plain_at(s, at) {
+            Plain::Var(x) => {
+                events = record_var(s, e, x, log, events);
+                at = at + 2;
+                left -= 1;
+            }
+            Plain::Name(x) => {
+                events = record_name(s, e, ids, x, vis, base, top, log, events);
+                at = at + 2;
+                left -= 1;
+            }
+            Plain::Parts(p, k) => {
+                at = p;
+                left = left - 1 + k;
+            }
+            Plain::Rare => {
+                let v = resolve_expr(
+                    s,
+                    e,
+                    ids,
+                    vis,
+                    log,
+                    room,
+                    Walk {
+                        at,
+                        events,
+                        last,
+                        top,
+                        base,
+                        cur,
+                    },
+                );
+                at = v.at;
+                events = v.events;
+                last = v.last;
+                left -= 1;
+            }
+        }
     }
-    v
+    Trail { at, events, last }
 }
 
 // n marks of a kind.

@@ -26,8 +26,8 @@ use Rattle.heads.proofs.read_elem_head.Reads as read-elem-head
 use Rattle.resolve.proofs.names.bind_new.Reads as bind-new
 use Rattle.resolve.proofs.resolve_kids.Reads as resolve-kids
 use Rattle.resolve.proofs.bind_elem.Reads as bind-elem
-use Rattle.resolve.proofs.+bind_elem+bind_elems+bind_part+bind_parts+bind_pattern+resolve_expr+resolve_inner+resolve_kids+resolve_mark+resolve_marks.Lts-bind_elem.{Claims, Closed, ps, spec, Start, After-known-told, After-slice-known4}
-use Rattle.resolve.proofs.+bind_elem+bind_elems+bind_part+bind_parts+bind_pattern+resolve_expr+resolve_inner+resolve_kids+resolve_mark+resolve_marks.Proof.Measures.{is, below, μ-kids, μ-elem}
+use Rattle.resolve.proofs.+bind_elem+bind_elems+bind_part+bind_parts+bind_pattern+resolve_expr+resolve_inner+resolve_kids+resolve_mark+resolve_marks+resolve_run.Lts-bind_elem.{Claims, Closed, ps, spec, Start, After-known-told, After-slice-known4}
+use Rattle.resolve.proofs.+bind_elem+bind_elems+bind_part+bind_parts+bind_pattern+resolve_expr+resolve_inner+resolve_kids+resolve_mark+resolve_marks+resolve_run.Proof.Measures.{is, below, μ-kids, μ-elem}
 
 abbrev calls : ℕ → Claims
 calls t = (read-elem-head.Asked, read-elem-head.Learnt, bind-new.Asked, bind-new.Learnt, below μ-kids resolve-kids.Pre t, resolve-kids.Post)

@@ -25,8 +25,8 @@ use Rattle.resolve.proofs.Walks.{after-adds, after-two, stepped, told, 
 use Rattle.resolve.proofs.bind_pattern.Reads as bind-pattern
 use Rattle.resolve.proofs.resolve_kids.Reads as resolve-kids
 use Rattle.resolve.proofs.resolve_inner.Reads as resolve-inner
-use Rattle.resolve.proofs.+bind_elem+bind_elems+bind_part+bind_parts+bind_pattern+resolve_expr+resolve_inner+resolve_kids+resolve_mark+resolve_marks.Lts-resolve_inner.{Claims, Closed, ps, spec, Start, After-slice-known4}
-use Rattle.resolve.proofs.+bind_elem+bind_elems+bind_part+bind_parts+bind_pattern+resolve_expr+resolve_inner+resolve_kids+resolve_mark+resolve_marks.Proof.Measures.{is, below, μ-pattern, μ-kids, μ-inner}
+use Rattle.resolve.proofs.+bind_elem+bind_elems+bind_part+bind_parts+bind_pattern+resolve_expr+resolve_inner+resolve_kids+resolve_mark+resolve_marks+resolve_run.Lts-resolve_inner.{Claims, Closed, ps, spec, Start, After-slice-known4}
+use Rattle.resolve.proofs.+bind_elem+bind_elems+bind_part+bind_parts+bind_pattern+resolve_expr+resolve_inner+resolve_kids+resolve_mark+resolve_marks+resolve_run.Proof.Measures.{is, below, μ-pattern, μ-kids, μ-inner}
 
 abbrev calls : ℕ → Claims
 calls t = (below μ-pattern bind-pattern.Pre t, bind-pattern.Post, below μ-kids resolve-kids.Pre t, resolve-kids.Post)

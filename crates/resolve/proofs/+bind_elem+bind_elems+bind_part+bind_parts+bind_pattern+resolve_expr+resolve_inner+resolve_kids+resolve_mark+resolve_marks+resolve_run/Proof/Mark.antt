@@ -20,8 +20,8 @@ use Rattle.words.proofs.word.Reads as word
 use Rattle.heads.proofs.mark_kids.Reads as mark-kids
 use Rattle.resolve.proofs.resolve_kids.Reads as resolve-kids
 use Rattle.resolve.proofs.resolve_mark.Reads as resolve-mark
-use Rattle.resolve.proofs.+bind_elem+bind_elems+bind_part+bind_parts+bind_pattern+resolve_expr+resolve_inner+resolve_kids+resolve_mark+resolve_marks.Lts-resolve_mark.{Claims, Closed, ps, spec, Start, After-mark-kids}
-use Rattle.resolve.proofs.+bind_elem+bind_elems+bind_part+bind_parts+bind_pattern+resolve_expr+resolve_inner+resolve_kids+resolve_mark+resolve_marks.Proof.Measures.{is, below, μ-kids, μ-mark}
+use Rattle.resolve.proofs.+bind_elem+bind_elems+bind_part+bind_parts+bind_pattern+resolve_expr+resolve_inner+resolve_kids+resolve_mark+resolve_marks+resolve_run.Lts-resolve_mark.{Claims, Closed, ps, spec, Start, After-mark-kids}
+use Rattle.resolve.proofs.+bind_elem+bind_elems+bind_part+bind_parts+bind_pattern+resolve_expr+resolve_inner+resolve_kids+resolve_mark+resolve_marks+resolve_run.Proof.Measures.{is, below, μ-kids, μ-mark}
 
 abbrev calls : ℕ → Claims
 calls t = (word.Asked, word.Learnt, mark-kids.Asked, mark-kids.Learnt, below μ-kids resolve-kids.Pre t, resolve-kids.Post)

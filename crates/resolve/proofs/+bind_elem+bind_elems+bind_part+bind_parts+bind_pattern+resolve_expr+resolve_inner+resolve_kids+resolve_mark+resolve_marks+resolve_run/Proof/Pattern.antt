@@ -22,8 +22,8 @@ use Rattle.resolve.proofs.Walks.{stepped, rest-ready, rest-done}
 use Rattle.words.proofs.word.Reads as word
 use Rattle.resolve.proofs.bind_parts.Reads as bind-parts
 use Rattle.resolve.proofs.bind_pattern.Reads as bind-pattern
-use Rattle.resolve.proofs.+bind_elem+bind_elems+bind_part+bind_parts+bind_pattern+resolve_expr+resolve_inner+resolve_kids+resolve_mark+resolve_marks.Lts-bind_pattern.{Claims, Closed, ps, spec, Start, After-word}
-use Rattle.resolve.proofs.+bind_elem+bind_elems+bind_part+bind_parts+bind_pattern+resolve_expr+resolve_inner+resolve_kids+resolve_mark+resolve_marks.Proof.Measures.{is, below, μ-parts, μ-pattern}
+use Rattle.resolve.proofs.+bind_elem+bind_elems+bind_part+bind_parts+bind_pattern+resolve_expr+resolve_inner+resolve_kids+resolve_mark+resolve_marks+resolve_run.Lts-bind_pattern.{Claims, Closed, ps, spec, Start, After-word}
+use Rattle.resolve.proofs.+bind_elem+bind_elems+bind_part+bind_parts+bind_pattern+resolve_expr+resolve_inner+resolve_kids+resolve_mark+resolve_marks+resolve_run.Proof.Measures.{is, below, μ-parts, μ-pattern}
 
 abbrev calls : ℕ → Claims
 calls t = (word.Asked, word.Learnt, below μ-parts bind-parts.Pre t, bind-parts.Post)

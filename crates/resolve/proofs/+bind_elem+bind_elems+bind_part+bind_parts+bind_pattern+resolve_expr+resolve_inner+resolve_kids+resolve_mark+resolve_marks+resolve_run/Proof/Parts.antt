@@ -10,8 +10,8 @@ use Rattle.resolve.proofs.Walks.{Going, begin, first-ready, turn, finis
 use Rattle.resolve.proofs.Rounds.{parts-rounds}
 use Rattle.resolve.proofs.bind_part.Reads as bind-part
 use Rattle.resolve.proofs.bind_parts.Reads as bind-parts
-use Rattle.resolve.proofs.+bind_elem+bind_elems+bind_part+bind_parts+bind_pattern+resolve_expr+resolve_inner+resolve_kids+resolve_mark+resolve_marks.Lts-bind_parts.{Claims, Closed, ps, spec, InvT-loop, MeasureT-loop}
-use Rattle.resolve.proofs.+bind_elem+bind_elems+bind_part+bind_parts+bind_pattern+resolve_expr+resolve_inner+resolve_kids+resolve_mark+resolve_marks.Proof.Measures.{is, below, μ-part, μ-parts}
+use Rattle.resolve.proofs.+bind_elem+bind_elems+bind_part+bind_parts+bind_pattern+resolve_expr+resolve_inner+resolve_kids+resolve_mark+resolve_marks+resolve_run.Lts-bind_parts.{Claims, Closed, ps, spec, InvT-loop, MeasureT-loop}
+use Rattle.resolve.proofs.+bind_elem+bind_elems+bind_part+bind_parts+bind_pattern+resolve_expr+resolve_inner+resolve_kids+resolve_mark+resolve_marks+resolve_run.Proof.Measures.{is, below, μ-part, μ-parts}
 
 abbrev calls : ℕ → Claims
 calls t = (below μ-part bind-part.Pre t, bind-part.Post)

@@ -27,8 +27,8 @@ use Rattle.heads.proofs.read_part_head.Reads as read-part-head
 use Rattle.resolve.proofs.names.bind_path.Reads as bind-path
 use Rattle.resolve.proofs.bind_elems.Reads as bind-elems
 use Rattle.resolve.proofs.bind_part.Reads as bind-part
-use Rattle.resolve.proofs.+bind_elem+bind_elems+bind_part+bind_parts+bind_pattern+resolve_expr+resolve_inner+resolve_kids+resolve_mark+resolve_marks.Lts-bind_part.{Claims, Closed, ps, spec, Start, After-known-told, After-slice-known4}
-use Rattle.resolve.proofs.+bind_elem+bind_elems+bind_part+bind_parts+bind_pattern+resolve_expr+resolve_inner+resolve_kids+resolve_mark+resolve_marks.Proof.Measures.{is, below, μ-elems, μ-part}
+use Rattle.resolve.proofs.+bind_elem+bind_elems+bind_part+bind_parts+bind_pattern+resolve_expr+resolve_inner+resolve_kids+resolve_mark+resolve_marks+resolve_run.Lts-bind_part.{Claims, Closed, ps, spec, Start, After-known-told, After-slice-known4}
+use Rattle.resolve.proofs.+bind_elem+bind_elems+bind_part+bind_parts+bind_pattern+resolve_expr+resolve_inner+resolve_kids+resolve_mark+resolve_marks+resolve_run.Proof.Measures.{is, below, μ-elems, μ-part}
 
 abbrev calls : ℕ → Claims
 calls t = (read-part-head.Asked, read-part-head.Learnt, bind-path.Asked, bind-path.Learnt, below μ-elems bind-elems.Pre t, bind-elems.Post)

@@ -43,8 +43,8 @@ use Rattle.resolve.proofs.resolve_inner.Reads as resolve-inner
 use Rattle.resolve.proofs.resolve_kids.Reads as resolve-kids
 use Rattle.resolve.proofs.resolve_marks.Reads as resolve-marks
 use Rattle.resolve.proofs.resolve_expr.Reads as resolve-expr
-use Rattle.resolve.proofs.+bind_elem+bind_elems+bind_part+bind_parts+bind_pattern+resolve_expr+resolve_inner+resolve_kids+resolve_mark+resolve_marks.Lts-resolve_expr.{Claims, Closed, ps, spec, Start, After-known-told, After-turn-of, After-slice-known5, After-slice-known9}
-use Rattle.resolve.proofs.+bind_elem+bind_elems+bind_part+bind_parts+bind_pattern+resolve_expr+resolve_inner+resolve_kids+resolve_mark+resolve_marks.Proof.Measures.{is, below, μ-expr, μ-inner, μ-kids, μ-marks}
+use Rattle.resolve.proofs.+bind_elem+bind_elems+bind_part+bind_parts+bind_pattern+resolve_expr+resolve_inner+resolve_kids+resolve_mark+resolve_marks+resolve_run.Lts-resolve_expr.{Claims, Closed, ps, spec, Start, After-known-told, After-turn-of, After-slice-known5, After-slice-known9}
+use Rattle.resolve.proofs.+bind_elem+bind_elems+bind_part+bind_parts+bind_pattern+resolve_expr+resolve_inner+resolve_kids+resolve_mark+resolve_marks+resolve_run.Proof.Measures.{is, below, μ-expr, μ-inner, μ-kids, μ-marks}
 
 abbrev calls : ℕ → Claims
 calls t = (read-form.Asked, read-form.Learnt, turn-of.Asked, turn-of.Learnt, record-var.Asked, record-var.Learnt, record-name.Asked, record-name.Learnt, skip-pattern.Asked, skip-pattern.Learnt, enter.Asked, enter.Learnt, kids-of.Asked, kids-of.Learnt, below μ-inner resolve-inner.Pre t, resolve-inner.Post, below μ-kids resolve-kids.Pre t, resolve-kids.Post, items-of.Asked, items-of.Learnt, below μ-marks resolve-marks.Pre t, resolve-marks.Post)

@@ -10,8 +10,8 @@ use Rattle.resolve.proofs.Walks.{Going, begin, first-ready, turn, finis
 use Rattle.resolve.proofs.Rounds.{marks-rounds}
 use Rattle.resolve.proofs.resolve_mark.Reads as resolve-mark
 use Rattle.resolve.proofs.resolve_marks.Reads as resolve-marks
-use Rattle.resolve.proofs.+bind_elem+bind_elems+bind_part+bind_parts+bind_pattern+resolve_expr+resolve_inner+resolve_kids+resolve_mark+resolve_marks.Lts-resolve_marks.{Claims, Closed, ps, spec, InvT-loop, MeasureT-loop}
-use Rattle.resolve.proofs.+bind_elem+bind_elems+bind_part+bind_parts+bind_pattern+resolve_expr+resolve_inner+resolve_kids+resolve_mark+resolve_marks.Proof.Measures.{is, below, μ-mark, μ-marks}
+use Rattle.resolve.proofs.+bind_elem+bind_elems+bind_part+bind_parts+bind_pattern+resolve_expr+resolve_inner+resolve_kids+resolve_mark+resolve_marks+resolve_run.Lts-resolve_marks.{Claims, Closed, ps, spec, InvT-loop, MeasureT-loop}
+use Rattle.resolve.proofs.+bind_elem+bind_elems+bind_part+bind_parts+bind_pattern+resolve_expr+resolve_inner+resolve_kids+resolve_mark+resolve_marks+resolve_run.Proof.Measures.{is, below, μ-mark, μ-marks}
 
 abbrev calls : ℕ → Claims
 calls t = (below μ-mark resolve-mark.Pre t, resolve-mark.Post)

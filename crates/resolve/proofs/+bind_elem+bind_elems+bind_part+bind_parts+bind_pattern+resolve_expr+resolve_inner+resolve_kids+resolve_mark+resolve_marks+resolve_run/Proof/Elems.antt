@@ -10,8 +10,8 @@ use Rattle.resolve.proofs.Walks.{Going, begin, first-ready, turn, finis
 use Rattle.resolve.proofs.Rounds.{elems-rounds}
 use Rattle.resolve.proofs.bind_elem.Reads as bind-elem
 use Rattle.resolve.proofs.bind_elems.Reads as bind-elems
-use Rattle.resolve.proofs.+bind_elem+bind_elems+bind_part+bind_parts+bind_pattern+resolve_expr+resolve_inner+resolve_kids+resolve_mark+resolve_marks.Lts-bind_elems.{Claims, Closed, ps, spec, InvT-loop, MeasureT-loop}
-use Rattle.resolve.proofs.+bind_elem+bind_elems+bind_part+bind_parts+bind_pattern+resolve_expr+resolve_inner+resolve_kids+resolve_mark+resolve_marks.Proof.Measures.{is, below, μ-elem, μ-elems}
+use Rattle.resolve.proofs.+bind_elem+bind_elems+bind_part+bind_parts+bind_pattern+resolve_expr+resolve_inner+resolve_kids+resolve_mark+resolve_marks+resolve_run.Lts-bind_elems.{Claims, Closed, ps, spec, InvT-loop, MeasureT-loop}
+use Rattle.resolve.proofs.+bind_elem+bind_elems+bind_part+bind_parts+bind_pattern+resolve_expr+resolve_inner+resolve_kids+resolve_mark+resolve_marks+resolve_run.Proof.Measures.{is, below, μ-elem, μ-elems}
 
 abbrev calls : ℕ → Claims
 calls t = (below μ-elem bind-elem.Pre t, bind-elem.Post)
