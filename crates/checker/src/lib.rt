@@ -419,16 +419,7 @@ pub fn check_words(
         );
     }
     if warns {
-        return check_large(
-            s,
-            true,
-            scopes,
-            bindings,
-            carried,
-            recorded,
-            findings,
-            room,
-        );
+        return check_large(s, true, scopes, bindings, carried, recorded, findings, room);
     }
     check_large(
         s,

@@ -9,7 +9,7 @@ use Rattle.heads.specs.Form.{shapeOf, formNone, formOne}
 use Rattle.heads.specs.declared.Form.{Form}
 use Rattle.heads.specs.declared.Form.the-variants.{Many}
 use Rattle.expr.proofs.Inverse.{never}
-use Rattle.flat.specs.Plain.{bitOf, has, partsOf, Parts, Simple, Calm}
+use Rattle.flat.specs.Plain.{plainCodes, quietCodes, wordCodes, bitOf, has, partsOf, Parts, Simple, Calm}
 
 -- by cases on a number: at 0, and at those above
 pub record Each (P : ℕ → Type 0) : Type 0 where
@@ -25,8 +25,8 @@ _▹_ {P} z s = record { at = go }
 
 -- a head of one word and one of two, of which Q holds with the number of its parts
 pub data Sort (Q : Form → ℕ → Type 0) (code : ℕ) : Type 0 where
-  bare : bitOf 10613632 code ≡ 0 → shapeOf code ≡ 1 → ((a : ℕ) → Q (formNone code) (partsOf code a)) → Sort Q code
-  worded : bitOf 10613632 code ≡ 1 → shapeOf code ≡ 2 → ((a : ℕ) → Q (formOne code a) (partsOf code a)) → Sort Q code
+  bare : bitOf wordCodes code ≡ 0 → shapeOf code ≡ 1 → ((a : ℕ) → Q (formNone code) (partsOf code a)) → Sort Q code
+  worded : bitOf wordCodes code ≡ 1 → shapeOf code ≡ 2 → ((a : ℕ) → Q (formOne code a) (partsOf code a)) → Sort Q code
 
 -- a table has no code from 26 on
 pub has-below : (table code : ℕ) → has table code ≡ true → code < 26
@@ -44,7 +44,7 @@ module _ {code : ℕ} (a : ℕ) where
   calm-counts : Calm (Many code a) (0 + a)
   calm-counts = let e : a ≡ 0 + a = omega arith in subst (λ (n : ℕ). Calm (Many code a) n) e Calm.many
 
-parted : Each (λ code. code < 26 → has 44955646 code ≡ true → (code ≡ 7 → ⊥) → (code ≡ 8 → ⊥) → Sort Parts code)
+parted : Each (λ code. code < 26 → has plainCodes code ≡ true → (code ≡ 7 → ⊥) → (code ≡ 8 → ⊥) → Sort Parts code)
 unfolding shapeOf formNone formOne
 parted =
     (λ p h x y. never (cc))
@@ -75,10 +75,10 @@ parted =
     ▹ (λ p h x y. bare refl refl (λ a. Parts.leaf))  -- 25 Leaf
     ▹ record { at = λ k p h x y. absurd (omega arith) }
 
-pub parts-sort : (code : ℕ) → has 44955646 code ≡ true → (code ≡ 7 → ⊥) → (code ≡ 8 → ⊥) → Sort Parts code
-parts-sort code h = parted .at code (has-below 44955646 code h) h
+pub parts-sort : (code : ℕ) → has plainCodes code ≡ true → (code ≡ 7 → ⊥) → (code ≡ 8 → ⊥) → Sort Parts code
+parts-sort code h = parted .at code (has-below plainCodes code h) h
 
-calmed : Each (λ code. code < 26 → has 34370046 code ≡ true → Sort Calm code)
+calmed : Each (λ code. code < 26 → has quietCodes code ≡ true → Sort Calm code)
 unfolding shapeOf formNone formOne
 calmed =
     (λ p h. never (cc))
@@ -109,10 +109,10 @@ calmed =
     ▹ (λ p h. bare refl refl (λ a. Calm.leaf))  -- 25 Leaf
     ▹ record { at = λ k p h. absurd (omega arith) }
 
-pub calm-sort : (code : ℕ) → has 34370046 code ≡ true → Sort Calm code
-calm-sort code h = calmed .at code (has-below 34370046 code h) h
+pub calm-sort : (code : ℕ) → has quietCodes code ≡ true → Sort Calm code
+calm-sort code h = calmed .at code (has-below quietCodes code h) h
 
-pub simple-sort : (code : ℕ) → has 44955646 code ≡ true → Sort Simple code
+pub simple-sort : (code : ℕ) → has plainCodes code ≡ true → Sort Simple code
 unfolding shapeOf formOne
 simple-sort code h = go (eqb code 7) refl (eqb code 8) refl
   where

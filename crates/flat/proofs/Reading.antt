@@ -12,7 +12,7 @@ use Rattle.heads.specs.Got.{ok, no, bind, wordIn}
 use Rattle.heads.specs.Form.{readForm, restOf, shapeOf, limitOf, formNone, formOne}
 use Rattle.heads.specs.declared.Form.{Form}
 use Rattle.expr.proofs.Inverse.{never, low-back}
-use Rattle.flat.specs.Plain.{bitOf, has, partsOf, isOut, Simple}
+use Rattle.flat.specs.Plain.{plainCodes, wordCodes, bitOf, has, partsOf, isOut, Simple}
 use Rattle.flat.proofs.Codes.{Each, _▹_, Sort, bare, worded, has-below, simple-sort}
 
 below : (n a : ℕ) → ltb a n ≡ not (leb n a)
@@ -34,7 +34,7 @@ record Range (names code a : ℕ) : Type 0 where
   none : shapeOf code ≡ 1 → isOut code names a ≡ false
   one : shapeOf code ≡ 2 → ltb a (limitOf names code) ≡ not (isOut code names a)
 
-ranges : Each (λ code. code < 26 → has 44955646 code ≡ true → (names a : ℕ) → a < 4294967296 → Range names code a)
+ranges : Each (λ code. code < 26 → has plainCodes code ≡ true → (names a : ℕ) → a < 4294967296 → Range names code a)
 unfolding shapeOf limitOf
 ranges =
     (λ p h names a l. never (cc))
@@ -65,7 +65,7 @@ ranges =
     ▹ (λ p h names a l. record { none = λ s. refl; one = λ s. never (cc) })  -- 25 Leaf
     ▹ record { at = λ k p h names a l. absurd (omega arith) }
 
-module _ (ws : List ℕ) (at names : ℕ) (h : has 44955646 (getD ws at 0) ≡ true) where
+module _ (ws : List ℕ) (at names : ℕ) (h : has plainCodes (getD ws at 0) ≡ true) where
   abbrev code : ℕ
   code = getD ws at 0
 
@@ -73,7 +73,7 @@ module _ (ws : List ℕ) (at names : ℕ) (h : has 44955646 (getD ws at 0) ≡ t
   next = getD ws (at + 1) 0
 
   abbrev end : ℕ
-  end = at + 1 + bitOf 10613632 code
+  end = at + 1 + bitOf wordCodes code
 
   pub there : at < length ws
   there = go (ltb at (length ws)) refl
@@ -84,10 +84,10 @@ module _ (ws : List ℕ) (at names : ℕ) (h : has 44955646 (getD ws at 0) ≡ t
 
   rest-is : readForm names (drop at ws) ≡ restOf names code (drop (at + 1) ws)
   unfolding readForm
-  rest-is = let b = has-below 44955646 code h in rw (drop-word ws at there, low-back 4294967296 code (drop (at + 1) ws) (omega arith))
+  rest-is = let b = has-below plainCodes code h in rw (drop-word ws at there, low-back 4294967296 code (drop (at + 1) ws) (omega arith))
 
   -- no word follows
-  module _ (w : bitOf 10613632 code ≡ 0) (s : shapeOf code ≡ 1) where
+  module _ (w : bitOf wordCodes code ≡ 0) (s : shapeOf code ≡ 1) where
     none-is : readForm names (drop at ws) ≡ ok (formNone code) (drop (at + 1) ws)
     unfolding restOf
     none-is = rest-is ∙ rw s
@@ -109,7 +109,7 @@ module _ (ws : List ℕ) (at names : ℕ) (h : has 44955646 (getD ws at 0) ≡ t
 
   module _ (l : next < 4294967296) (m : end ≤ length ws) where
     range : Range names code next
-    range = ranges .at code (has-below 44955646 code h) h names next l
+    range = ranges .at code (has-below plainCodes code h) h names next l
 
     -- a word is out of range
     pub out-of : isOut code names next ≡ true → readForm names (drop at ws) ≡ no 5

@@ -10,7 +10,7 @@ use Rattle.heads.specs.Form.{readForm, restOf, shapeOf, limitOf, formNone, form
 use Rattle.heads.specs.declared.Form.{Form}
 use Rattle.heads.specs.declared.Form.the-variants.{Var, Unresolved}
 use Rattle.expr.proofs.Accepted.{ok-left, word-there}
-use Rattle.flat.specs.Plain.{bitOf, partsOf, Ends}
+use Rattle.flat.specs.Plain.{wordCodes, bitOf, partsOf, Ends}
 use Rattle.flat.proofs.Codes.{Sort, bare, worded}
 
 module _ (ws : List ℕ) (at names : ℕ) (f : Form) (r : List ℕ) (e : readForm names (drop at ws) ≡ ok f r) where
@@ -56,12 +56,12 @@ module _ (ws : List ℕ) (at names : ℕ) (f : Form) (r : List ℕ) (e : readFor
   name-sees x c q = let n = one-sees (rw c) in (rw (c, ← q) at (n .0), n .1)
 
   -- a plain head, with the number of its parts
-  pub sees : {Q : Form → ℕ → Type 0} → Sort Q code → Q f (partsOf code next) × Ends ws at (at + 1 + bitOf 10613632 code) r
+  pub sees : {Q : Form → ℕ → Type 0} → Sort Q code → Q f (partsOf code next) × Ends ws at (at + 1 + bitOf wordCodes code) r
   sees {Q} (bare w s q) =
       let n = none-sees s in
-      let z : at + 1 + bitOf 10613632 code ≡ at + 1 = omega (arith, w) in
+      let z : at + 1 + bitOf wordCodes code ≡ at + 1 = omega (arith, w) in
       (rw (n .0) (q next), rw z (n .1))
   sees {Q} (worded w s q) =
       let n = one-sees s in
-      let z : at + 1 + bitOf 10613632 code ≡ at + 2 = omega (arith, w) in
+      let z : at + 1 + bitOf wordCodes code ≡ at + 2 = omega (arith, w) in
       (rw (n .0) (q next), rw z (n .1))

@@ -17,6 +17,29 @@ use Rattle.flat.specs.declared.Quiet.the-variants as quiet
 use Rattle.flat.specs.declared.PlainRead.{PlainRead}
 use Rattle.flat.specs.declared.PlainRead.the-variants as plain-read
 
+-- Tables by code, a bit each, the bit of code 0 the lowest: the plain heads, the quiet ones, those that a word follows; those whose word
+-- is the number of the parts or adds to it, is a name, is below 2. And by two bits each, the parts without that word.
+abbrev pub plainCodes : ℕ
+plainCodes = 44955646
+
+abbrev pub quietCodes : ℕ
+quietCodes = 34370046
+
+abbrev pub wordCodes : ℕ
+wordCodes = 10613632
+
+abbrev pub countCodes : ℕ
+countCodes = 10514432
+
+abbrev pub nameCodes : ℕ
+nameCodes = 768
+
+abbrev pub flagCodes : ℕ
+flagCodes = 10551296
+
+abbrev pub partsBits : ℕ
+partsBits = 79789757300736
+
 -- the bit of a code in a table, whether the table has the code, and the number of parts by the code and the word after it
 abbrev pub bitOf : ℕ → ℕ → ℕ
 bitOf table code = table / 2 ^ code % 2
@@ -25,15 +48,15 @@ abbrev pub has : ℕ → ℕ → Bool
 has table code = cond (ltb code 26) (eqb (bitOf table code) 1) false
 
 abbrev pub counted : ℕ → ℕ → ℕ
-counted code a = cond (eqb (bitOf 10514432 code) 1) a 0
+counted code a = cond (eqb (bitOf countCodes code) 1) a 0
 
 abbrev pub partsOf : ℕ → ℕ → ℕ
-partsOf code a = 79789757300736 / 2 ^ (code * 2) % 4 + counted code a
+partsOf code a = partsBits / 2 ^ (code * 2) % 4 + counted code a
 
 -- whether the word after a plain head's code is out of range
 abbrev pub isOut : ℕ → ℕ → ℕ → Bool
 isOut code names a =
-    (eqb (bitOf 768 code) 1 && leb names a) || ((eqb (bitOf 10551296 code) 1 && leb 2 a) || (eqb code 15 && leb 20 a))
+    (eqb (bitOf nameCodes code) 1 && leb names a) || ((eqb (bitOf flagCodes code) 1 && leb 2 a) || (eqb code 15 && leb 20 a))
 
 -- a head that is no use of a name or a variable, and how many expressions follow it
 pub data Parts : Form → ℕ → Type 0 where

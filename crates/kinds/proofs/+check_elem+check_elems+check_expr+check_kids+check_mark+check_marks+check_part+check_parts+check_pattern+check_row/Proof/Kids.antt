@@ -3,13 +3,13 @@ use Prim.Native.Nat.{ℕ}
 use borrow.Author.Needs.{needs}
 use native.Mathlib.Omega.{arith}
 use borrow.Fn.Kinds.{In}
-use mathlib.Core.Path.{refl}
+use mathlib.Core.Path.{_≡_, refl}
 use lib.ListN.{drop}
 use Rattle.words.specs.Words.{words}
 use Rattle.heads.specs.Got.{bare}
 use Rattle.expr.specs.Read.{noMore, times}
 use Rattle.expr.proofs.Repeats.{kidsOfRow}
-use Rattle.kinds.specs.Kinds.{kindsE}
+use Rattle.kinds.specs.Kinds.{general, kindsE}
 use Rattle.kinds.specs.Walk.{settingOf, worldAt, readerAt, found, ofE, ofEs}
 use Rattle.kinds.proofs.Walks.{Going, begin, turn, first-fine, finish, kept, ready-on}
 use Rattle.kinds.proofs.check_expr.Reads as check-expr
@@ -45,7 +45,10 @@ holds t =
     (λ c.  -- returns
     let k = c .before .before .before .before in
     let l = k .before .before in
-    rw (l .before .is-general .ensures (l .if1 .taken), k .before .is-general2 .ensures (k .if2 .taken)) (c .before .before .check-row .ensures))
+    let a = l .before .before .before .before .args in
+    let first : settingOf (a .first) ≡ general = l .before .is-general .ensures (l .if1 .taken) in
+    let later : settingOf (a .later) ≡ general = k .before .is-general2 .ensures (k .if2 .taken) in
+    rw (first, later) (c .before .before .check-row .ensures))
     (λ c. let o = c .before .before .before .before .pre .1 in begin _ _ _ _ _ _ (o .within) (o .fine))  -- loop-holds
     (λ c κs.  -- check-expr-requires
     let k = c .before .before in
