@@ -8,6 +8,7 @@ pub const TRAILER: usize = 10;
 const LIMIT: usize = 2048;
 
 /// Names, bindings, head and arms, with how many of each there are, and the statement's span.
+#[derive(Clone)]
 pub struct Sheet {
     pub sections: [Vec<u32>; 4],
     pub counts: [u32; 4],

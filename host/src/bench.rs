@@ -68,7 +68,7 @@ fn time(what: String, sheets: &[Vec<u8>]) -> Row {
     let read: Vec<Sheet> = sheets.iter().map(|bytes| sheet::read(bytes).ok().expect("an accepted sheet")).collect();
     let findings = read.iter().map(|s| lists::run(&s.statement, true).findings.len()).sum::<usize>();
     let mut page = vec![0; 1 << 21];
-    let mut lent = Lists::new();
+    let mut lent = Lists::new(2048);
     lent.lend(2048, None);
     let times = [
         least(sheets, |bytes| {

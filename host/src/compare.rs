@@ -1,37 +1,11 @@
-//! Compares what the archives answer with what the Rust does, on sheets from a seed; see README.md. Every call is lent buffers with room
-//! around them, and what it may not alter is looked at after it.
-use cyrs_hir::{HirOffset, ScopeGraph, ScopeId};
+//! Compares what the archives answer with what the Rust does, on sheets from a seed; see README.md.
+mod comparison;
+
+use comparison::Comparison;
 use generator::{Random, one};
-use ours::Lists;
-use theirs::{lists, sheet, sheet::Sheet};
 
-/// Bytes before and after a lent sheet or page.
-const MARGIN: usize = 64;
-const BLANK: u8 = 0xA5;
-/// Longer than any listing.
-const PAGE: usize = 1 << 21;
-/// Lookups and offsets asked of a sheet at most, each.
-const ASKED: usize = 2048;
-
-#[derive(Default)]
-struct Tally {
-    sheets: usize,
-    refused: [usize; 8],
-    entries: [usize; 5],
-    messages: usize,
-    bytes: usize,
-    lookups: usize,
-    offsets: usize,
-    tens: usize,
-    eights: usize,
-    differ: usize,
-}
-
-struct Bench {
-    page: Vec<u8>,
-    lists: Lists,
-    tally: Tally,
-}
+/// Words of the longest sheet that is read, and some more.
+const WORDS: usize = 2064;
 
 fn main() {
     let args: Option<Vec<u64>> = std::env::args().skip(1).map(|arg| arg.parse().ok()).collect();
@@ -40,127 +14,17 @@ fn main() {
         std::process::exit(2);
     };
     let mut random = Random::new(seed);
-    let mut bench = Bench { page: vec![BLANK; PAGE + 2 * MARGIN], lists: Lists::new(), tally: Tally::default() };
+    let mut comparison = Comparison::new(WORDS);
     for number in 0..count {
         let bytes = one(&mut random);
-        if let Err(what) = bench.compare(&bytes) {
-            bench.tally.differ += 1;
-            if bench.tally.differ <= 10 {
-                println!("sheet {number} of seed {seed}, {} bytes: {what}", bytes.len());
-            }
+        if let Err(what) = comparison.compare(&bytes)
+            && comparison.tally.differ <= 10
+        {
+            println!("sheet {number} of seed {seed}, {} bytes: {what}", bytes.len());
         }
     }
-    report(&bench.tally);
-    if bench.tally.differ > 0 {
+    comparison.tally.report();
+    if comparison.tally.differ > 0 {
         std::process::exit(1);
-    }
-}
-
-fn report(t: &Tally) {
-    let refused: usize = t.refused.iter().sum();
-    println!(
-        "{} sheets, {} accepted, {refused} refused (1 to 7: {:?}); warnings on and off",
-        t.sheets,
-        t.sheets - refused,
-        &t.refused[1..]
-    );
-    println!("entries: {:?} (scopes, bindings, carried, recorded, findings)", t.entries);
-    println!("listings: {} messages in {} bytes; {} lookups, {} offsets", t.messages, t.bytes, t.lookups, t.offsets);
-    println!("a page a byte short: {}, a list a word short: {}", t.tens, t.eights);
-    println!("{} sheets differ", t.differ);
-}
-
-/// What must hold, and else in what it differs.
-fn holds(what: &str, is: bool) -> Result<(), String> {
-    if is { Ok(()) } else { Err(what.to_owned()) }
-}
-
-impl Bench {
-    fn compare(&mut self, bytes: &[u8]) -> Result<(), String> {
-        self.tally.sheets += 1;
-        let mut room = vec![BLANK; MARGIN];
-        room.extend(bytes);
-        room.extend([BLANK; MARGIN]);
-        let lent = room.clone();
-        let sheet = &lent[MARGIN..MARGIN + bytes.len()];
-        match sheet::read(bytes) {
-            Ok(read) => {
-                self.accepted(sheet, &read, false)?;
-                self.accepted(sheet, &read, true)?;
-            }
-            Err(cause) => {
-                self.tally.refused[cause as usize] += 1;
-                self.refused(sheet, cause, false)?;
-                self.refused(sheet, cause, true)?;
-            }
-        }
-        holds("the sheet was altered", lent == room)
-    }
-
-    fn refused(&mut self, sheet: &[u8], cause: u32, warnings: bool) -> Result<(), String> {
-        self.listing(sheet, 256, warnings, Err(cause))?;
-        self.lists.lend(sheet.len() / 4, None);
-        holds("check's refusal", self.lists.check(sheet, warnings) == Err(cause))?;
-        holds("check altered a list and refused", self.lists.kept(true))
-    }
-
-    /// A listing into a page of so many bytes; nothing past it may be altered.
-    fn listing(&mut self, sheet: &[u8], room: usize, warnings: bool, expected: Result<&str, u32>) -> Result<(), String> {
-        let answer = ours::listing(sheet, &mut self.page[MARGIN..MARGIN + room], warnings);
-        let text = expected.unwrap_or_default().as_bytes();
-        holds("the listing's answer", answer == expected.map(str::len))?;
-        holds("the listing", &self.page[MARGIN..MARGIN + text.len()] == text)?;
-        self.page[MARGIN..MARGIN + text.len()].fill(BLANK);
-        let around = &self.page[..room + 2 * MARGIN];
-        holds("the page past the listing", around.iter().all(|byte| *byte == BLANK))
-    }
-
-    fn accepted(&mut self, sheet: &[u8], read: &Sheet, warnings: bool) -> Result<(), String> {
-        let ran = lists::run(&read.statement, warnings);
-        let text = lists::listing(&ran.findings);
-        self.listing(sheet, text.len() + MARGIN, warnings, Ok(&text))?;
-        self.listing(sheet, text.len(), warnings, Ok(&text))?;
-        self.listing(sheet, text.len() - 1, warnings, Err(10))?;
-        self.tally.tens += 1;
-        self.tally.messages += ran.findings.len();
-        self.tally.bytes += text.len();
-        self.short_lists(sheet, warnings)?;
-        self.lists.lend(sheet.len() / 4, None);
-        holds("check's answer", self.lists.check(sheet, warnings) == Ok(()))?;
-        holds("check altered a word past a count", self.lists.kept(false))?;
-        holds("the lists", self.lists.text() == lists::lists(&ran, &read.names))?;
-        for (sum, count) in self.tally.entries.iter_mut().zip(self.lists.entries()) {
-            *sum += count;
-        }
-        self.graph(&ran.resolved.scope_graph, &read.names)
-    }
-
-    /// One list, another one each time, with a word less than it needs.
-    fn short_lists(&mut self, sheet: &[u8], warnings: bool) -> Result<(), String> {
-        self.lists.lend(sheet.len() / 4, Some(self.tally.eights % 5));
-        self.tally.eights += 1;
-        holds("8", self.lists.check(sheet, warnings) == Err(8))?;
-        holds("check altered a list and refused with 8", self.lists.kept(true))
-    }
-
-    fn graph(&mut self, graph: &ScopeGraph, names: &[String]) -> Result<(), String> {
-        let scopes = graph.len();
-        let step = (scopes * names.len()).div_ceil(ASKED).max(1);
-        for at in (0..scopes * names.len()).step_by(step) {
-            let (scope, name) = ((at % scopes) as u32, at / scopes);
-            let theirs = graph.resolve_at(ScopeId(scope), &names[name]).map(|v| v.0);
-            holds("a lookup", self.lists.lookup(scope, name as u32) == Ok(theirs))?;
-            self.tally.lookups += 1;
-        }
-        holds("a lookup from a scope that isn't there", self.lists.lookup(scopes as u32, 0) == Err(9))?;
-        for scope in graph.iter().step_by(scopes.div_ceil(ASKED / 4)) {
-            let (start, end) = (u32::from(scope.span.start()), u32::from(scope.span.end()));
-            for offset in [start, end, start.wrapping_sub(1), end.wrapping_add(1)] {
-                let theirs = graph.scope_at_offset(HirOffset::new(offset)).map(|s| s.0);
-                holds("an offset", self.lists.scope_at_offset(offset) == Ok(theirs))?;
-                self.tally.offsets += 1;
-            }
-        }
-        Ok(())
     }
 }

@@ -35,10 +35,15 @@ unsafe extern "C" {
     fn cenguatu_scope_at_offset(scopes: *const u32, scopes_len: usize, count: usize, offset: u32) -> u64;
 }
 
+/// The C function's answer for a listing: 256 and the length of the text, or the refusal's number.
+pub fn answer(sheet: &[u8], page: &mut [u8], warnings: u32) -> u32 {
+    // Safety: the slices are valid for their lengths and don't overlap.
+    unsafe { cenguatu_listing(sheet.as_ptr(), sheet.len(), page.as_mut_ptr(), page.len(), warnings) }
+}
+
 /// The length of the text, or the refusal's number.
 pub fn listing(sheet: &[u8], page: &mut [u8], warnings: bool) -> Result<usize, u32> {
-    // Safety: the slices are valid for their lengths and don't overlap.
-    let answer = unsafe { cenguatu_listing(sheet.as_ptr(), sheet.len(), page.as_mut_ptr(), page.len(), warnings.into()) };
+    let answer = answer(sheet, page, warnings.into());
     answer.checked_sub(256).map(|length| length as usize).ok_or(answer)
 }
 
@@ -50,26 +55,27 @@ const BLANK: u32 = 0xA5C3_96E1;
 
 /// Five lent lists, with room before and after each, and their counts.
 pub struct Lists {
+    most: usize,
     room: [Vec<u32>; 5],
     lengths: [usize; 5],
     counts: [usize; 5],
 }
 
 const MARGIN: usize = 8;
-const WORDS: usize = 2064;
 
 impl Lists {
-    pub fn new() -> Self {
-        Self { room: WIDTHS.map(|width| vec![BLANK; WORDS * width + 2 * MARGIN]), lengths: [0; 5], counts: [0; 5] }
+    /// Room for lists of so many entries.
+    pub fn new(most: usize) -> Self {
+        Self { most, room: WIDTHS.map(|width| vec![BLANK; most * width + 2 * MARGIN]), lengths: [0; 5], counts: [0; 5] }
     }
 
-    /// Lists of so many entries, which are blank; the one that is `short` has a word less than that.
+    /// Lists of so many entries, or of as many as there is room for, which are blank; the one that is `short` has a word less than that.
     pub fn lend(&mut self, entries: usize, short: Option<usize>) {
         self.counts = [usize::MAX; 5];
         for (list, width) in WIDTHS.iter().enumerate() {
             let used = (self.lengths[list] + 2 * MARGIN).min(self.room[list].len());
             self.room[list][..used].fill(BLANK);
-            self.lengths[list] = (entries.min(WORDS) * width).saturating_sub(usize::from(short == Some(list)));
+            self.lengths[list] = (entries.min(self.most) * width).saturating_sub(usize::from(short == Some(list)));
         }
     }
 
@@ -111,7 +117,7 @@ impl Lists {
         (0..5).all(|list| {
             let written = if refused { 0 } else { self.counts[list] * WIDTHS[list] };
             let (before, rest) = self.room[list].split_at(MARGIN);
-            written <= self.lengths[list] && before.iter().chain(&rest[written..]).all(|word| *word == BLANK)
+            written <= self.lengths[list] && blank(before) && blank(&rest[written..])
         })
     }
 
@@ -146,6 +152,11 @@ impl Lists {
         }
         text
     }
+}
+
+/// Looks at all of the words, which is faster than to stop at the first other one.
+fn blank(words: &[u32]) -> bool {
+    words.iter().fold(0, |other, word| other | (word ^ BLANK)) == 0
 }
 
 fn found(answer: u64) -> Result<Option<u32>, u64> {
