@@ -2,7 +2,7 @@
 #   rust_options "$@"      takes --sources DIR and --crates DIR off the arguments; the others are left in $rest
 #   rust_library           the Rust's four files and the stand-ins, compiled into target/host
 #   rust_program NAME ..   a program of src/, linked with some archives, compiled into target/host
-#   archive CRATE          proves a crate and writes its archive, if it isn't there
+#   archive CRATE          proves a crate and writes its archive, if it isn't there or code is newer
 out=$host/../target/host
 sources=$host/../../shared
 crates=
@@ -101,5 +101,7 @@ rust_program() {
 }
 
 archive() {
-    [ -f "$host/../target/staticlib/lib$1.a" ] || (cd "$host/.." && rt staticlib "$1" >&2)
+    made=$host/../target/staticlib/lib$1.a
+    if [ -f "$made" ] && [ -z "$(find "$host/../crates" -name '*.rt' -newer "$made" | head -n 1)" ]; then return; fi
+    (cd "$host/.." && rt staticlib "$1" >&2)
 }
