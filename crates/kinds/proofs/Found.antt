@@ -17,6 +17,7 @@ use Rattle.heads.specs.declared.Maybe.the-variants as maybe
 use Rattle.expr.specs.Tree.{Expr, node, Exprs, done, more, mark, Steps, end, tree}
 use Rattle.expr.specs.Read.{Reader, noMore, times, marks, maybePattern, afterForm}
 use Rattle.expr.proofs.Split.{joinE, times-split}
+use Rattle.expr.proofs.Inverse.{never}
 use Rattle.expr.proofs.Accepted.{inverse}
 use Rattle.tables.specs.Row.{pathKind, valueKind, Row, row}
 use Rattle.resolve.specs.Log.{e2007, e2008, e2011, Finding, finding}
@@ -25,7 +26,9 @@ use Rattle.resolve.specs.Table.{BoundAt, boundOf}
 use Rattle.resolve.specs.declared.rows.Bound.{Bound}
 use Rattle.resolve.specs.declared.rows.Bound.the-variants as bound
 use Rattle.kinds.specs.Kinds.{Setting, general, arithmetic, property, boolean, listed, Pair, both, plain, isId, noType, intType, stringType, kindType, typeOf, settings, atType, atRow, misplaced, rowFor, named-id, kindsE, kindsEs, kindsS}
-use Rattle.kinds.specs.Walk.{stored, idNames, Pushed, atBound, misplacedBound, varOf, shownOf, ownFor, ownOf, found, ofE, ofEs}
+use Rattle.kinds.specs.Walk.{settingOf, isGeneral, stored, idNames, Pushed, atBound, misplacedBound, varOf, shownOf, ownFor, ownOf, found, ofE, ofEs}
+use Rattle.kinds.specs.declared.settings.Setting as settings'
+use Rattle.kinds.specs.declared.settings.Setting.the-variants as setting
 use Rattle.kinds.proofs.Bounds.{bound-row}
 use Rattle.kinds.proofs.Split.{after, kinds-join, plain-join}
 
@@ -176,6 +179,15 @@ after-found t P f r r2 e2 r3 e3 r4 e4 w c p q =
     let i3 = inverse (times (kidsOf f) P noMore r2) r3 e3 in
     let i4 = inverse (marks 0 (itemsOf f) P r3) r4 e4 in
     rw (i2 .1, times-split P (marks 0 (itemsOf f) P) (kidsOf f) r2, i3 .1, i4 .1, q) (parts-found w t P f r r2 r3 r4 (i2 .0) (i3 .0) (i4 .0) c (i2 .1) (i3 .1) (i4 .1))
+
+-- the code's test of the general setting
+pub general-is : {b : Bool} (s : settings'.Setting) → b ≡ isGeneral s → b ≡ true → settingOf s ≡ general
+general-is setting.General e h = refl
+general-is setting.Arithmetic e h = never (cc)
+general-is setting.Property e h = never (cc)
+general-is setting.Boolean e h = never (cc)
+general-is (setting.Indexable o) e h = never (cc)
+general-is setting.Iterable e h = never (cc)
 
 -- the findings that `check_head` stores
 pub own-general : (w : World) (f : Form) (c : Setting) {old : List ℕ} {n : ℕ} → c ≡ general → Pushed old old n (ownOf w f c) n

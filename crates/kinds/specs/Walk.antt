@@ -42,6 +42,15 @@ settingOf setting.Boolean = boolean
 settingOf (setting.Indexable o) = listed e5010 o
 settingOf setting.Iterable = listed e5011 0
 
+-- whether it is the general one
+abbrev pub isGeneral : settings.Setting → Bool
+isGeneral setting.General = true
+isGeneral setting.Arithmetic = false
+isGeneral setting.Property = false
+isGeneral setting.Boolean = false
+isGeneral (setting.Indexable o) = false
+isGeneral setting.Iterable = false
+
 abbrev pub pairOf : Settings → Pair
 pairOf p = both (settingOf (p .first)) (settingOf (p .later))
 

@@ -1,12 +1,12 @@
 // Settings: where an expression stands, and so what may stand there; a head gives its parts theirs.
 use heads::Form;
 ghost use mathlib.Core.Path.{_≡_};
-ghost use mathlib.Core.Bool.{true, cond};
+ghost use mathlib.Core.Bool.{cond};
 ghost use Prim.Native.Nat.{suc};
 ghost use lib.Dec.{eqb};
 ghost use Rattle.resolve.specs.Log.{e5010};
 ghost use Rattle.kinds.specs.Kinds.{passes, general, arithmetic, property, listed, isArithmetic, settings};
-ghost use Rattle.kinds.specs.Walk.{settingOf, pairOf};
+ghost use Rattle.kinds.specs.Walk.{settingOf, isGeneral, pairOf};
 
 // Where an expression stands; Indexable, with the first detail of its finding, and Iterable want a list.
 pub enum Setting {
@@ -39,7 +39,7 @@ fn is_arithmetic_op(o: u32) -> bool
 
 // Whether a setting is the general one.
 pub fn is_general(setting: Setting) -> bool
-    ensures { λ r. ⌜ (r ≡ true → settingOf setting ≡ general) ⌝ }
+    ensures { λ r. ⌜ r ≡ isGeneral setting ⌝ }
 {
     match setting {
         Setting::General => true,

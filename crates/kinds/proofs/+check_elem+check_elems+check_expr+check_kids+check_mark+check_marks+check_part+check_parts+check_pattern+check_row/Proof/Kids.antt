@@ -11,6 +11,7 @@ use Rattle.expr.specs.Read.{noMore, times}
 use Rattle.expr.proofs.Repeats.{kidsOfRow}
 use Rattle.kinds.specs.Kinds.{general, kindsE}
 use Rattle.kinds.specs.Walk.{settingOf, worldAt, readerAt, found, ofE, ofEs}
+use Rattle.kinds.proofs.Found.{general-is}
 use Rattle.kinds.proofs.Walks.{Going, begin, turn, first-fine, finish, kept, ready-on}
 use Rattle.kinds.proofs.check_expr.Reads as check-expr
 use Rattle.kinds.proofs.check_kids.Reads as check-kids
@@ -46,8 +47,8 @@ holds t =
     let k = c .before .before .before .before in
     let l = k .before .before in
     let a = l .before .before .before .before .args in
-    let first : settingOf (a .first) ≡ general = l .before .is-general .ensures (l .if1 .taken) in
-    let later : settingOf (a .later) ≡ general = k .before .is-general2 .ensures (k .if2 .taken) in
+    let first : settingOf (a .first) ≡ general = general-is (a .first) (l .before .is-general .ensures) (l .if1 .taken) in
+    let later : settingOf (a .later) ≡ general = general-is (a .later) (k .before .is-general2 .ensures) (k .if2 .taken) in
     rw (first, later) (c .before .before .check-row .ensures))
     (λ c. let o = c .before .before .before .before .pre .1 in begin _ _ _ _ _ _ (o .within) (o .fine))  -- loop-holds
     (λ c κs.  -- check-expr-requires

@@ -2,7 +2,7 @@
 use borrow.Author.Needs.{needs}
 use Rattle.words.specs.Words.{words}
 use Rattle.kinds.specs.Walk.{settingOf, worldAt}
-use Rattle.kinds.proofs.Found.{own-general, own-var, own-type}
+use Rattle.kinds.proofs.Found.{general-is, own-general, own-var, own-type}
 use Rattle.kinds.proofs.findings.check_head.Statement.{statement}
 use Rattle.kinds.proofs.findings.check_head.Tie as tie
 
@@ -13,7 +13,7 @@ check-head-spec =
     (λ c κs. search needs)  -- is-general-requires
     (λ c.  -- returns
     let a = c .before .before .before .before .args in
-    own-general (worldAt (words (a .s .now)) (a .e)) (a .f) (settingOf (a .setting)) (c .before .is-general .ensures (c .if1 .taken)))
+    own-general (worldAt (words (a .s .now)) (a .e)) (a .f) (settingOf (a .setting)) (general-is (a .setting) (c .before .is-general .ensures) (c .if1 .taken)))
     (λ c κs. search needs)  -- var-of-requires
     (λ c. search needs)  -- enum-told
     (λ c κs. search needs)  -- row-for-requires
