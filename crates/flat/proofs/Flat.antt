@@ -38,6 +38,7 @@ simple-bare : {f : Form} {k : ℕ} → Simple f k → Bare f k
 simple-bare Simple.variable = (refl, (refl, refl))
 simple-bare Simple.name = (refl, (refl, refl))
 simple-bare (Simple.parts p) = parts-bare p
+simple-bare (Simple.other p i) = (p, (i, refl))
 
 pub simple-pattern : {f : Form} {k : ℕ} → Simple f k → hasPattern f ≡ false
 simple-pattern s = simple-bare s .0

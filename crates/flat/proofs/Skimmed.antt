@@ -5,10 +5,11 @@ use mathlib.Core.Path.{_≡_, refl, ap}
 use mathlib.Core.List.{List}
 use lib.ListN.{length, drop}
 use Rattle.heads.specs.Got.{Got, ok, no, bare}
-use Rattle.heads.specs.Form.{readForm}
+use Rattle.heads.specs.Form.{readForm, kidsOf}
 use Rattle.heads.specs.Head.{Tables}
 use Rattle.heads.specs.Answer.{readGot, Reads}
 use Rattle.heads.specs.declared.Form.{Form}
+use Rattle.heads.specs.declared.Form.the-variants.{Leaf, Var, Unresolved, Prop, Two, Slice, Many, BinOp, UnaryOp, Case, IsNull, PatternPredicate, ListComprehension, PatternComprehension, ListPredicate, MapProjection}
 use Rattle.heads.specs.declared.Read.{Read}
 use Rattle.heads.specs.declared.Read.the-variants as read
 use Rattle.heads.proofs.Later.{readLater}
@@ -18,12 +19,12 @@ use Rattle.expr.specs.Well.{WellForm}
 use Rattle.expr.proofs.Rows.{kidRows}
 use Rattle.expr.proofs.Heads.{form-gives}
 use Rattle.expr.proofs.Inverse.{never}
-use Rattle.flat.specs.Plain.{Parts, Simple, PlainAt}
+use Rattle.flat.specs.Plain.{Simple, PlainAt}
 use Rattle.flat.specs.declared.PlainRead.{PlainRead}
 use Rattle.flat.specs.declared.PlainRead.the-variants as plain-read
 use Rattle.flat.specs.Skim.{Skims}
 use Rattle.flat.proofs.Deeper.{Deep, same, deep}
-use Rattle.flat.proofs.Flat.{flat-deep, flat-none}
+use Rattle.flat.proofs.Flat.{simple-kids, flat-deep, flat-none}
 
 -- h tells g, unless it says that room ran out
 pub record Under (g h : Got (Unit {0})) : Type 0 where
@@ -37,21 +38,26 @@ under-same : {g h l : Got (Unit {0})} → Under g h → h ≡ l → Under g l
 under-same u e = rw e at u
 
 -- a head that reads has few parts
-parts-few : {f : Form} {k : ℕ} (names : ℕ) → Parts f k → WellForm names f → k < 4294967300
-parts-few names Parts.leaf h = omega arith
-parts-few names Parts.prop h = omega arith
-parts-few names Parts.two h = omega arith
-parts-few names Parts.many h = omega arith
-parts-few names Parts.binary h = omega arith
-parts-few names Parts.unary h = omega arith
-parts-few names Parts.is-null h = omega arith
-parts-few names Parts.list-comprehension h = omega arith
-parts-few names Parts.list-predicate h = omega arith
+kids-few : (names : ℕ) (f : Form) → WellForm names f → kidsOf f < 8589934600
+kids-few names (Leaf k) h = omega arith
+kids-few names (Var v) h = omega arith
+kids-few names (Unresolved x) h = omega arith
+kids-few names (Prop x) h = omega arith
+kids-few names (Two k) h = omega arith
+kids-few names (Slice b) h = omega arith
+kids-few names (Many k n) h = omega arith
+kids-few names (BinOp o) h = omega arith
+kids-few names (UnaryOp o) h = omega arith
+kids-few names (Case b n) h = omega arith
+kids-few names IsNull h = omega arith
+kids-few names PatternPredicate h = omega arith
+kids-few names (ListComprehension g) h = omega arith
+kids-few names (PatternComprehension a b g) h = omega arith
+kids-few names (ListPredicate g) h = omega arith
+kids-few names (MapProjection n) h = omega arith
 
-simple-few : {f : Form} {k : ℕ} (names : ℕ) → Simple f k → WellForm names f → k < 4294967300
-simple-few names Simple.variable h = omega arith
-simple-few names Simple.name h = omega arith
-simple-few names (Simple.parts p) h = parts-few names p h
+simple-few : {f : Form} {k : ℕ} (names : ℕ) → Simple f k → WellForm names f → k < 8589934600
+simple-few {f} names s h = rw (simple-kids s) at (kids-few names f h)
 
 -- where a plain head is found at p: it ends later, and it has few parts
 pub record Found (ws : List ℕ) (names p q k : ℕ) : Type 0 where
@@ -60,7 +66,7 @@ pub record Found (ws : List ℕ) (names p q k : ℕ) : Type 0 where
   pub reads : readForm names (drop p ws) ≡ ok head (drop q ws)
   pub longer : p < q
   pub within : q ≤ length ws
-  pub few : k < 4294967300
+  pub few : k < 8589934600
 
 pub found : {ws : List ℕ} {names p q k : ℕ} {r : PlainRead} → r ≡ plain-read.Is q k → PlainAt ws names p r → Found ws names p q k
 found {ws} {names} {p} {q} {k} e x =

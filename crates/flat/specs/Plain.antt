@@ -7,7 +7,7 @@ use mathlib.Core.List.{List}
 use lib.Dec.{eqb, leb, ltb}
 use lib.ListN.{length, drop}
 use Rattle.heads.specs.Got.{Got, ok, no}
-use Rattle.heads.specs.Form.{readForm}
+use Rattle.heads.specs.Form.{readForm, kidsOf, itemsOf, hasPattern}
 use Rattle.heads.specs.declared.Form.{Form}
 use Rattle.heads.specs.declared.Form.the-variants.{Leaf, Var, Unresolved, Prop, Two, Many, BinOp, UnaryOp, IsNull, ListComprehension, ListPredicate}
 use Rattle.flat.specs.declared.Plain.{Plain}
@@ -70,11 +70,12 @@ pub data Parts : Form → ℕ → Type 0 where
   list-comprehension : {flag : ℕ} → Parts (ListComprehension flag) (2 + flag)
   list-predicate : {flag : ℕ} → Parts (ListPredicate flag) (1 + flag)
 
--- any plain head
+-- any plain head, and any other after which so many expressions follow and nothing else
 pub data Simple : Form → ℕ → Type 0 where
   variable : {v : ℕ} → Simple (Var v) 0
   name : {x : ℕ} → Simple (Unresolved x) 0
   parts : {f : Form} {k : ℕ} → Parts f k → Simple f k
+  other : {f : Form} → hasPattern f ≡ false → itemsOf f ≡ 0 → Simple f (kidsOf f)
 
 -- a plain head whose parts stand in the general setting of the kinds walk
 pub data Calm : Form → ℕ → Type 0 where
@@ -109,7 +110,7 @@ pub record Seen (ws : List ℕ) (at : ℕ) (v : Plain) : Type 0 where
 pub record Calmed (ws : List ℕ) (at : ℕ) (v : Quiet) : Type 0 where
   pub of : (names : ℕ) (f : Form) (r : List ℕ) → readForm names (drop at ws) ≡ ok f r → Quiets ws at f r v
 
--- a plain head that reads, or none that does
+-- such a head that reads, or none that does
 abbrev pub PlainAt : List ℕ → ℕ → ℕ → PlainRead → Type 0
 PlainAt ws names at (plain-read.Is p k) = (f : Form) × (Simple f k × ((readForm names (drop at ws) ≡ ok f (drop p ws)) × Ends ws at p (drop p ws)))
 PlainAt ws names at plain-read.Rare = Unit {0}

@@ -1,6 +1,11 @@
 // Rows of expressions without a call for each: most heads are plain, at most one word and then their parts, so that these can be counted
 // with the row that the head stands in. A position is a word's number.
+use heads::FormRead;
 use heads::Read;
+use heads::has_pattern;
+use heads::items_of;
+use heads::kids_of;
+use heads::read_form;
 use words::count;
 use words::word;
 ghost use mathlib.Core.Path.{_≡_};
@@ -27,7 +32,8 @@ pub enum Quiet {
     No,
 }
 
-// A plain head that reads, none that does, or another head.
+// A head that reads, after which expressions follow and nothing else, with where these begin and how many there are; none that reads;
+// or another head.
 pub enum PlainRead {
     Is(usize, usize),
     Rare,
@@ -139,7 +145,24 @@ fn is_out(code: u32, names: u32, a: u32) -> bool
     n | (f | o)
 }
 
-// A plain head at `at`, with the ranges of its words.
+// Any other head at `at` after which expressions follow and nothing else, read whole.
+fn read_other(s: &[u8], names: u32, at: usize) -> PlainRead
+    requires { ⌜ at ≤ length (words (now s)) ⌝ }
+    ensures { λ r. ⌜ PlainAt (words (now (s .entry))) names at r ⌝ }
+{
+    let FormRead::Is(f, q) = read_form(s, names, at) else {
+        return PlainRead::No;
+    };
+    if has_pattern(f) {
+        return PlainRead::Rare;
+    }
+    if items_of(f) == 0 {
+        return PlainRead::Is(q, kids_of(f));
+    }
+    PlainRead::Rare
+}
+
+// A head at `at` after which expressions follow and nothing else, with the ranges of its words.
 fn read_plain(s: &[u8], names: u32, at: usize) -> PlainRead
     requires { ⌜ at ≤ length (words (now s)) ⌝ }
     ensures { λ r. ⌜ PlainAt (words (now (s .entry))) names at r ⌝ }
@@ -157,7 +180,7 @@ fn read_plain(s: &[u8], names: u32, at: usize) -> PlainRead
         }
         return PlainRead::Is(q, parts_of(code, a));
     }
-    PlainRead::Rare
+    read_other(s, names, at)
 }
 
 // n expressions in a row, with the parts of plain heads counted with them: room falls with each head that has parts, so that it is too

@@ -7,7 +7,7 @@ ghost use mathlib.Core.Bool.{Bool};
 ghost use Prim.Native.Nat.{ℕ, _+_, _<_, _≤_};
 ghost use lib.ListN.{length, drop};
 ghost use Rattle.words.specs.Words.{words};
-ghost use Rattle.heads.specs.Got.{wordIn};
+ghost use Rattle.heads.specs.Got.{ok, bind, wordIn};
 ghost use Rattle.heads.specs.Form.{shapeOf, limitOf, formNone, formOne, caseRest, compRest, restOf, readForm, kidsOf, itemsOf, hasPattern};
 ghost use Rattle.heads.specs.Head.{allowed, readMaybe, readPart, readElem, markLow, markHigh, markKids, deepCause};
 ghost use Rattle.heads.specs.Answer.{Ans, isIn, rowIds, knownAt, tables, wordGot, wordEnd, formGot, formEnd, formLonger, maybeGot, maybeEnd, partGot, partEnd, elemGot, elemEnd};
@@ -313,8 +313,8 @@ pub fn read_comp(s: &[u8], at: usize) -> FormRead
     FormRead::Is(Form::PatternComprehension(a, b, g), q + 1)
 }
 
-// What follows a code.
-pub fn read_rest(s: &[u8], names: u32, code: u32, at: usize) -> FormRead
+// What follows a code, by its shape.
+fn read_shaped(s: &[u8], names: u32, code: u32, at: usize) -> FormRead
     requires { ⌜ at ≤ length (words (now s)) ⌝ }
     ensures { λ r. ⌜ Ans (words (now (s .entry))) at (restOf names code (drop at (words (now (s .entry))))) (formGot (words (now (s .entry))) r) (formEnd at r) ⌝ }
 {
@@ -329,6 +329,52 @@ pub fn read_rest(s: &[u8], names: u32, code: u32, at: usize) -> FormRead
         3 => read_case(s, at),
         4 => read_comp(s, at),
         _ => FormRead::No,
+    }
+}
+
+// The one word after a code, which is below the limit.
+fn read_one(s: &[u8], code: u32, limit: u64, at: usize) -> FormRead
+    requires { ⌜ at ≤ length (words (now s)) ⌝ }
+    ensures { λ r. ⌜ Ans (words (now (s .entry))) at (bind (wordIn 0 limit (drop at (words (now (s .entry))))) (λ a r2. ok (formOne code a) r2)) (formGot (words (now (s .entry))) r) (formEnd at r) ⌝ }
+{
+    let Word::Is(a) = word_in(s, at, 0, limit) else {
+        return FormRead::No;
+    };
+    FormRead::Is(form_one(code, a), at + 1)
+}
+
+// What follows a code: one step for a code that there is, since to look its shape up first would be two.
+pub fn read_rest(s: &[u8], names: u32, code: u32, at: usize) -> FormRead
+    requires { ⌜ at ≤ length (words (now s)) ⌝ }
+    ensures { λ r. ⌜ Ans (words (now (s .entry))) at (restOf names code (drop at (words (now (s .entry))))) (formGot (words (now (s .entry))) r) (formEnd at r) ⌝ }
+{
+    match code {
+        1 => FormRead::Is(Form::Leaf(1), at),
+        2 => FormRead::Is(Form::Leaf(2), at),
+        3 => FormRead::Is(Form::Leaf(3), at),
+        4 => FormRead::Is(Form::Leaf(4), at),
+        5 => FormRead::Is(Form::Leaf(5), at),
+        6 => FormRead::Is(Form::Leaf(6), at),
+        7 => read_one(s, 7, 4294967296, at),
+        8 => read_one(s, 8, names as u64, at),
+        9 => read_one(s, 9, names as u64, at),
+        10 => FormRead::Is(Form::Two(10), at),
+        11 => read_one(s, 11, 4, at),
+        12 => read_one(s, 12, 4294967296, at),
+        13 => read_one(s, 13, 4294967296, at),
+        14 => read_one(s, 14, 4294967296, at),
+        15 => read_one(s, 15, 20, at),
+        16 => read_one(s, 16, 2, at),
+        17 => read_case(s, at),
+        18 => FormRead::Is(Form::IsNull, at),
+        19 => FormRead::Is(Form::Two(19), at),
+        20 => FormRead::Is(Form::PatternPredicate, at),
+        21 => read_one(s, 21, 2, at),
+        22 => read_comp(s, at),
+        23 => read_one(s, 23, 2, at),
+        24 => read_one(s, 24, 4294967296, at),
+        25 => FormRead::Is(Form::Leaf(25), at),
+        _ => read_shaped(s, names, code, at),
     }
 }
 

@@ -52,4 +52,5 @@ read-plain-spec =
     let e = rw (n .count .ensures, b .bit .ensures, q) at (l .if2 .left) in
     let f = read-is _ _ _ (rw q at (sym (i .is-in .ensures) ∙ t .if1 .taken)) (omega (arith, w .word2 .ensures, w .word2 .ok)) e (rw (q, w .word2 .ensures) at (sym (o .is-out .ensures) ∙ m .if3 .left)) in
     rw (c .parts-of .ensures, b .bit .ensures, q, w .word2 .ensures) (f .0, (f .1 .0, (f .1 .1, record { rest = refl; longer = omega arith; within = e }))))
-    (λ c. search needs))  -- returns-4
+    (λ c κs. search needs)  -- read-other-requires
+    (λ c. c .read-other .ensures))  -- returns-4
