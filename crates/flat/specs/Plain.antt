@@ -5,7 +5,7 @@ use mathlib.Core.Path.{_≡_}
 use mathlib.Core.Bool.{Bool, false, cond, _&&_, _||_}
 use mathlib.Core.List.{List}
 use lib.Dec.{eqb, leb, ltb}
-use lib.ListN.{length, drop}
+use lib.ListN.{length, getD, drop}
 use Rattle.heads.specs.Got.{Got, ok, no}
 use Rattle.heads.specs.Form.{readForm, kidsOf, itemsOf, hasPattern}
 use Rattle.heads.specs.declared.Form.{Form}
@@ -92,16 +92,16 @@ pub record Ends (ws : List ℕ) (at p : ℕ) (r : List ℕ) : Type 0 where
   pub longer : at < p
   pub within : p ≤ length ws
 
--- what was seen of a head that reads as f, with r left
+-- what was seen of a head that reads as f, with r left: any that the table has is told, and no other is
 abbrev pub Sees : List ℕ → ℕ → Form → List ℕ → Plain → Type 0
 Sees ws at f r (plain.Var x) = (f ≡ Var x) × Ends ws at (at + 2) r
 Sees ws at f r (plain.Name x) = (f ≡ Unresolved x) × Ends ws at (at + 2) r
 Sees ws at f r (plain.Parts p k) = Parts f k × Ends ws at p r
-Sees ws at f r plain.Rare = Unit {0}
+Sees ws at f r plain.Rare = has plainCodes (getD ws at 0) ≡ false
 
 abbrev pub Quiets : List ℕ → ℕ → Form → List ℕ → Quiet → Type 0
 Quiets ws at f r (quiet.Parts p k) = Calm f k × Ends ws at p r
-Quiets ws at f r quiet.No = Unit {0}
+Quiets ws at f r quiet.No = has quietCodes (getD ws at 0) ≡ false
 
 -- Where a head reads at `at`, v is what is seen of it.
 pub record Seen (ws : List ℕ) (at : ℕ) (v : Plain) : Type 0 where

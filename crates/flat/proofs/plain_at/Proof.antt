@@ -36,4 +36,6 @@ plain-at-spec =
     record {
       of = λ names f r e. rw (c .parts-of .ensures, b .bit .ensures, q, w .word2 .ensures) (sees _ _ names f r e (parts-sort _ (rw q at (sym (i .is-in .ensures) ∙ t .if3 .taken)) (rw q at (i .before .before .if1 .left)) (rw q at (i .before .if2 .left))));
     })
-    (λ c. search needs))  -- returns-4
+    (λ c.  -- returns-4
+    let i = c .before in
+    record { of = λ names f r e. rw (i .before .before .before .before .word .ensures) at (sym (i .is-in .ensures) ∙ c .if3 .left) }))

@@ -30,4 +30,6 @@ quiet-at-spec =
     record {
       of = λ names f r e. rw (c .parts-of .ensures, b .bit .ensures, q, w .word2 .ensures) (sees _ _ names f r e (calm-sort _ (rw q at (sym (i .is-in .ensures) ∙ t .if1 .taken))));
     })
-    (λ c. search needs))  -- returns-2
+    (λ c.  -- returns-2
+    let i = c .before in
+    record { of = λ names f r e. rw (i .before .before .word .ensures) at (sym (i .is-in .ensures) ∙ c .if1 .left) }))
