@@ -1,7 +1,7 @@
 -- Document 01's label-desk cases that are marked +, one table: from bytes to use ids, refusals, lists and the listing, warnings on.
 use Prim.Native.Nat.{ℕ}
 use mathlib.Core.Path.{_≡_, refl}
-use mathlib.Core.Bool.{true}
+use mathlib.Core.Bool.{true, false}
 use mathlib.Core.List.{List, [], _∷_, map}
 use mathlib.Core.Option.{Option, none, some}
 use lib.ListN.{replicate}
@@ -26,6 +26,7 @@ use Rattle.sheet.specs.Statement.{Statement}
 use Rattle.sheet.specs.Read.{Sheet, accepted, refused, readNames, readRows, readClauses, locate, readSections, readSheet}
 use Rattle.sheet.specs.Write.{bytesOf}
 use Rattle.scope.specs.Graph.{Scope, scope, Entry, entry, Carried, carried}
+use Rattle.scope.specs.Lookup.{Looked, at, nothing, boundIn, carries as carriesName, parentAt, kindAt, answerAt, passes, climb, lookupIn}
 use Rattle.scope.specs.Offset.{covers, width, better, narrowest, scopeAtOffset}
 use Rattle.resolve.specs.Log.{Finding, finding, logs}
 use Rattle.resolve.specs.Resolve.{walk}
@@ -46,6 +47,7 @@ pub data Shown : Type 0 where
   carries : List Carried → Shown
   finds : List Finding → Shown
   inScope : Option ℕ → Shown  -- the scope at an offset
+  looked : Looked → Shown  -- what a lookup gives
   text : List ℕ → Shown
 
 -- Bytes, what is asked of them, and what that shows.
@@ -71,6 +73,12 @@ itsCarried s = ask (λ st. carries (carriedList true st)) (readSheet s)
 
 abbrev pub itsFindings : List ℕ → Shown
 itsFindings s = ask (λ st. finds (findings true st)) (readSheet s)
+
+abbrev pub itsFindingsQuietly : List ℕ → Shown
+itsFindingsQuietly s = ask (λ st. finds (findings false st)) (readSheet s)
+
+abbrev pub looksUp : ℕ → ℕ → List ℕ → Shown
+looksUp from name s = ask (λ st. looked (lookupIn (scopes true st) (bindings true st) (carriedList true st) from name)) (readSheet s)
 
 abbrev pub scopeAt : ℕ → List ℕ → Shown
 scopeAt o s = ask (λ st. inScope (scopeAtOffset (scopes true st) o)) (readSheet s)
@@ -138,6 +146,16 @@ pathOther =
     ∷ 4 ∷ 14 ∷ 24 ∷ 1 ∷ 0 ∷ 9 ∷ 2 ∷ 7 ∷ 0
     ∷ 39 ∷ 3 ∷ 33 ∷ 2 ∷ 23 ∷ 2 ∷ 0 ∷ 0 ∷ 0 ∷ 24 ∷ []
 
+-- `MATCH p = (r)-[a]-(), a = () RETURN a + 1, p.x, 1[0], 'row'[..2], [x IN {} | 1], any(x IN 5 WHERE 'late'), seat`, the table giving `r`
+-- and both `a` other kinds than their places want: every message. The name `seat` has four bytes, and no padding.
+abbrev pub everyMessage : List ℕ
+everyMessage =
+    1 ∷ 112 ∷ 1 ∷ 114 ∷ 1 ∷ 97 ∷ 1 ∷ 120 ∷ 4 ∷ 1952540019
+    ∷ 0 ∷ 0 ∷ 3 ∷ 6 ∷ 7 ∷ 1 ∷ 1 ∷ 2 ∷ 11 ∷ 12 ∷ 2 ∷ 2 ∷ 1 ∷ 15 ∷ 16 ∷ 3 ∷ 2 ∷ 1 ∷ 22 ∷ 23
+    ∷ 1 ∷ 0 ∷ 28 ∷ 0 ∷ 2 ∷ 1 ∷ 0 ∷ 3 ∷ 1 ∷ 10 ∷ 13 ∷ 1 ∷ 1 ∷ 0 ∷ 2 ∷ 13 ∷ 18 ∷ 1 ∷ 2 ∷ 0 ∷ 1 ∷ 18 ∷ 20 ∷ 0 ∷ 0 ∷ 1 ∷ 3 ∷ 1 ∷ 1 ∷ 26 ∷ 28 ∷ 0
+    ∷ 0 ∷ 4 ∷ 29 ∷ 111 ∷ 7 ∷ 0 ∷ 15 ∷ 0 ∷ 7 ∷ 2 ∷ 3 ∷ 0 ∷ 9 ∷ 3 ∷ 7 ∷ 0 ∷ 0 ∷ 10 ∷ 3 ∷ 3 ∷ 0 ∷ 11 ∷ 2 ∷ 5 ∷ 3 ∷ 0 ∷ 21 ∷ 0 ∷ 13 ∷ 0 ∷ 3 ∷ 0 ∷ 23 ∷ 1 ∷ 3 ∷ 5 ∷ 0 ∷ 8 ∷ 4
+    ∷ 101 ∷ 5 ∷ 91 ∷ 4 ∷ 71 ∷ 2 ∷ 0 ∷ 0 ∷ 0 ∷ 111 ∷ []
+
 abbrev pub cases : List Case
 cases =
     -- 40 zero bytes are accepted; 36, 42 and 8,196 bytes are not
@@ -154,21 +172,31 @@ cases =
     ∷ case (bytesOf example) itsScopes (scopeList (scope 1 none 0 25 ∷ scope 2 (some 0) 0 9 ∷ scope 7 (some 1) 10 16 ∷ scope 1 (some 2) 16 16 ∷ scope 8 (some 3) 17 25 ∷ []))
     ∷ case (bytesOf example) (scopeAt 16) (inScope (some 2))
     ∷ case (bytesOf example) (scopeAt 26) (inScope none)
+    -- from the barrier, which carries `a` and lets it through
+    ∷ case (bytesOf example) (looksUp 2 0) (looked (at 1))
     ∷ case (bytesOf example) itsFindings (finds (finding 1001 0 0 2 0 0 ∷ []))
     ∷ case (bytesOf example) itsListing (text (bytes "findings 1\nE1001 0 0 unresolved variable `b`\n"))
     -- two yields `t`, and an Unwind of a visible name
     ∷ case (bytesOf yields) itsFindings (finds (finding 1002 0 19 1 0 0 ∷ []))
     ∷ case (bytesOf yields) itsListing (text (bytes "findings 1\nE1002 0 19 variable `t` shadows an earlier binding\n"))
+    ∷ case (bytesOf yields) itsFindingsQuietly (finds [])
+    -- Root and Call have one span
+    ∷ case (bytesOf yields) (scopeAt 5) (inScope (some 1))
     ∷ case (bytesOf unwinds) itsListing (text (bytes "findings 0\n"))
     -- `WITH a AS t, b AS t`
     ∷ case (bytesOf replaces) itsBindings (bindingList (entry 1 0 0 1 none ∷ entry 1 1 1 1 none ∷ entry 3 2 1 1 (some 0) ∷ []))
     ∷ case (bytesOf replaces) itsCarried (carries (carried 2 2 0 ∷ carried 2 2 1 ∷ []))
+    -- from the new Root `t` is there, and the barrier stops `a`
+    ∷ case (bytesOf replaces) (looksUp 3 2) (looked (at 1))
+    ∷ case (bytesOf replaces) (looksUp 3 0) (looked nothing)
     -- a path's property `id`, and another
     ∷ case (bytesOf pathId) itsListing (text (bytes "findings 0\n"))
     ∷ case (bytesOf pathOther) itsFindings (finds (finding 2007 0 0 1 2 3 ∷ []))
     ∷ case (bytesOf pathOther) itsListing (text (bytes "findings 1\nE2007 0 0 variable `p` has kind `Path` and does not support property access; use `nodes()` or `relationships()` to extract graph elements first\n"))
+    -- every message
+    ∷ case (bytesOf everyMessage) itsListing (text (bytes "findings 12\nE1002 0 0 variable `a` shadows an earlier binding\nE1001 0 0 unresolved variable `seat`\nE2008 10 13 variable `r` used in node-pattern position but has kind `Relationship`; expected `Node`\nE2008 13 18 variable `a` used in relationship-pattern position but has kind `Node`; expected `Relationship`\nE2008 0 0 variable `a` used as path binder but has kind `Node`; expected `Path`\nE2007 0 0 variable `a` has kind `Node` but is used in an arithmetic expression; only `Value` variables are valid here\nE2007 0 0 variable `p` has kind `Path` and does not support property access; use `nodes()` or `relationships()` to extract graph elements first\nE5010 0 0 cannot index non-list expression of type `Int`; list indexing and slicing require a list target\nE5010 0 0 cannot slice non-list expression of type `String`; list indexing and slicing require a list target\nE5010 0 0 cannot iterate over non-list expression of type `Map`; list indexing and slicing require a list target\nE5011 0 0 list-predicate iterable must be a list but found `Int`; ANY/ALL/NONE/SINGLE require a `LIST<T>` source\nE2011 0 0 list-predicate WHERE clause requires a `Bool` predicate but found `String`\n"))
     ∷ []
 
 pub cases-hold : map given cases ≡ map expected cases
-unfolding words useId fnv1Of fnvFrom fnvStep xorByte xorBits digits widthWithin decimalWidth decimal isUtf8 goesOn step after wordIn many counted shapeOf limitOf formNone formOne caseRest compRest restOf readForm readMaybe readPart readElem deepCause isIn tree reading binder bindersE allKnown clausal bindersP bindersC bindersA sameBytes nameIn freshAfter distinct allZero nameBody readName rowId readRow sized inPlace placesOf readNames readRows readClauses locate readSections readSheet bytesOf covers width better narrowest scopeAtOffset logs walk kindWalk lists typeName kindName textOf of2007 of2008 of5010 unused textFor front lineFor line listed listing
+unfolding words useId fnv1Of fnvFrom fnvStep xorByte xorBits digits widthWithin decimalWidth decimal isUtf8 goesOn step after wordIn many counted shapeOf limitOf formNone formOne caseRest compRest restOf readForm readMaybe readPart readElem deepCause isIn tree reading binder bindersE allKnown clausal bindersP bindersC bindersA sameBytes nameIn freshAfter distinct allZero nameBody readName rowId readRow sized inPlace placesOf readNames readRows readClauses locate readSections readSheet bytesOf boundIn carriesName parentAt kindAt answerAt passes climb lookupIn covers width better narrowest scopeAtOffset logs walk kindWalk lists typeName kindName textOf of2007 of2008 of5010 unused textFor front lineFor line listed listing
 cases-hold = refl

@@ -1,20 +1,20 @@
 -- Laws of a name in the bytes of a section: its text, its length's word, and what reading it gives.
-use Prim.Native.Nat.{ℕ, _+_, _-_, _<_, _≤_}
+use Prim.Native.Nat.{ℕ, suc, _+_, _-_, _*_, _<_, _≤_}
 use native.Mathlib.Omega.{arith}
 use mathlib.Core.Path.{_≡_, refl}
 use mathlib.Core.Bool.{Bool, _&&_}
 use mathlib.Core.List.{List, [], _∷_}
 use borrow.Author.Tests.{le-leb, lt-leb}
 use lib.ListN.{length, take, drop, length-drop}
-use lib.Seq.{drop-drop}
+use lib.Seq.{drop-drop, length-take-le}
 use Rattle.words.specs.Utf8.{isUtf8}
 use Rattle.words.proofs.Words.{drop-word}
 use Rattle.heads.specs.Got.{Got, ok, no, pick}
 use Rattle.heads.specs.Answer.{Ans, readEnd}
 use Rattle.heads.specs.declared.Read.{Read}
 use Rattle.heads.specs.declared.Read.the-variants as read
-use Rattle.tables.specs.Name.{padded, allZero, nameBody, readName, textAt, lengthAt, nameAt}
-use Rattle.tables.specs.Answer.{textGot, nameGot, nameLonger}
+use Rattle.tables.specs.Name.{padded, allZero, nameBody, readName, textAt, lengthAt, nameAt, zeroPadded, nameWords}
+use Rattle.tables.specs.Answer.{bodyEnds, textGot, nameEnds, nameGot}
 
 -- a refusal ends where it began
 pub refuse : {s : List ℕ} {at : ℕ} {g : Got (List ℕ)} → at ≤ length s → g ≡ no 3 → Ans s at g (no 3) at
@@ -66,10 +66,22 @@ name-body s at h =
     rw
     (drop-word s at (omega arith), drop-word s (at + 1) (omega arith), two, drop-word s (at + 2) (omega arith), three, drop-word s (at + 3) (omega arith), four)
 
--- what is read after the length is the name
-pub named : (s : List ℕ) (at n : ℕ) (r : Read) → n ≡ lengthAt s at → at + 4 ≤ length s → Ans s (at + 4) (nameBody n (drop (at + 4) s)) (textGot s (at + 4) n r) (readEnd (at + 4) r) → nameLonger at r × Ans s at (readName (drop at s)) (nameGot s at r) (readEnd at r)
-unfolding nameAt
-named s at n (read.Next p) e h a =
-    (a .from, record { same = rw (name-body s at h, ← e, a .same); from = omega arith; within = a .within })
-named s at n (read.Refused k) e h a =
+-- the padding in words is the one in bytes
+pub padded-length : (text : List ℕ) → length (zeroPadded text) * 4 ≡ padded (length text)
+unfolding zeroPadded
+padded-length [] = refl
+padded-length (a ∷ []) = refl
+padded-length (a ∷ (b ∷ [])) = refl
+padded-length (a ∷ (b ∷ (c ∷ []))) = refl
+padded-length (a ∷ (b ∷ (c ∷ (d ∷ s)))) = omega (arith, padded-length s)
+
+-- what is read after the length is the name, and ends with the name's words
+pub named : (s : List ℕ) (at n : ℕ) (r : Read) → n ≡ lengthAt s at → at + 4 ≤ length s → bodyEnds s (at + 4) n r → Ans s (at + 4) (nameBody n (drop (at + 4) s)) (textGot s (at + 4) n r) (readEnd (at + 4) r) → nameEnds s at r × Ans s at (readName (drop at s)) (nameGot s at r) (readEnd at r)
+unfolding nameAt nameWords textAt
+named s at n (read.Next p) e h b a =
+    let text = take n (drop (at + 4) s) in
+    let long : length text ≡ n = length-take-le n (drop (at + 4) s) (omega (arith, length-drop (at + 4) s)) in
+    let ends : p ≡ at + suc (length (zeroPadded text)) * 4 = omega (arith, padded-length text) in
+    (rw (← e, le-leb (at + 4 + n) (length s) (b .1)) ends, record { same = rw (name-body s at h, ← e, a .same); from = omega arith; within = a .within })
+named s at n (read.Refused k) e h b a =
     (tt, record { same = rw (name-body s at h, ← e, a .same); from = omega arith; within = omega arith })

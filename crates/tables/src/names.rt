@@ -12,7 +12,7 @@ ghost use Rattle.heads.specs.Answer.{Ans, readEnd, isIn};
 ghost use Rattle.tables.specs.Distinct.{sameBytes, nameIn, distinct};
 ghost use Rattle.tables.specs.Index.{indexOf};
 ghost use Rattle.tables.specs.Name.{allZero, lengthAt, nameBody, readName, nameAt};
-ghost use Rattle.tables.specs.Answer.{textGot, nameGot, nameLonger, namesIn, Roomy, Scanned};
+ghost use Rattle.tables.specs.Answer.{bodyEnds, textGot, nameEnds, nameGot, namesIn, Roomy, Scanned};
 
 // The longest name.
 const MAX_NAME: u32 = 255;
@@ -34,6 +34,7 @@ fn all_zero(s: &[u8]) -> bool
 // The n bytes of a name from at on, then its padding.
 fn read_body(s: &[u8], at: usize, n: u32) -> Read
     requires { ⌜ at ≤ length (now s) ⌝ }
+    ensures ends { λ r. ⌜ bodyEnds (now (s .entry)) at n r ⌝ }
     ensures { λ r. ⌜ Ans (now (s .entry)) at (nameBody n (drop at (now (s .entry)))) (textGot (now (s .entry)) at n r) (readEnd at r) ⌝ }
 {
     if MAX_NAME < n {
@@ -66,7 +67,7 @@ fn length_at(s: &[u8], p: usize) -> u32
 // The name whose length stands at the byte at.
 pub fn read_name(s: &[u8], at: usize) -> Read
     requires { ⌜ at ≤ length (now s) ⌝ }
-    ensures longer { λ r. ⌜ nameLonger at r ⌝ }
+    ensures ends { λ r. ⌜ nameEnds (now (s .entry)) at r ⌝ }
     ensures { λ r. ⌜ Ans (now (s .entry)) at (readName (drop at (now (s .entry)))) (nameGot (now (s .entry)) at r) (readEnd at r) ⌝ }
 {
     if s.len() - at < 4 {

@@ -12,13 +12,13 @@ read-body-spec =
     (tie.spec
     (λ c.  -- returns
     let a = c .before .before .args in
-    refuse (omega arith) (body-long (a .s .now) (a .at) (a .n) (omega arith)))
+    (tt, refuse (omega arith) (body-long (a .s .now) (a .at) (a .n) (omega arith))))
     (λ c. omega arith)  -- add-p
     (λ c. omega arith)  -- mul-p
     (λ c. omega arith)  -- sub-if2
     (λ c.  -- returns-2
     let a = c .before .before .before .args in
-    refuse (omega arith) (body-short (a .s .now) (a .at) (a .n) (omega arith) (omega arith)))
+    (tt, refuse (omega arith) (body-short (a .s .now) (a .at) (a .n) (omega arith) (omega arith))))
     (λ c. omega arith)  -- add-e
     (λ c. omega arith)  -- add-q
     (λ c. omega arith)  -- sub-all-zero
@@ -28,7 +28,7 @@ read-body-spec =
     (λ c.  -- returns-3
     let z = c .before .all-zero in
     let a = c .before .before .before .before .before .before .args in
-    refuse (omega arith) (body-fits (a .s .now) (a .at) (a .n) (omega arith) (omega arith) (z .ensures) ∙ rw (not-true (z .result) (c .if3 .taken))))
+    (tt, refuse (omega arith) (body-fits (a .s .now) (a .at) (a .n) (omega arith) (omega arith) (z .ensures) ∙ rw (not-true (z .result) (c .if3 .taken)))))
     (λ c. omega arith)  -- sub-is-utf8
     (λ c. omega arith)  -- part-is-utf8-start
     (λ c. omega arith)  -- part-is-utf8-end
@@ -36,8 +36,8 @@ read-body-spec =
     (λ c.  -- returns-4
     let z = c .before .before .before .before .all-zero in
     let a = c .before .before .before .before .before .before .before .before .before .args in
-    record { same = body-fits (a .s .now) (a .at) (a .n) (omega arith) (omega arith) (z .ensures) ∙ rw (not-false (z .result) (c .before .before .before .if3 .left), ← c .before .is-utf8 .ensures, c .if4 .taken); from = omega arith; within = omega arith })
+    ((omega arith, omega arith), record { same = body-fits (a .s .now) (a .at) (a .n) (omega arith) (omega arith) (z .ensures) ∙ rw (not-false (z .result) (c .before .before .before .if3 .left), ← c .before .is-utf8 .ensures, c .if4 .taken); from = omega arith; within = omega arith }))
     (λ c.  -- returns-5
     let z = c .before .before .before .before .all-zero in
     let a = c .before .before .before .before .before .before .before .before .before .args in
-    refuse (omega arith) (body-fits (a .s .now) (a .at) (a .n) (omega arith) (omega arith) (z .ensures) ∙ rw (not-false (z .result) (c .before .before .before .if3 .left), ← c .before .is-utf8 .ensures, c .if4 .left))))
+    (tt, refuse (omega arith) (body-fits (a .s .now) (a .at) (a .n) (omega arith) (omega arith) (z .ensures) ∙ rw (not-false (z .result) (c .before .before .before .if3 .left), ← c .before .is-utf8 .ensures, c .if4 .left)))))

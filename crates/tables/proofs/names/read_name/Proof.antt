@@ -19,4 +19,4 @@ read-name-spec =
     (λ c.  -- returns-2
     let l = c .before .length-at in
     let a = c .before .before .before .before .args in
-    named (a .s .now) (a .at) (l .result) (c .read-body .result) (l .ensures) (omega arith) (c .read-body .ensures)))
+    named (a .s .now) (a .at) (l .result) (c .read-body .result) (l .ensures) (omega arith) (c .read-body .ensures .0) (c .read-body .ensures .1)))
