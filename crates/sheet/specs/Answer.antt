@@ -1,7 +1,7 @@
 -- The answers of the public calls, by document 01's numbers.
 use Prim.Native.Nat.{ℕ, _+_, _*_, _/_, _≤_}
 use mathlib.Core.Path.{_≡_}
-use mathlib.Core.Bool.{Bool, true, false}
+use mathlib.Core.Bool.{Bool, true, false, cond}
 use mathlib.Core.List.{List, [], map}
 use lib.Dec.{ltb}
 use lib.ListN.{length, take, getD}
@@ -13,11 +13,11 @@ use Rattle.heads.specs.Answer.{tables}
 use Rattle.clauses.specs.Tree.{Arm}
 use Rattle.clauses.specs.Read.{readClause, readArm}
 use Rattle.tables.specs.Answer.{namesIn}
-use Rattle.tables.specs.Name.{nameAt}
+use Rattle.tables.specs.Name.{nameAt, placesFrom}
 use Rattle.tables.specs.Row.{Row}
 use Rattle.sheet.specs.Trailer.{placesOf, section}
 use Rattle.sheet.specs.Statement.{Statement}
-use Rattle.sheet.specs.Read.{Sheet, accepted, refused, then', unless, usedUp, readNames, readRows}
+use Rattle.sheet.specs.Read.{Sheet, accepted, refused, then', unless, usedUp, readNames, readRows, locate, readText}
 use Rattle.heads.specs.declared.Read.{Read}
 use Rattle.heads.specs.declared.Read.the-variants as read
 use Rattle.sheet.specs.declared.sections.Verdict.{Verdict}
@@ -56,6 +56,7 @@ namesIf false ns = refused 3
 pub record Tabled (n : ℕ) (s tab ids : List ℕ) (r : Bool) : Type 0 where
   pub same : readNames n s ≡ namesIf r (namesIn s n tab)
   pub uses : r ≡ true → take n ids ≡ map useId (namesIn s n tab)
+  pub placed : r ≡ true → take n tab ≡ placesFrom 0 (namesIn s n tab)
   pub many : r ≡ true → n * 4 ≤ length s
 
 -- two tables hold the names of a statement: the byte where each stands in their section, and its use id; there are no more than words
@@ -109,6 +110,11 @@ abbrev pub sectionsOf : List ℕ → Places → ℕ → Sheet (List Arm)
 sectionsOf s p k =
     then' (sectionOf readClause s p k (p .clauses) (p .head) (p .tail)) (λ head. sectionOf readArm s p k (p .arms) (p .tail) (p .trailer))
 
+-- a name found: the byte where its length stands, and the end of the names section; an index past the table is cause 5
+abbrev pub foundAs : Sheet (List (List ℕ)) → (end i : ℕ) → Found
+foundAs (accepted ns) end i = cond (ltb i (length ns)) (found-at.At (getD (placesFrom 0 ns) i 0) end) (found-at.Refused 5)
+foundAs (refused c) end i = found-at.Refused c
+
 -- the text that was found
 abbrev pub found : List ℕ → Found → Sheet (List ℕ)
 found s (found-at.At p e) = accepted (nameAt (take e s) p)
@@ -121,3 +127,21 @@ foundEnd (found-at.Refused c) = 0
 -- the name with the index i, of n names in the bytes of their section
 abbrev pub textIn : ℕ → List ℕ → ℕ → Sheet (List ℕ)
 textIn n s i = then' (readNames n s) (λ ns. unless 5 (ltb i n) (accepted (getD ns i [])))
+
+-- a name of a sheet, whose names section ends where the bindings begin
+abbrev pub foundIn : Sheet Places → List ℕ → ℕ → Found
+foundIn (accepted p) s i = foundAs (readNames (p .names) (take (p .rows * 4) s)) (p .rows * 4) i
+foundIn (refused c) s i = found-at.Refused c
+
+-- the answer r is what is to be found, and so is the text that it leads to in s
+pub record Finds (answer : Found) (s : List ℕ) (text : Sheet (List ℕ)) (r : Found) : Type 0 where
+  pub same : r ≡ answer
+  pub reads : found s r ≡ text
+  pub within : foundEnd r ≤ length s
+
+-- of n names in the bytes of their section, and of a sheet
+abbrev pub FindsIn : (n i : ℕ) → List ℕ → Found → Type 0
+FindsIn n i s = Finds (foundAs (readNames n s) (length s) i) s (textIn n s i)
+
+abbrev pub FindsName : (i : ℕ) → List ℕ → Found → Type 0
+FindsName i s = Finds (foundIn (locate s) s i) s (readText s i)

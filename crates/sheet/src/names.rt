@@ -10,7 +10,7 @@ ghost use Prim.Native.Nat.{ℕ, _≤_};
 ghost use lib.ListN.{length};
 ghost use Rattle.tables.specs.Answer.{Roomy};
 ghost use Rattle.sheet.specs.Read.{readText};
-ghost use Rattle.sheet.specs.Answer.{causeOf, textOf, Tabled, found, foundEnd, textIn};
+ghost use Rattle.sheet.specs.Answer.{causeOf, textOf, Tabled, FindsIn, FindsName};
 
 // A name's text: the byte where its length stands and the end of the names section, or the refusal's number.
 pub enum Found {
@@ -35,7 +35,7 @@ pub fn are_names(s: &[u8], n: u32, tab: &mut [u32], ids: &mut [u32]) -> bool
 // The name with the index i, of n names in the bytes of their section, with tables that have a place for each word.
 fn find_with(s: &[u8], n: u32, i: u32, tab: &mut [u32], ids: &mut [u32]) -> Found
     requires { ⌜ Roomy (now s) (now tab) (now ids) ⌝ }
-    ensures { λ r. ⌜ (found (now (s .entry)) r ≡ textIn n (now (s .entry)) i) × (foundEnd r ≤ length (now (s .entry))) ⌝ }
+    ensures { λ r. ⌜ FindsIn n i (now (s .entry)) r ⌝ }
 {
     if !are_names(s, n, tab, ids) {
         return Found::Refused(3);
@@ -49,7 +49,7 @@ fn find_with(s: &[u8], n: u32, i: u32, tab: &mut [u32], ids: &mut [u32]) -> Foun
 // With tables for sections of up to 64 words.
 fn find_64(s: &[u8], n: u32, i: u32) -> Found
     requires { ⌜ length (now s) ≤ 256 ⌝ }
-    ensures { λ r. ⌜ (found (now (s .entry)) r ≡ textIn n (now (s .entry)) i) × (foundEnd r ≤ length (now (s .entry))) ⌝ }
+    ensures { λ r. ⌜ FindsIn n i (now (s .entry)) r ⌝ }
 {
     let mut tab = [0u32; 64];
     let mut ids = [0u32; 64];
@@ -59,7 +59,7 @@ fn find_64(s: &[u8], n: u32, i: u32) -> Found
 // With tables for sections of up to 512 words.
 fn find_512(s: &[u8], n: u32, i: u32) -> Found
     requires { ⌜ length (now s) ≤ 2048 ⌝ }
-    ensures { λ r. ⌜ (found (now (s .entry)) r ≡ textIn n (now (s .entry)) i) × (foundEnd r ≤ length (now (s .entry))) ⌝ }
+    ensures { λ r. ⌜ FindsIn n i (now (s .entry)) r ⌝ }
 {
     let mut tab = [0u32; 512];
     let mut ids = [0u32; 512];
@@ -69,7 +69,7 @@ fn find_512(s: &[u8], n: u32, i: u32) -> Found
 // With tables for sections of up to 2,048 words.
 fn find_2048(s: &[u8], n: u32, i: u32) -> Found
     requires { ⌜ length (now s) ≤ 8192 ⌝ }
-    ensures { λ r. ⌜ (found (now (s .entry)) r ≡ textIn n (now (s .entry)) i) × (foundEnd r ≤ length (now (s .entry))) ⌝ }
+    ensures { λ r. ⌜ FindsIn n i (now (s .entry)) r ⌝ }
 {
     let mut tab = [0u32; 2048];
     let mut ids = [0u32; 2048];
@@ -79,7 +79,7 @@ fn find_2048(s: &[u8], n: u32, i: u32) -> Found
 // With tables sized to the section, so that a short one clears few words.
 fn find_in(s: &[u8], n: u32, i: u32) -> Found
     requires { ⌜ length (now s) ≤ 8192 ⌝ }
-    ensures { λ r. ⌜ (found (now (s .entry)) r ≡ textIn n (now (s .entry)) i) × (foundEnd r ≤ length (now (s .entry))) ⌝ }
+    ensures { λ r. ⌜ FindsIn n i (now (s .entry)) r ⌝ }
 {
     if s.len() <= 256 {
         return find_64(s, n, i);
@@ -92,7 +92,7 @@ fn find_in(s: &[u8], n: u32, i: u32) -> Found
 
 // The name with the index i of a sheet, by its names section alone.
 pub fn find_name(s: &[u8], i: u32) -> Found
-    ensures { λ r. ⌜ (found (now (s .entry)) r ≡ readText (now (s .entry)) i) × (foundEnd r ≤ length (now (s .entry))) ⌝ }
+    ensures { λ r. ⌜ FindsName i (now (s .entry)) r ⌝ }
 {
     match find_places(s) {
         Opened::Refused(c) => Found::Refused(c),

@@ -10,5 +10,5 @@ check-name-spec =
     (λ c κs. tt)  -- find-name-requires
     (λ c. search needs)  -- enum-told
     (λ c. search needs)  -- enum-known-c
-    (λ c. rw (← c .before .before .find-name .ensures .0, c .enum-told .given .1))  -- returns
-    (λ c. rw (← c .before .before .before .find-name .ensures .0, c .before .c .given .1)))  -- returns-2
+    (λ c. rw (← c .before .before .find-name .ensures .reads, c .enum-told .given .1))  -- returns
+    (λ c. rw (← c .before .before .before .find-name .ensures .reads, c .before .c .given .1)))  -- returns-2

@@ -1,4 +1,4 @@
--- The names' section is the part of the sheet before the bindings; what is found there is found in the sheet (`found-part`).
+-- The names' section is the part of the sheet before the bindings; what is found there is found in the sheet (`find-part`).
 use native.Mathlib.Omega.{arith}
 use Prim.Native.Nat.{_*_}
 use mathlib.Core.Path.{_≡_, sym, _∙_}
@@ -8,7 +8,7 @@ use lib.Seq.{length-take-le}
 use Rattle.sheet.specs.Read.{accepted, locate, readText}
 use Rattle.sheet.specs.Answer.{InPlaces}
 use Rattle.sheet.proofs.Placing.{opened-at, opened-no}
-use Rattle.sheet.proofs.Section.{found-part}
+use Rattle.sheet.proofs.Section.{find-part}
 use Rattle.sheet.proofs.names.find_name.Statement.{statement}
 use Rattle.sheet.proofs.names.find_name.Tie as tie
 
@@ -30,8 +30,9 @@ find-name-spec =
     (λ c κs.  -- find-in-requires
     let k = c .before in
     omega (arith, places k .1, length-take (k .before .p .given .0 .0 .rows * 4) (k .before .before .before .before .before .args .s .now)))
-    (λ c. (rw (opened-no (c .before .before .before .before .before .args .s .now) (c .before .before .before .find-places .ensures) (c .before .c .given .1)), omega arith))  -- returns
+    (λ c.  -- returns
+    let e = opened-no (c .before .before .before .before .before .args .s .now) (c .before .before .before .find-places .ensures) (c .before .c .given .1) in
+    record { same = rw e; reads = rw e; within = omega arith })
     (λ c.  -- returns-2
     let k = c .before .before in
-    let x = found-part (k .before .before .before .before .before .args .s .now) (k .before .p .given .0 .0 .rows * 4) (c .find-in .result) (c .find-in .ensures .1) in
-    (x .0 ∙ c .find-in .ensures .0 ∙ rw (places k .0), x .1)))
+    find-part _ (places k .0) (omega (arith, places k .1)) (c .find-in .ensures)))

@@ -13,13 +13,13 @@ name-text-spec =
     (λ c. search needs)  -- enum-known-p
     (λ c. search needs)  -- enum-told
     (λ c. search needs)  -- slice-aggregate-result
-    (λ c. rw (← c .before .before .before .find-name .ensures .0, c .before .enum-told .given .1))  -- returns
+    (λ c. rw (← c .before .before .before .find-name .ensures .reads, c .before .enum-told .given .1))  -- returns
     (λ c.  -- slice-aggregate-name-at
     let k = c .before .before in
-    let h = rw (k .p .given .1) at (k .before .before .find-name .ensures .1) in
+    let h = rw (k .p .given .1) at (k .before .before .find-name .ensures .within) in
     sym (length-take-le (k .p .given .0 .1 .0) (k .before .before .before .before .args .s .now) h))
     (λ c. search needs)  -- cast-name-at
     (λ c κs. tt)  -- name-at-requires
     (λ c.  -- returns-2
     let k = c .before .before .before in
-    c .name-at .ensures ∙ rw (← k .before .before .find-name .ensures .0, k .p .given .1)))
+    c .name-at .ensures ∙ rw (← k .before .before .find-name .ensures .reads, k .p .given .1)))
