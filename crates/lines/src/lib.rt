@@ -25,7 +25,7 @@ ghost use Rattle.lines.specs.Lines.{saidText, front, lineFor, line, list
 ghost use Rattle.lines.specs.Given.{placeOf, Given};
 
 // A number after a byte string.
-fn put_number(lead: &[u8], n: u32, out: &mut [u8]) -> usize
+pub fn put_number(lead: &[u8], n: u32, out: &mut [u8]) -> usize
     requires { ⌜ length (now lead ++ decimal n) ≤ length (now out) ⌝ }
     ensures { λ r. ⌜ Puts (now (lead .entry) ++ decimal n) (now (out .entry)) (now (out .exit)) r ⌝ }
 {

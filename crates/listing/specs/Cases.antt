@@ -1,4 +1,4 @@
--- Document 01's label-desk cases that are marked +, one table: from bytes to use ids, refusals, lists and the listing, warnings on.
+-- Document 01's cases that are marked +, and its traps, one table: from bytes to use ids, refusals, lists and the listing.
 use Prim.Native.Nat.{ℕ}
 use mathlib.Core.Path.{_≡_, refl}
 use mathlib.Core.Bool.{true, false}
@@ -156,6 +156,21 @@ everyMessage =
     ∷ 0 ∷ 4 ∷ 29 ∷ 111 ∷ 7 ∷ 0 ∷ 15 ∷ 0 ∷ 7 ∷ 2 ∷ 3 ∷ 0 ∷ 9 ∷ 3 ∷ 7 ∷ 0 ∷ 0 ∷ 10 ∷ 3 ∷ 3 ∷ 0 ∷ 11 ∷ 2 ∷ 5 ∷ 3 ∷ 0 ∷ 21 ∷ 0 ∷ 13 ∷ 0 ∷ 3 ∷ 0 ∷ 23 ∷ 1 ∷ 3 ∷ 5 ∷ 0 ∷ 8 ∷ 4
     ∷ 101 ∷ 5 ∷ 91 ∷ 4 ∷ 71 ∷ 2 ∷ 0 ∷ 0 ∷ 0 ∷ 111 ∷ []
 
+-- `MATCH p = (a) WITH p AS t, a AS t, a AS u CREATE (c) MERGE (d) RETURN [(e) | u], a ^ 1, a = 1, a <> 1, a < 1, a >= 1, a AND 1`, where the
+-- last `a` of the WITH is a name and the others are variables
+abbrev pub traps : List ℕ
+traps =
+    1 ∷ 112 ∷ 1 ∷ 97 ∷ 1 ∷ 116 ∷ 1 ∷ 117 ∷ 1 ∷ 99 ∷ 1 ∷ 100 ∷ 1 ∷ 101
+    ∷ 0 ∷ 0 ∷ 3 ∷ 6 ∷ 7 ∷ 1 ∷ 1 ∷ 1 ∷ 11 ∷ 12 ∷ 2 ∷ 4 ∷ 1 ∷ 0 ∷ 0 ∷ 3 ∷ 5 ∷ 1 ∷ 0 ∷ 0 ∷ 4 ∷ 6 ∷ 1 ∷ 0 ∷ 0
+    ∷ 1 ∷ 0 ∷ 13 ∷ 0 ∷ 1 ∷ 1 ∷ 0 ∷ 1 ∷ 1 ∷ 10 ∷ 13 ∷ 1 ∷ 1 ∷ 0
+    ∷ 3 ∷ 14 ∷ 40 ∷ 3 ∷ 3 ∷ 7 ∷ 0 ∷ 3 ∷ 7 ∷ 1 ∷ 4 ∷ 8 ∷ 1 ∷ 0
+    ∷ 6 ∷ 41 ∷ 50 ∷ 1 ∷ 0 ∷ 1 ∷ 1 ∷ 48 ∷ 50 ∷ 1 ∷ 2 ∷ 0
+    ∷ 7 ∷ 51 ∷ 60 ∷ 1 ∷ 0 ∷ 1 ∷ 1 ∷ 58 ∷ 60 ∷ 1 ∷ 3 ∷ 0
+    ∷ 4 ∷ 61 ∷ 99 ∷ 7 ∷ 0 ∷ 22 ∷ 70 ∷ 80 ∷ 0 ∷ 1 ∷ 0 ∷ 1 ∷ 1 ∷ 71 ∷ 74 ∷ 1 ∷ 4 ∷ 0 ∷ 8 ∷ 3
+    ∷ 0 ∷ 15 ∷ 5 ∷ 7 ∷ 1 ∷ 3 ∷ 0 ∷ 15 ∷ 6 ∷ 7 ∷ 1 ∷ 3 ∷ 0 ∷ 15 ∷ 7 ∷ 7 ∷ 1 ∷ 3
+    ∷ 0 ∷ 15 ∷ 8 ∷ 7 ∷ 1 ∷ 3 ∷ 0 ∷ 15 ∷ 11 ∷ 7 ∷ 1 ∷ 3 ∷ 0 ∷ 15 ∷ 12 ∷ 7 ∷ 1 ∷ 3
+    ∷ 147 ∷ 7 ∷ 133 ∷ 5 ∷ 108 ∷ 5 ∷ 0 ∷ 0 ∷ 0 ∷ 99 ∷ []
+
 abbrev pub cases : List Case
 cases =
     -- 40 zero bytes are accepted; 36, 42 and 8,196 bytes are not
@@ -193,6 +208,13 @@ cases =
     ∷ case (bytesOf pathId) itsListing (text (bytes "findings 0\n"))
     ∷ case (bytesOf pathOther) itsFindings (finds (finding 2007 0 0 1 2 3 ∷ []))
     ∷ case (bytesOf pathOther) itsListing (text (bytes "findings 1\nE2007 0 0 variable `p` has kind `Path` and does not support property access; use `nodes()` or `relationships()` to extract graph elements first\n"))
+    -- Create's and Merge's scopes; a comprehension in Return looks from outside it
+    ∷ case (bytesOf traps) itsScopes (scopeList (scope 1 none 0 99 ∷ scope 2 (some 0) 0 13 ∷ scope 7 (some 1) 14 40 ∷ scope 1 (some 2) 40 40 ∷ scope 3 (some 3) 41 50 ∷ scope 4 (some 4) 51 60 ∷ scope 8 (some 5) 61 99 ∷ scope 9 (some 5) 70 80 ∷ []))
+    -- an aliased name is not carried; a binding that replaces another takes its own kind
+    ∷ case (bytesOf traps) itsCarried (carries (carried 2 2 0 ∷ carried 2 2 1 ∷ []))
+    ∷ case (bytesOf traps) itsBindings (bindingList (entry 1 0 0 3 none ∷ entry 1 1 1 1 none ∷ entry 3 2 1 1 (some 0) ∷ entry 4 4 2 1 none ∷ entry 5 5 3 1 none ∷ entry 7 6 4 1 none ∷ []))
+    -- of the operators `^`, `<` and `>=` are arithmetic, `=`, `<>` and `AND` are not
+    ∷ case (bytesOf traps) itsFindings (finds (finding 1001 0 0 4 0 0 ∷ finding 2007 0 0 2 1 1 ∷ finding 2007 0 0 2 1 1 ∷ finding 2007 0 0 2 1 1 ∷ []))
     -- every message
     ∷ case (bytesOf everyMessage) itsListing (text (bytes "findings 12\nE1002 0 0 variable `a` shadows an earlier binding\nE1001 0 0 unresolved variable `seat`\nE2008 10 13 variable `r` used in node-pattern position but has kind `Relationship`; expected `Node`\nE2008 13 18 variable `a` used in relationship-pattern position but has kind `Node`; expected `Relationship`\nE2008 0 0 variable `a` used as path binder but has kind `Node`; expected `Path`\nE2007 0 0 variable `a` has kind `Node` but is used in an arithmetic expression; only `Value` variables are valid here\nE2007 0 0 variable `p` has kind `Path` and does not support property access; use `nodes()` or `relationships()` to extract graph elements first\nE5010 0 0 cannot index non-list expression of type `Int`; list indexing and slicing require a list target\nE5010 0 0 cannot slice non-list expression of type `String`; list indexing and slicing require a list target\nE5010 0 0 cannot iterate over non-list expression of type `Map`; list indexing and slicing require a list target\nE5011 0 0 list-predicate iterable must be a list but found `Int`; ANY/ALL/NONE/SINGLE require a `LIST<T>` source\nE2011 0 0 list-predicate WHERE clause requires a `Bool` predicate but found `String`\n"))
     ∷ []

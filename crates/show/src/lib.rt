@@ -1,35 +1,26 @@
 // A sheet's answers as text on standard output: its listing, and its lists after that.
 mod lists;
+mod page;
 
-use listing::listing;
-use lists::refusal;
+use libc::STDIN_FILENO;
 use lists::show_lists;
 use lists::text;
-use texts::Written;
+use page::print_sheet;
 
-// The listing of a sheet, warnings on, or `refused` and the refusal's number; answers that number, or 0.
-pub fn show_listing(s: &[u8]) -> u32 {
-    let mut page = [0u8; 65536];
-    match listing(s, true, &mut page) {
-        Written::Bytes(n) => {
-            text(&page[0..n]);
-            0
-        }
-        Written::Refused(c) => {
-            refusal(c);
-            c
-        }
-    }
+// Reads a sheet from standard input; how long it is. Room for one byte more than a sheet may have: a longer input is then too long.
+pub fn read_sheet(room: &mut [u8; 8193]) -> usize {
+    io::read_full(STDIN_FILENO, room)
 }
 
-// The listing, then the lists; where only the listing doesn't fit its page, `refused 10` stands in its place.
+// The listing of a sheet, warnings on, or `refused` and the refusal's number.
+pub fn show_listing(s: &[u8]) {
+    let mut page = [0u8; 65536];
+    let n = print_sheet(s, &mut page);
+    text(&page[0..n]);
+}
+
+// The listing, then the lists, also where only the listing doesn't fit its page.
 pub fn show(s: &[u8]) {
-    let c = show_listing(s);
-    if c == 0 {
-        show_lists(s);
-        return;
-    }
-    if c == 10 {
-        show_lists(s);
-    }
+    show_listing(s);
+    show_lists(s);
 }

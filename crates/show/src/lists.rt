@@ -146,13 +146,7 @@ fn list(which: Kind, l: &[u32], n: usize) {
     }
 }
 
-// `refused` and a refusal's number.
-pub fn refusal(c: u32) {
-    text(b"refused ");
-    field(c, b"\n");
-}
-
-// The lists of a sheet, warnings on, or its refusal.
+// The lists of a sheet, warnings on; nothing where it is refused.
 pub fn show_lists(s: &[u8]) {
     let mut scopes = [0u32; 8192];
     let mut bindings = [0u32; 12288];
@@ -169,7 +163,7 @@ pub fn show_lists(s: &[u8]) {
         &mut findings,
         2048,
     ) {
-        Checked::Refused(c) => refusal(c),
+        Checked::Refused(_) => {}
         Checked::Is(c) => {
             list(Kind::Scopes, &scopes, c.scopes);
             list(Kind::Bindings, &bindings, c.bindings);

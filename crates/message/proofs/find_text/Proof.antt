@@ -22,19 +22,19 @@ find-text-spec =
     (λ c κs. search needs)  -- find-name-requires
     (λ c. search needs)  -- enum-told
     (λ c. search needs)  -- enum-known-c
-    (λ c. let k = c .before .before in (rw (k .before .if1 .taken, ← k .find-name .ensures .0, c .enum-told .given .1), omega arith))  -- returns
-    (λ c. let k = c .before .before .before .before in (rw (k .before .if1 .taken, ← k .find-name .ensures .0, c .before .before .c .given .1, c .if2 .taken), omega arith))  -- returns-2
+    (λ c. let k = c .before .before in (rw (k .before .if1 .taken, ← k .find-name .ensures .reads, c .enum-told .given .1), omega arith))  -- returns
+    (λ c. let k = c .before .before .before .before in (rw (k .before .if1 .taken, ← k .find-name .ensures .reads, c .before .before .c .given .1, c .if2 .taken), omega arith))  -- returns-2
     (λ c.  -- returns-3
     let k = c .before .before .before .before in
     let p = c .before .before .c .given in
-    (rw (k .before .if1 .taken, ← k .find-name .ensures .0, p .1, ne-eqb (p .0 .0) 5 (c .if2 .left)), omega arith))
+    (rw (k .before .if1 .taken, ← k .find-name .ensures .reads, p .1, ne-eqb (p .0 .0) 5 (c .if2 .left)), omega arith))
     (λ c. search needs)  -- sub-find-name
     (λ c κs. search needs)  -- find-name-requires-2
     (λ c. search needs)  -- enum-known-p
     (λ c. search needs)  -- enum-known-c-2
-    (λ c. let k = c .before .before .before in (rw (next k, ← k .find-name2 .ensures .0, c .before .p .given .1), rw (c .before .p .given .1) at (k .find-name2 .ensures .1)))  -- returns-4
-    (λ c. let k = c .before .before .before .before in (rw (next k, ← k .find-name2 .ensures .0, c .before .before .c2 .given .1, c .if3 .taken), omega arith))  -- returns-5
+    (λ c. let k = c .before .before .before in (rw (next k, ← k .find-name2 .ensures .reads, c .before .p .given .1), rw (c .before .p .given .1) at (k .find-name2 .ensures .within)))  -- returns-4
+    (λ c. let k = c .before .before .before .before in (rw (next k, ← k .find-name2 .ensures .reads, c .before .before .c2 .given .1, c .if3 .taken), omega arith))  -- returns-5
     (λ c.  -- returns-6
     let k = c .before .before .before .before in
     let p = c .before .before .c2 .given in
-    (rw (next k, ← k .find-name2 .ensures .0, p .1, ne-eqb (p .0 .0) 5 (c .if3 .left)), omega arith)))
+    (rw (next k, ← k .find-name2 .ensures .reads, p .1, ne-eqb (p .0 .0) 5 (c .if3 .left)), omega arith)))
