@@ -3,11 +3,14 @@ use lines::put_number;
 use listing::listing;
 use texts::Written;
 use texts::put;
+ghost use Prim.Native.Nat.{_≤_};
+ghost use lib.ListN.{length};
 ghost use Rattle.texts.specs.Over.{Puts};
 ghost use Rattle.show.specs.Printed.{refusalText, printed, Prints};
 
 // `refused`, a blank, the number and a line feed; how long that is.
-pub fn put_refusal(c: u32, page: &mut [u8; 65536]) -> usize
+fn put_refusal(c: u32, page: &mut [u8]) -> usize
+    requires { ⌜ length (refusalText c) ≤ length (now page) ⌝ }
     ensures { λ r. ⌜ Puts (refusalText c) (now (page .entry)) (now (page .exit)) r ⌝ }
 {
     let a = put_number(b"refused ", c, page);
