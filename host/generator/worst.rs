@@ -17,12 +17,12 @@ pub const FAMILIES: [Family; 12] = [
     Family { name: "200 rows, 500 Vars", make: vars },
     Family { name: "400 rows", make: rows },
     Family { name: "670 names with equal use ids", make: equal_ids },
-    Family { name: "336 yields, 505 unseen uses", make: unseen },
-    Family { name: "1,000 names", make: names },
+    Family { name: "336 yields, 505 uses of another name", make: unseen },
+    Family { name: "336 yields, 505 uses of the first", make: seen },
+    Family { name: "168 yields, a WITH of 330 uses of the first", make: with_uses },
     Family { name: "400 yields", make: yields },
-    Family { name: "a WITH of 400 aliases", make: aliases },
-    Family { name: "330 comprehensions", make: comprehensions },
-    Family { name: "400 uses", make: uses },
+    Family { name: "1,000 names", make: names },
+    Family { name: "280 properties", make: properties },
 ];
 
 /// The kilobytes that the sheets of a family have.
@@ -45,7 +45,7 @@ impl Share {
     }
 }
 
-/// Names, bindings and the head with how many clauses it has.
+/// A sheet of names, bindings and a head with so many clauses.
 fn sheet(names: &[String], rows: Vec<u32>, head: Vec<u32>, clauses: u32) -> Vec<u8> {
     let counts = [names.len() as u32, rows.len() as u32 / 5, clauses, 0];
     let sections = [names.iter().flat_map(|name| name_words(name)).collect(), rows, head, Vec::new()];
@@ -107,47 +107,52 @@ fn equal_ids(share: Share) -> Vec<u8> {
     sheet(&names_with_equal_ids(share.of(670)), Vec::new(), NOTHING.to_vec(), 1)
 }
 
-/// A Call that yields one name many times, and uses of a name that isn't there.
-fn unseen(share: Share) -> Vec<u8> {
-    let yields = share.of(336);
-    let mut head = vec![11, 0, 9, 0, yields];
-    head.extend((0..yields).flat_map(|_| [0, 0, 0]));
-    head.extend(list(share.of(505), |_| vec![8, 1]));
-    sheet(&numbered(2), Vec::new(), head, 2)
+/// A Call with so many yields, the first of one name and the others of another.
+fn call(yields: u32, first: u32, others: u32) -> Vec<u32> {
+    let mut clause = vec![11, 0, 9, 0, yields, first, 0, 0];
+    clause.extend((1..yields).flat_map(|_| [others, 0, 0]));
+    clause
 }
 
+fn unseen(share: Share) -> Vec<u8> {
+    let uses = list(share.of(505), |_| vec![8, 1]);
+    sheet(&numbered(2), Vec::new(), [call(share.of(336), 0, 0), uses].concat(), 2)
+}
+
+fn seen(share: Share) -> Vec<u8> {
+    let uses = list(share.of(505), |_| vec![8, 1]);
+    sheet(&numbered(2), Vec::new(), [call(share.of(336), 1, 0), uses].concat(), 2)
+}
+
+/// With rows that are not looked at, so that the sheet is full.
+fn with_uses(share: Share) -> Vec<u8> {
+    let uses = share.of(330);
+    let mut head = call(share.of(168), 1, 0);
+    head.extend([3, 0, 9, uses]);
+    head.extend((0..uses).flat_map(|_| [0, 8, 1]));
+    head.push(0);
+    sheet(&numbered(2), bound(share.of(100), VALUE), head, 2)
+}
+
+/// Yields of a name each.
+fn yields(share: Share) -> Vec<u8> {
+    let count = share.of(400);
+    let head = [11, 0, 9, 0, count].into_iter().chain((0..count).flat_map(|n| [n, 0, 0])).collect();
+    sheet(&numbered(count), Vec::new(), head, 1)
+}
+
+/// Names, of which the last is used.
 fn names(share: Share) -> Vec<u8> {
     let count = share.of(1000);
     sheet(&numbered(count), Vec::new(), vec![2, 0, 9, 8, count - 1], 1)
 }
 
-/// A Call with yields of fewer names; the later ones shadow.
-fn yields(share: Share) -> Vec<u8> {
-    let (names, yields) = (share.of(150), share.of(400));
-    let mut head = vec![11, 0, 9, 0, yields];
-    head.extend((0..yields).flat_map(|n| [n % names, 0, n]));
-    sheet(&numbered(names), Vec::new(), head, 1)
-}
-
-/// A WITH of 50 rows' variables under 100 aliases, after which one is used.
-fn aliases(share: Share) -> Vec<u8> {
-    let (rows, names, aliases) = (share.of(50), share.of(100), share.of(400));
-    let mut head = vec![1, 0, 9, 0, 1, 0, 1, 1, 0, 9, 1, 0, 0, 3, 0, 9, aliases];
-    head.extend((0..aliases).flat_map(|n| [1 + n % names, 7, n % rows]));
-    head.extend([0, 4, 0, 9, 1, 0, 8, names - 1]);
-    let bound = (0..rows).flat_map(|n| [n, n, NODE, 0, 0]).collect();
-    sheet(&numbered(names), bound, head, 3)
-}
-
-/// Comprehensions over a pattern with no element, each mapped to a number.
-fn comprehensions(share: Share) -> Vec<u8> {
-    sheet(&numbered(1), Vec::new(), list(share.of(330), |_| vec![22, 0, 9, 0, 0, 3]), 1)
-}
-
-/// Names that aren't there, each of them another one.
-fn uses(share: Share) -> Vec<u8> {
-    let count = share.of(400);
-    sheet(&numbered(count), Vec::new(), list(count, |n| vec![8, n]), 1)
+/// Nodes of a Match, each with a Var as its property.
+fn properties(share: Share) -> Vec<u8> {
+    let elements = share.of(280);
+    let mut head = vec![1, 0, 9, 0, 1, 0, elements];
+    head.extend((0..elements).flat_map(|_| [1, 0, 9, 0, 1, 7, 0]));
+    sheet(&numbered(1), bound(1, NODE), head, 1)
 }
 
 const LETTERS: &[u8] = b"abcdefghijklmnopqrstuvwxyzABCDEFGHIJKLMNOPQRSTUVWXYZ0123456789_";

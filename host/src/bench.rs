@@ -1,5 +1,5 @@
 //! Times the C function and the Rust's whole job, plain and tuned, on the same sheets in one run, and prints a table; see README.md.
-use generator::worst::{FAMILIES, KILOBYTES};
+use generator::worst::{FAMILIES, Family, KILOBYTES};
 use generator::{Random, one};
 use std::hint::black_box;
 use theirs::{lists, sheet, tuned};
@@ -66,32 +66,23 @@ impl Jobs {
 
     /// Nanoseconds a sheet, the mean over all of them: ours, the Rust's and the tuned Rust's.
     fn times(&mut self, sheets: &[&[u8]]) -> [f64; 3] {
-        let bytes = sheets[0].len();
-        let mut sum = [0.0; 3];
-        let turns: Vec<&[&[u8]]> = sheets.chunks((TURN / bytes).max(1)).collect();
+        let turns: Vec<&[&[u8]]> = sheets.chunks(TURN / sheets[0].len()).collect();
         let mut least = vec![[f64::INFINITY; 3]; turns.len()];
         for _ in 0..ROUNDS {
             for (turn, least) in turns.iter().zip(&mut least) {
                 black_box(turn.iter().flat_map(|bytes| bytes.iter()).fold(0u8, |sum, byte| sum ^ byte));
-                let times = [
-                    time(turn, |bytes| drop(black_box(self.ours(bytes)))),
-                    time(turn, |bytes| drop(black_box(Self::plain(bytes)))),
-                    time(turn, |bytes| drop(black_box(Self::tuned(bytes)))),
-                ];
+                let times = [time(turn, |bytes| self.ours(bytes).is_ok()), time(turn, Self::plain), time(turn, Self::tuned)];
                 *least = std::array::from_fn(|job| least[job].min(times[job]));
             }
         }
-        for turn in least {
-            sum = std::array::from_fn(|job| sum[job] + turn[job]);
-        }
-        sum.map(|time| time / sheets.len() as f64)
+        std::array::from_fn(|job| least.iter().map(|times| times[job]).sum::<f64>() / sheets.len() as f64)
     }
 }
 
-fn time(sheets: &[&[u8]], mut job: impl FnMut(&[u8])) -> f64 {
+fn time<T>(sheets: &[&[u8]], mut job: impl FnMut(&[u8]) -> T) -> f64 {
     let begin = thread_time();
     for bytes in sheets {
-        job(black_box(bytes));
+        black_box(job(black_box(bytes)));
     }
     thread_time() - begin
 }
@@ -110,32 +101,42 @@ fn by_size(jobs: &mut Jobs) -> [Vec<(Vec<u8>, usize)>; 8] {
             sheets.push((bytes, findings));
         }
     }
-    println!("Compared equal on the {drawn} sheets of seed 1 that these were taken from.\n");
+    println!("The three answers are equal on the first {drawn} sheets of seed 1, from which these were taken.\n");
     found
 }
 
 fn main() {
     let mut jobs = Jobs { page: vec![0; 1 << 21] };
     let sizes = by_size(&mut jobs);
-    println!("| sheets | bytes | findings | ours, ns | Rust, ns | tuned Rust, ns | Rust / ours | tuned / ours |");
-    println!("|---|---|---|---|---|---|---|---|");
+    println!("| about, bytes | findings | ours, ns | Rust, ns | tuned Rust, ns | Rust / ours | tuned / ours |");
+    println!("|---|---|---|---|---|---|---|");
     for (size, sheets) in SIZES.iter().zip(&sizes) {
-        let findings = sheets.iter().map(|(_, findings)| findings).sum();
+        let findings = sheets.iter().map(|(_, findings)| findings).sum::<usize>() / sheets.len();
         let sheets: Vec<&[u8]> = sheets.iter().map(|(bytes, _)| bytes.as_slice()).collect();
-        show(&format!("{SHEETS} of about {size} bytes"), &sheets, findings, jobs.times(&sheets));
+        let [ours, plain, tuned] = jobs.times(&sheets);
+        println!("| {size} | {findings} | {ours:.0} | {plain:.0} | {tuned:.0} | {} | {} |", ratio(plain, ours), ratio(tuned, ours));
     }
+    println!("\n| at 1, 2, 4 and 8 KB | ours, µs | Rust, µs | tuned Rust, µs | Rust / ours | tuned / ours |");
+    println!("|---|---|---|---|---|---|");
     for family in &FAMILIES {
-        for kilobytes in KILOBYTES {
-            let bytes = family.sheet(kilobytes);
-            let findings = jobs.compare(&bytes).expect("an accepted sheet");
-            let sheets = vec![bytes.as_slice(); TURN / bytes.len()];
-            show(&format!("{}, {kilobytes} KB", family.name), &sheets, findings * sheets.len(), jobs.times(&sheets));
-        }
+        println!("| {} | {} |", family.name, growth(&mut jobs, family));
     }
 }
 
-fn show(what: &str, sheets: &[&[u8]], findings: usize, [ours, plain, tuned]: [f64; 3]) {
-    let mean = |sum: usize| (sum + sheets.len() / 2) / sheets.len();
-    let bytes = mean(sheets.iter().map(|bytes| bytes.len()).sum());
-    println!("| {what} | {bytes} | {} | {ours:.0} | {plain:.0} | {tuned:.0} | {:.1} | {:.1} |", mean(findings), plain / ours, tuned / ours);
+/// The times of a family's sheets and their ratios, the four sizes in each column.
+fn growth(jobs: &mut Jobs, family: &Family) -> String {
+    let times = KILOBYTES.map(|kilobytes| {
+        let bytes = family.sheet(kilobytes);
+        jobs.compare(&bytes).expect("an accepted sheet");
+        jobs.times(&vec![bytes.as_slice(); TURN / bytes.len()])
+    });
+    let micro = |job: usize| times.map(|times| format!("{:.1}", times[job] / 1000.0)).join(" ");
+    let ratios = |job: usize| times.map(|times| ratio(times[job], times[0])).join(" ");
+    [micro(0), micro(1), micro(2), ratios(1), ratios(2)].join(" | ")
+}
+
+/// With as many digits as tell something.
+fn ratio(theirs: f64, ours: f64) -> String {
+    let ratio = theirs / ours;
+    if ratio < 0.995 { format!("{ratio:.2}") } else { format!("{ratio:.1}") }
 }
