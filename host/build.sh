@@ -110,7 +110,7 @@ rust_program() {
 }
 
 archive() {
-    made=$host/../target/staticlib/lib$1.a
-    if [ -f "$made" ] && [ -z "$(find "$host/../crates" -name '*.rt' -newer "$made" | head -n 1)" ]; then return; fi
+    library=$host/../target/staticlib/lib$1.a
+    if [ -f "$library" ] && [ -z "$(find "$host/../crates" -name '*.rt' -newer "$library" | head -n 1)" ]; then return; fi
     (cd "$host/.." && rt staticlib "$1" >&2)
 }

@@ -41,8 +41,8 @@ pub const BROKEN: [(&str, Listing); 17] = [
         answer
     }),
     ("writes a megabyte past the page", |sheet, page, warnings| {
-        if page.as_ptr().addr() % 4096 == 0 {
-            flip(page.as_mut_ptr().wrapping_add(1 << 20));
+        if page.as_ptr().addr() % 4096 == 0 && page.len() % 4096 != 0 {
+            put(page.as_mut_ptr().wrapping_add(1 << 20), 0);
         }
         ours::answer(sheet, page, warnings)
     }),
