@@ -1,6 +1,7 @@
 //! Times the C function and the Rust's whole job, plain and tuned, on the same sheets in one run, and prints a table; see README.md.
 use generator::worst::{FAMILIES, Family, KILOBYTES};
 use generator::{Random, one};
+use std::collections::HashSet;
 use std::hint::black_box;
 use theirs::{lists, sheet, tuned};
 
@@ -10,8 +11,9 @@ const SIZES: [usize; 8] = [100, 200, 400, 800, 1600, 3000, 6500, 8192];
 const SHEETS: usize = 4096;
 /// Bytes of the sheets on which the three jobs take turns.
 const TURN: usize = 1 << 18;
-/// How often each sheet is gone through; of each turn the least time counts.
+/// How often each turn is timed, of which the least counts: with different sheets, and with one that is repeated.
 const ROUNDS: usize = 7;
+const REPEATED: usize = 21;
 
 // Linux's.
 const THREAD_TIME: i32 = 3;
@@ -65,10 +67,10 @@ impl Jobs {
     }
 
     /// Nanoseconds a sheet, the mean over all of them: ours, the Rust's and the tuned Rust's.
-    fn times(&mut self, sheets: &[&[u8]]) -> [f64; 3] {
+    fn times(&mut self, sheets: &[&[u8]], rounds: usize) -> [f64; 3] {
         let turns: Vec<&[&[u8]]> = sheets.chunks(TURN / sheets[0].len()).collect();
         let mut least = vec![[f64::INFINITY; 3]; turns.len()];
-        for _ in 0..ROUNDS {
+        for _ in 0..rounds {
             for (turn, least) in turns.iter().zip(&mut least) {
                 black_box(turn.iter().flat_map(|bytes| bytes.iter()).fold(0u8, |sum, byte| sum ^ byte));
                 let times = [time(turn, |bytes| self.ours(bytes).is_ok()), time(turn, Self::plain), time(turn, Self::tuned)];
@@ -87,33 +89,55 @@ fn time<T>(sheets: &[&[u8]], mut job: impl FnMut(&[u8]) -> T) -> f64 {
     thread_time() - begin
 }
 
-/// Accepted sheets of seed 1 that have about each size, the same ones in every run, with their findings.
-fn by_size(jobs: &mut Jobs) -> [Vec<(Vec<u8>, usize)>; 8] {
-    let mut found = SIZES.map(|_| Vec::new());
+/// Sheets one after the other, so that the Rust's trees have the heap to themselves.
+#[derive(Default)]
+struct Row {
+    bytes: Vec<u8>,
+    ends: Vec<usize>,
+    findings: usize,
+}
+
+impl Row {
+    fn push(&mut self, bytes: &[u8], findings: usize) {
+        self.bytes.extend(bytes);
+        self.ends.push(self.bytes.len());
+        self.findings += findings;
+    }
+
+    fn sheets(&self) -> Vec<&[u8]> {
+        let begins = std::iter::once(&0).chain(&self.ends);
+        begins.zip(&self.ends).map(|(begin, end)| &self.bytes[*begin..*end]).collect()
+    }
+}
+
+/// Accepted sheets of seed 1 that have about each size, the same ones in every run.
+fn by_size(jobs: &mut Jobs) -> [Row; 8] {
+    let mut rows = SIZES.map(|_| Row::default());
     let mut random = Random::new(1);
     let mut drawn = 0;
-    while found.iter().any(|sheets| sheets.len() < SHEETS) {
+    while rows.iter().any(|row| row.ends.len() < SHEETS) {
         let bytes = one(&mut random);
         drawn += 1;
         let findings = jobs.compare(&bytes);
-        let fits = SIZES.iter().zip(&mut found).find(|(size, sheets)| sheets.len() < SHEETS && bytes.len().abs_diff(**size) * 12 <= **size);
-        if let (Some((_, sheets)), Some(findings)) = (fits, findings) {
-            sheets.push((bytes, findings));
+        let fits = SIZES.iter().zip(&mut rows).find(|(size, row)| row.ends.len() < SHEETS && bytes.len().abs_diff(**size) * 12 <= **size);
+        if let (Some((_, row)), Some(findings)) = (fits, findings) {
+            row.push(&bytes, findings);
         }
     }
-    println!("The three answers are equal on the first {drawn} sheets of seed 1, from which these were taken.\n");
-    found
+    println!("The three answers are equal on all {drawn} sheets of seed 1 that were drawn to get {SHEETS} of each size.\n");
+    rows
 }
 
 fn main() {
     let mut jobs = Jobs { page: vec![0; 1 << 21] };
-    let sizes = by_size(&mut jobs);
+    let rows = by_size(&mut jobs);
     println!("| about, bytes | findings | ours, ns | Rust, ns | tuned Rust, ns | Rust / ours | tuned / ours |");
     println!("|---|---|---|---|---|---|---|");
-    for (size, sheets) in SIZES.iter().zip(&sizes) {
-        let findings = sheets.iter().map(|(_, findings)| findings).sum::<usize>() / sheets.len();
-        let sheets: Vec<&[u8]> = sheets.iter().map(|(bytes, _)| bytes.as_slice()).collect();
-        let [ours, plain, tuned] = jobs.times(&sheets);
+    for (size, row) in SIZES.iter().zip(&rows) {
+        let sheets = row.sheets();
+        assert!(sheets.iter().collect::<HashSet<_>>().len() == SHEETS, "no two sheets are equal");
+        let [ours, plain, tuned] = jobs.times(&sheets, ROUNDS);
+        let findings = row.findings / SHEETS;
         println!("| {size} | {findings} | {ours:.0} | {plain:.0} | {tuned:.0} | {} | {} |", ratio(plain, ours), ratio(tuned, ours));
     }
     println!("\n| at 1, 2, 4 and 8 KB | ours, µs | Rust, µs | tuned Rust, µs | Rust / ours | tuned / ours |");
@@ -128,7 +152,7 @@ fn growth(jobs: &mut Jobs, family: &Family) -> String {
     let times = KILOBYTES.map(|kilobytes| {
         let bytes = family.sheet(kilobytes);
         jobs.compare(&bytes).expect("an accepted sheet");
-        jobs.times(&vec![bytes.as_slice(); TURN / bytes.len()])
+        jobs.times(&vec![bytes.as_slice(); TURN / bytes.len()], REPEATED)
     });
     let micro = |job: usize| times.map(|times| format!("{:.1}", times[job] / 1000.0)).join(" ");
     let ratios = |job: usize| times.map(|times| ratio(times[job], times[0])).join(" ");
