@@ -2,10 +2,19 @@
 #   rust_options "$@"      takes --sources DIR and --crates DIR off the arguments; the others are left in $rest
 #   rust_library           the Rust's four files and the stand-ins, compiled into target/host
 #   rust_program NAME ..   a program of src/, linked with some archives, compiled into target/host
+#   rust_timed             before these two: optimized as far as rustc can, into target/bench
 #   archive CRATE          proves a crate and writes its archive, if it isn't there or code is newer
 out=$host/../target/host
 sources=$host/../../shared
 crates=
+flags=
+link_flags=
+
+rust_timed() {
+    out=$host/../target/bench
+    flags="-C codegen-units=1 --cfg timed"
+    link_flags="-C codegen-units=1 -C lto=fat"
+}
 
 rust_options() {
     rest=
@@ -38,7 +47,7 @@ rust() {
         shift
         set -- "$@" --extern "$used"
     done
-    rustc --edition 2024 -O --cap-lints allow --crate-type rlib --crate-name "$name" --out-dir "$out" -L "$out" "$@" "$file"
+    rustc --edition 2024 -O $flags --cap-lints allow --crate-type rlib --crate-name "$name" --out-dir "$out" -L "$out" "$@" "$file"
 }
 
 # The real indexmap from a folder with the sources of indexmap 1 and hashbrown, or its stand-in.
@@ -47,8 +56,8 @@ indexmap() {
         rust indexmap "$out/from/indexmap.rs"
         return
     fi
-    rustc --edition 2021 -O --cap-lints allow --crate-type rlib --crate-name hashbrown --out-dir "$out" --cfg 'feature="raw"' "$crates"/hashbrown-*/src/lib.rs
-    rustc --edition 2021 -O --cap-lints allow --crate-type rlib --crate-name indexmap --out-dir "$out" -L "$out" --cfg has_std --extern "hashbrown=$out/libhashbrown.rlib" "$crates"/indexmap-*/src/lib.rs
+    rustc --edition 2021 -O $flags --cap-lints allow --crate-type rlib --crate-name hashbrown --out-dir "$out" --cfg 'feature="raw"' "$crates"/hashbrown-*/src/lib.rs
+    rustc --edition 2021 -O $flags --cap-lints allow --crate-type rlib --crate-name indexmap --out-dir "$out" -L "$out" --cfg has_std --extern "hashbrown=$out/libhashbrown.rlib" "$crates"/indexmap-*/src/lib.rs
 }
 
 rust_library() {
@@ -96,12 +105,12 @@ rust_program() {
         shift
         set -- "$@" -C "link-arg=$archive"
     done
-    rustc --edition 2024 -O --crate-name "$name" -o "$out/$name" -L "$out" --extern generator --extern theirs --extern ours \
+    rustc --edition 2024 -O $link_flags --crate-name "$name" -o "$out/$name" -L "$out" --extern generator --extern theirs --extern ours \
         --extern cyrs_hir "$@" "$out/from/src/$name.rs"
 }
 
 archive() {
-    made=$host/../target/staticlib/lib$1.a
-    if [ -f "$made" ] && [ -z "$(find "$host/../crates" -name '*.rt' -newer "$made" | head -n 1)" ]; then return; fi
+    library=$host/../target/staticlib/lib$1.a
+    if [ -f "$library" ] && [ -z "$(find "$host/../crates" -name '*.rt' -newer "$library" | head -n 1)" ]; then return; fi
     (cd "$host/.." && rt staticlib "$1" >&2)
 }

@@ -1,8 +1,10 @@
 #!/usr/bin/env python3
 """Sheets as text, so that nobody has to count words; docs/TEXT.md has the form.
 
-    tools/sheet.py TEXT > SHEET             the sheet that a text describes, always an accepted one; else an error with its line
+    tools/sheet.py TEXT > SHEET             the sheet that a text describes, always an accepted one
     tools/sheet.py --text SHEET > TEXT      the text of an accepted sheet
+
+An error is one line, with the file and in a text the line number; the exit status is then 2, and nothing is written.
 """
 import json
 import re
@@ -81,10 +83,12 @@ class Parser:
 
     def term(self, nested):
         kind, text, line = self.take()
-        if kind == "number":
-            return Term(line, number=int(text))
-        if kind == "span":
-            return Term(line, span=tuple(map(int, text.split(".."))))
+        if kind in ("number", "span"):
+            numbers = text.split("..")
+            if max(map(len, numbers)) > 40:
+                raise Bad(line, "a number of %d digits" % max(map(len, numbers)))
+            numbers = tuple(map(int, numbers))
+            return Term(line, span=numbers) if kind == "span" else Term(line, number=numbers[0])
         if kind == "quoted":
             try:
                 return Term(line, quoted=json.loads(text))
@@ -546,24 +550,30 @@ def text_of(sheet):
     raise NoSheet
 
 
+def fail(message):
+    print("".join(c if c.isprintable() else repr(c)[1:-1] for c in message), file=sys.stderr)
+    sys.exit(2)
+
+
 def main():
     sys.setrecursionlimit(20000)
     args = sys.argv[1:]
     if len(args) not in (1, 2) or len(args) == 2 and args[0] != "--text" or args[-1].startswith("-"):
-        sys.exit(__doc__.strip())
+        fail("usage: tools/sheet.py TEXT > SHEET, or tools/sheet.py --text SHEET > TEXT")
+    name = args[-1]
     try:
-        with open(args[-1], "rb") as file:
+        with open(name, "rb") as file:
             given = file.read()
     except OSError as e:
-        sys.exit("%s: %s" % (args[-1], e.strerror))
+        fail("%s: %s" % (name, e.strerror))
     try:
         made = text_of(given).encode() if len(args) == 2 else sheet_of(given.decode())
     except Bad as e:
-        sys.exit("%s:%d: %s" % (args[-1], *e.args))
+        fail("%s:%d: %s" % (name, *e.args))
     except (NoSheet, RecursionError):
-        sys.exit("%s: no accepted sheet" % args[-1])
+        fail("%s: no accepted sheet" % name)
     except UnicodeDecodeError as e:
-        sys.exit("%s:%d: no UTF-8" % (args[-1], given[:e.start].count(b"\n") + 1))
+        fail("%s:%d: no UTF-8" % (name, given[:e.start].count(b"\n") + 1))
     sys.stdout.buffer.write(made)
 
 

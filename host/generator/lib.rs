@@ -5,6 +5,7 @@ mod noise;
 mod random;
 mod sheet;
 mod tables;
+pub mod worst;
 
 pub use damage::to_bytes;
 pub use noise::noise;

@@ -119,7 +119,7 @@ fn variable(random: &mut Random, names: &[String], made: usize) -> u32 {
     }
 }
 
-fn use_id(name: &str) -> u32 {
+pub fn use_id(name: &str) -> u32 {
     let hash = name.bytes().fold(2_166_136_261_u32, |h, byte| h.wrapping_mul(16_777_619) ^ u32::from(byte));
     u32::MAX - (hash & 0x3FFF_FFFF)
 }

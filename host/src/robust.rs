@@ -1,7 +1,9 @@
 //! Lends damaged sheets to the C function, sheet and page each between bytes that may not be touched, and looks at what a call altered;
 //! see README.md.
+mod broken;
 mod guarded;
 
+use broken::{BROKEN, Listing};
 use generator::{Random, damaged, noise};
 use guarded::{Guarded, Place};
 use std::ops::Range;
@@ -35,15 +37,26 @@ extern "C" fn stopped(_: i32) {
 }
 
 fn main() {
-    let args: Option<Vec<u64>> = std::env::args().skip(1).map(|arg| arg.parse().ok()).collect();
-    let Some(&[count, seed]) = args.as_deref() else {
-        eprintln!("usage: host/robust [--sources DIR] [--crates DIR] [COUNT [SEED]]");
-        std::process::exit(2);
+    let args: Vec<String> = std::env::args().skip(1).collect();
+    let numbers: Vec<u64> = args.iter().filter_map(|arg| arg.parse().ok()).collect();
+    let right = match args.as_slice() {
+        [only] if only == "--selftest" => selftest(),
+        [_, _] if numbers.len() == 2 => run(numbers[0], numbers[1], ours::answer),
+        [_, _, _] if numbers.len() == 3 => run(numbers[0], numbers[1], BROKEN[numbers[2] as usize].1),
+        _ => {
+            eprintln!("usage: host/robust [--sources DIR] [--crates DIR] [COUNT [SEED] | --selftest]");
+            std::process::exit(2);
+        }
     };
+    std::process::exit(i32::from(!right));
+}
+
+/// Lends so many damaged sheets of a seed to a function; whether it did nothing wrong.
+fn run(count: u64, seed: u64, listing: Listing) -> bool {
     // Safety: the handler prints and ends; while the C function runs, no lock is held.
     unsafe { signal(SEGMENTATION_FAULT, stopped) };
     let mut random = Random::new(seed);
-    let mut run = Run::new(!seed);
+    let mut run = Run::new(!seed, listing);
     for number in 0..count {
         NUMBER.store(number, Relaxed);
         run.lend(&damaged(&mut random));
@@ -53,9 +66,22 @@ fn main() {
     }
     run.look_at_all();
     run.tally.report();
-    if run.tally.faults() > 0 {
-        std::process::exit(1);
+    run.tally.faults() == 0
+}
+
+/// Runs each broken stand-in, in a process of its own since some are stopped; whether all of them are found out.
+fn selftest() -> bool {
+    let this = std::env::current_exe().expect("this program's path");
+    let mut missed = 0;
+    for (number, (what, _)) in BROKEN.iter().enumerate() {
+        let ran = std::process::Command::new(&this).args(["1000", "1", &number.to_string()]).output().expect("this program again");
+        let text = String::from_utf8_lossy(&ran.stdout);
+        let found = ran.status.code() == Some(1) && text.starts_with("at sheet ");
+        missed += usize::from(!found);
+        println!("{what}: {}", if found { text.lines().next().unwrap_or_default() } else { "NOT FOUND OUT" });
     }
+    println!("{} broken stand-ins, {missed} not found out", BROKEN.len());
+    missed == 0
 }
 
 #[derive(Default)]
@@ -117,16 +143,17 @@ struct Lent<'a> {
 struct Run {
     /// For places and pages; the sheets don't depend on it.
     random: Random,
+    listing: Listing,
     sheet: Guarded,
     page: Guarded,
     tally: Tally,
 }
 
 impl Run {
-    fn new(seed: u64) -> Self {
+    fn new(seed: u64, listing: Listing) -> Self {
         let mut random = Random::new(seed);
         let (sheet, page) = (Guarded::new(SHEET, &mut random), Guarded::new(PAGE, &mut random));
-        Self { random, sheet, page, tally: Tally::default() }
+        Self { random, listing, sheet, page, tally: Tally::default() }
     }
 
     fn lend(&mut self, bytes: &[u8]) {
@@ -229,7 +256,7 @@ impl Run {
     /// One call with a page of so many bytes. Its answer, a text or a refusal, is as it should be, and all else is as it was.
     fn call(&mut self, lent: &Lent, room: usize, mut is: impl FnMut(Result<&[u8], u32>) -> bool) -> Result<(), Fault> {
         let page = self.page.part(lent.place, room, &mut self.random);
-        let answer = ours::answer(&self.sheet.bytes[lent.part.clone()], &mut self.page.bytes[page.clone()], lent.warnings);
+        let answer = (self.listing)(&self.sheet.bytes[lent.part.clone()], &mut self.page.bytes[page.clone()], lent.warnings);
         self.tally.answer(answer);
         let text = match answer.checked_sub(256) {
             Some(length) => self.page.bytes[page.clone()].get(..length as usize),

@@ -1,5 +1,5 @@
 //! Stands in for smol_str: a text, in place up to 22 bytes and else shared, as there; it also has the number of its making, by which
-//! bindings of all scopes can be put in order.
+//! bindings of all scopes can be put in order. Where times are taken (--cfg timed) it has none, and so the size that it has there.
 use std::borrow::Borrow;
 use std::cell::Cell;
 use std::fmt;
@@ -18,14 +18,23 @@ enum Text {
 
 pub struct SmolStr {
     text: Text,
-    made: u64,
+    made: Made,
 }
 
-fn number() -> u64 {
+#[cfg(not(timed))]
+type Made = u64;
+#[cfg(timed)]
+type Made = ();
+
+#[cfg(not(timed))]
+fn number() -> Made {
     let made = MADE.get();
     MADE.set(made + 1);
     made
 }
+
+#[cfg(timed)]
+fn number() -> Made {}
 
 impl SmolStr {
     pub fn new(text: impl AsRef<str>) -> Self {
@@ -46,7 +55,7 @@ impl SmolStr {
         }
     }
 
-    pub fn made(&self) -> u64 {
+    pub fn made(&self) -> Made {
         self.made
     }
 }

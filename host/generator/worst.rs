@@ -1,0 +1,187 @@
+//! Sheets that are hard on a checker: full of one thing. Each family has sheets of about 1, 2, 4 and 8 KB, with an eighth, a quarter,
+//! a half or all of what its name says.
+use crate::damage::to_bytes;
+use crate::sheet::Sheet;
+use crate::tables::{name_words, use_id};
+use std::collections::HashMap;
+
+pub struct Family {
+    pub name: &'static str,
+    make: fn(Share) -> Vec<u8>,
+}
+
+pub const FAMILIES: [Family; 12] = [
+    Family { name: "203 rows, a WITH of 334 Vars", make: with_vars },
+    Family { name: "203 rows, 320 Vars under `+`", make: sums },
+    Family { name: "200 rows, 160 elements", make: elements },
+    Family { name: "200 rows, 500 Vars", make: vars },
+    Family { name: "400 rows", make: rows },
+    Family { name: "670 names with equal use ids", make: equal_ids },
+    Family { name: "336 yields, 505 uses of another name", make: unseen },
+    Family { name: "336 yields, 505 uses of the first", make: seen },
+    Family { name: "168 yields, a WITH of 330 uses of the first", make: with_uses },
+    Family { name: "400 yields", make: yields },
+    Family { name: "1,000 names", make: names },
+    Family { name: "280 properties", make: properties },
+];
+
+/// The kilobytes that the sheets of a family have.
+pub const KILOBYTES: [u32; 4] = [1, 2, 4, 8];
+
+impl Family {
+    /// Its sheet of about so many kilobytes.
+    pub fn sheet(&self, kilobytes: u32) -> Vec<u8> {
+        (self.make)(Share(kilobytes))
+    }
+}
+
+/// Eighths of what a full sheet has.
+#[derive(Clone, Copy)]
+struct Share(u32);
+
+impl Share {
+    fn of(self, count: u32) -> u32 {
+        count * self.0 / 8
+    }
+}
+
+/// A sheet of names, bindings and a head with so many clauses.
+fn sheet(names: &[String], rows: Vec<u32>, head: Vec<u32>, clauses: u32) -> Vec<u8> {
+    let counts = [names.len() as u32, rows.len() as u32 / 5, clauses, 0];
+    let sections = [names.iter().flat_map(|name| name_words(name)).collect(), rows, head, Vec::new()];
+    to_bytes(&Sheet { sections, counts, span: [0, 9] }.words())
+}
+
+fn numbered(count: u32) -> Vec<String> {
+    (0..count).map(|n| format!("{n:x}")).collect()
+}
+
+const NODE: u32 = 1;
+const VALUE: u32 = 4;
+
+/// Bindings of the first name, of a kind, with the variables from 0.
+fn bound(count: u32, kind: u32) -> Vec<u32> {
+    (0..count).flat_map(|n| [n, 0, kind, 0, 0]).collect()
+}
+
+/// A Where with a list of so many expressions.
+fn list(count: u32, one: impl Fn(u32) -> Vec<u32>) -> Vec<u32> {
+    [2, 0, 9, 12, count].into_iter().chain((0..count).flat_map(one)).collect()
+}
+
+/// A Where with a number.
+const NOTHING: [u32; 4] = [2, 0, 9, 3];
+
+/// Each Var is the last row's.
+fn with_vars(share: Share) -> Vec<u8> {
+    let (rows, vars) = (share.of(203), share.of(334));
+    let mut head = vec![3, 0, 9, vars];
+    head.extend((0..vars).flat_map(|_| [0, 7, rows - 1]));
+    head.push(0);
+    sheet(&numbered(1), bound(rows, VALUE), head, 1)
+}
+
+fn sums(share: Share) -> Vec<u8> {
+    let rows = share.of(203);
+    sheet(&numbered(1), bound(rows, VALUE), list(share.of(160), |_| vec![15, 0, 7, rows - 1, 7, rows - 1]), 1)
+}
+
+/// Nodes of a Match, each with the last row's variable.
+fn elements(share: Share) -> Vec<u8> {
+    let (rows, elements) = (share.of(200), share.of(160));
+    let mut head = vec![1, 0, 9, 0, 1, 0, elements];
+    head.extend((0..elements).flat_map(|_| [1, 0, 9, 1, rows - 1, 0]));
+    sheet(&numbered(1), bound(rows, NODE), head, 1)
+}
+
+fn vars(share: Share) -> Vec<u8> {
+    let rows = share.of(200);
+    sheet(&numbered(1), bound(rows, VALUE), list(share.of(500), |_| vec![7, rows - 1]), 1)
+}
+
+fn rows(share: Share) -> Vec<u8> {
+    sheet(&numbered(1), bound(share.of(400), VALUE), NOTHING.to_vec(), 1)
+}
+
+fn equal_ids(share: Share) -> Vec<u8> {
+    sheet(&names_with_equal_ids(share.of(670)), Vec::new(), NOTHING.to_vec(), 1)
+}
+
+/// A Call with so many yields, the first of one name and the others of another.
+fn call(yields: u32, first: u32, others: u32) -> Vec<u32> {
+    let mut clause = vec![11, 0, 9, 0, yields, first, 0, 0];
+    clause.extend((1..yields).flat_map(|_| [others, 0, 0]));
+    clause
+}
+
+fn unseen(share: Share) -> Vec<u8> {
+    let uses = list(share.of(505), |_| vec![8, 1]);
+    sheet(&numbered(2), Vec::new(), [call(share.of(336), 0, 0), uses].concat(), 2)
+}
+
+fn seen(share: Share) -> Vec<u8> {
+    let uses = list(share.of(505), |_| vec![8, 1]);
+    sheet(&numbered(2), Vec::new(), [call(share.of(336), 1, 0), uses].concat(), 2)
+}
+
+/// With rows that are not looked at, so that the sheet is full.
+fn with_uses(share: Share) -> Vec<u8> {
+    let uses = share.of(330);
+    let mut head = call(share.of(168), 1, 0);
+    head.extend([3, 0, 9, uses]);
+    head.extend((0..uses).flat_map(|_| [0, 8, 1]));
+    head.push(0);
+    sheet(&numbered(2), bound(share.of(100), VALUE), head, 2)
+}
+
+/// Yields of a name each.
+fn yields(share: Share) -> Vec<u8> {
+    let count = share.of(400);
+    let head = [11, 0, 9, 0, count].into_iter().chain((0..count).flat_map(|n| [n, 0, 0])).collect();
+    sheet(&numbered(count), Vec::new(), head, 1)
+}
+
+/// Names, of which the last is used.
+fn names(share: Share) -> Vec<u8> {
+    let count = share.of(1000);
+    sheet(&numbered(count), Vec::new(), vec![2, 0, 9, 8, count - 1], 1)
+}
+
+/// Nodes of a Match, each with a Var as its property.
+fn properties(share: Share) -> Vec<u8> {
+    let elements = share.of(280);
+    let mut head = vec![1, 0, 9, 0, 1, 0, elements];
+    head.extend((0..elements).flat_map(|_| [1, 0, 9, 0, 1, 7, 0]));
+    sheet(&numbered(1), bound(1, NODE), head, 1)
+}
+
+const LETTERS: &[u8] = b"abcdefghijklmnopqrstuvwxyzABCDEFGHIJKLMNOPQRSTUVWXYZ0123456789_";
+
+/// The letters that a number stands for.
+fn letters<const N: usize>(number: usize) -> [u8; N] {
+    std::array::from_fn(|at| LETTERS[number / LETTERS.len().pow(at as u32) % LETTERS.len()])
+}
+
+/// Names of eight letters. A use id has the lower 30 bits of FNV-1. From the four hashes where these are 0, three letters are gone back by
+/// the inverse of its prime; five letters that lead to where such an end begins make a name with it.
+fn names_with_equal_ids(count: u32) -> Vec<String> {
+    const FIRST: u32 = 2_166_136_261;
+    const PRIME: u32 = 16_777_619;
+    const INVERSE: u32 = 899_433_627;
+    let mut ends = HashMap::new();
+    for number in 0..LETTERS.len().pow(3) {
+        let end: [u8; 3] = letters(number);
+        for upper in 0..4 {
+            let hash = end.iter().rev().fold(upper << 30, |hash, letter| (hash ^ u32::from(*letter)).wrapping_mul(INVERSE));
+            ends.insert(hash, end);
+        }
+    }
+    let whole = |number| {
+        let front: [u8; 5] = letters(number);
+        let hash = front.iter().fold(FIRST, |hash, letter| hash.wrapping_mul(PRIME) ^ u32::from(*letter));
+        Some(front.iter().chain(ends.get(&hash)?).map(|letter| char::from(*letter)).collect())
+    };
+    let names: Vec<String> = (0..).filter_map(whole).take(count as usize).collect();
+    assert!(names.iter().all(|name| use_id(name) == use_id(&names[0])), "equal use ids");
+    names
+}
