@@ -1,6 +1,4 @@
 // A sheet on standard input: its listing and its lists, warnings on, or its refusal. More than 8,192 bytes are refused 1.
 fn main() {
-    let mut room = [0u8; 8193];
-    let n = show::read_sheet(&mut room);
-    show::show(&room[0..n]);
+    show::show_input(true);
 }

@@ -7,11 +7,6 @@ use lists::show_lists;
 use lists::text;
 use page::print_sheet;
 
-// Reads a sheet from standard input; how long it is. Room for one byte more than a sheet may have: a longer input is then too long.
-pub fn read_sheet(room: &mut [u8; 8193]) -> usize {
-    io::read_full(STDIN_FILENO, room)
-}
-
 // The listing of a sheet, warnings on, or `refused` and the refusal's number.
 pub fn show_listing(s: &[u8]) {
     let mut page = [0u8; 65536];
@@ -23,4 +18,16 @@ pub fn show_listing(s: &[u8]) {
 pub fn show(s: &[u8]) {
     show_listing(s);
     show_lists(s);
+}
+
+// The sheet on standard input: its listing, and its lists too if they are asked for. There is room for one byte more than a sheet may
+// have, so that a longer input is too long.
+pub fn show_input(lists: bool) {
+    let mut room = [0u8; 8193];
+    let n = io::read_full(STDIN_FILENO, &mut room);
+    if lists {
+        show(&room[0..n]);
+        return;
+    }
+    show_listing(&room[0..n]);
 }
