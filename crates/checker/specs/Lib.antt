@@ -11,4 +11,5 @@ pub mod Uses
 pub mod Filled
 pub mod Adding
 pub mod Checked
+pub mod Calls
 pub mod Accepted
