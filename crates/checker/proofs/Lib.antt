@@ -14,6 +14,7 @@ pub mod Mets
 pub mod Inners
 pub mod Agrees
 pub mod ApartSheets
+pub mod Agreeing
 pub mod Calls
 pub mod Sizes
 pub mod Codes
