@@ -24,7 +24,7 @@ use Rattle.tables.specs.Name.{allZero, nameBody, readName}
 use Rattle.tables.specs.Row.{row, rowId, readRow}
 use Rattle.sheet.specs.Trailer.{sized, inPlace, placesOf}
 use Rattle.sheet.specs.Statement.{Statement}
-use Rattle.sheet.specs.Read.{accepted, readNames, readRows, readClauses, locate, readSections, readSheet}
+use Rattle.sheet.specs.Read.{readNames, readRows, readClauses, locate, readSections, readSheet}
 use Rattle.sheet.specs.Write.{bytesOf}
 use Rattle.resolve.specs.Log.{logs}
 use Rattle.resolve.specs.Resolve.{walk}

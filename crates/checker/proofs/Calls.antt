@@ -1,5 +1,5 @@
 -- Demand 3 on what two check calls leave: entries that are written as words read back, so each call's lists are the definition's, of which
--- `apart-sheets` compares the parts; and the part's findings stand in the list where `places` says.
+-- `apart-sheets` compares the parts; and the part's findings stand in the list where `in-lists` says.
 use Prim.Native.Nat.{ℕ, _-_}
 use native.Mathlib.Omega.{arith}
 use mathlib.Core.Path.{_≡_, refl, _∙_, ap, ap₂}
@@ -20,8 +20,8 @@ use Rattle.resolve.specs.Resolve.{log}
 use Rattle.kinds.specs.Walk.{findingWords, findingOf}
 use Rattle.checker.specs.Lists
 use Rattle.checker.specs.Site.{Site, Stands, newRoot, partLog}
-use Rattle.checker.specs.With.{Same, partFindings}
-use Rattle.checker.specs.Places.{kindsBefore, kindsAfter, Places}
+use Rattle.checker.specs.With.{partFindings}
+use Rattle.checker.specs.InLists.{kindsBefore, kindsAfter}
 use Rattle.checker.specs.Sheets.{AgreeSheets}
 use Rattle.checker.specs.Filled.{filled, scopeWords, bindingWords, carriedWords, recordedWords, withScopes, withBindings, withCarried, withRecorded, withFindings}
 use Rattle.checker.specs.Checked.{Lent, roomy, countsOf, filledBy, answer, left, answerIn, leftIn}
@@ -29,7 +29,7 @@ use Rattle.checker.specs.Calls.{Call, writeOf, entriesIn, listsOf, piece
 use Rattle.checker.specs.declared.Counts.{Counts}
 use Rattle.checker.specs.declared.Checked.the-variants as checked
 use Rattle.checker.proofs.Views.{pick-append}
-use Rattle.checker.proofs.Places.{places}
+use Rattle.checker.proofs.InLists.{in-lists}
 use Rattle.checker.proofs.ApartSheets.{apart-sheets}
 
 -- Entries at the front of words read back, if each does.
@@ -126,7 +126,7 @@ pieces-taken a b c d =
 part-found : (warns : Bool) (s : Statement) (p : Site) → Stands s p → partIn warns s p (Lists.findings warns s) ≡ partFindings warns s p
 unfolding partIn findsIn
 part-found warns s p q =
-    let h = places warns s p q in
+    let h = in-lists warns s p q in
     let n : length (findsIn (log warns s)) - length (findsIn (partLog warns s p)) ≡ length (findsIn (h .before)) = rw (h .log, pick-append findOf (h .before) (partLog warns s p)) (simp length-append (omega arith)) in
     rw (n, h .findings, h .found) (pieces-taken (findsIn (h .before)) (findsIn (partLog warns s p)) (kindsBefore warns s p) (kindsAfter warns s p))
 

@@ -5,7 +5,7 @@ pub mod Within
 pub mod Split
 pub mod Entries
 pub mod Placed
-pub mod Places
+pub mod InLists
 pub mod Apart
 pub mod Looks
 pub mod Shows

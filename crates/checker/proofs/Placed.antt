@@ -1,24 +1,23 @@
 -- Where the WITH and its part stand in the five lists: the numbers, pairs and findings that Apart names are the lists' own.
 use Prim.Native.Nat.{ℕ, suc, _+_, _≤_, _<_}
 use native.Mathlib.Omega.{arith}
-use mathlib.Core.Path.{_≡_, refl, sym, _∙_, ap}
+use mathlib.Core.Path.{_≡_, refl, _∙_, ap}
 use mathlib.Core.Bool.{Bool, true, false, cond}
 use mathlib.Core.List.{List, [], _∷_, _++_, map, append-assoc, append-nil, List·Memᴰ}
-use mathlib.Core.Option.{none, some}
+use mathlib.Core.Option.{none}
 use lib.ListN.{drop}
 use lib.Seq.{drop-at}
 use lib.Dec.{eqb, eqb-refl}
-use Rattle.scope.specs.Graph.{Scope, scope, Carried, carried}
+use Rattle.scope.specs.Graph.{scope, Carried, carried}
 use Rattle.checker.specs.Lists
-use Rattle.clauses.specs.Tree.{Clause, with', exprs}
+use Rattle.clauses.specs.Tree.{exprs}
 use Rattle.sheet.specs.Statement.{Statement}
-use Rattle.resolve.specs.Log.{Finding, Answer, write, answersIn, bindsIn, bound, Event, open', bind, carry, answer, find, scopesIn, carriesIn, carryOf, findsIn, opened, logs}
-use Rattle.resolve.specs.Resolve.{World, Seen, seen, carryAt, barrier, fresh, clausesLog, armsLog, worldOf}
-use Rattle.kinds.specs.Kinds.{kinds, kindsC}
+use Rattle.resolve.specs.Log.{Answer, write, answersIn, bindsIn, bound, Event, open', bind, carry, answer, find, scopesIn, carriesIn, carryOf, opened, logs}
+use Rattle.resolve.specs.Resolve.{World, Seen, seen, carryAt, barrier, clausesLog, armsLog, worldOf}
 use Rattle.checker.specs.Lists.{puts, answerFor, pairsAt, scopes, bindings, recorded}
 use Rattle.checker.proofs.Views.{pick-append}
 use Rattle.checker.proofs.Within.{Within, nil, cons, inside, within-join, in-open, withinEs, withinCs, withinAs}
-use Rattle.checker.specs.Site.{Cut, whole, Site, inHead, inArm, cutOf, Stands, laterArms, visAll, curAll, part, lastAt, outside, highest, upTo, headLog, base, barrierOf, newRoot, pairs, partLog}
+use Rattle.checker.specs.Site.{Cut, Site, inHead, inArm, cutOf, Stands, laterArms, visAll, curAll, lastAt, outside, highest, upTo, headLog, base, barrierOf, newRoot, pairs, partLog}
 use Rattle.checker.proofs.Split.{head-within, preLog, pre-opened, pre-within, part-within, split}
 use Rattle.checker.proofs.Entries.{bool-ext, ne→eqb, answer-pieces, lastWrite, inside-binds, puts-pieces, from-pieces}
 use Rattle.checker.specs.Compare.{from}

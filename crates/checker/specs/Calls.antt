@@ -14,8 +14,8 @@ use Rattle.kinds.specs.Walk.{findingsOf}
 use Rattle.checker.specs.Lists
 use Rattle.checker.specs.Lists.{answerFor}
 use Rattle.checker.specs.Compare.{blankScope, blankFinding, numberScope, numberEntry, from, moved}
-use Rattle.checker.specs.Site.{Site, newRoot, partLog}
-use Rattle.checker.specs.Places.{kindsAfter}
+use Rattle.checker.specs.Site.{Site, partLog}
+use Rattle.checker.specs.InLists.{kindsAfter}
 use Rattle.checker.specs.Checked.{Lent, answerIn, leftIn}
 use Rattle.checker.specs.declared.Counts.{Counts}
 use Rattle.checker.specs.declared.Checked.the-variants as checked

@@ -3,7 +3,7 @@ pub mod Room
 pub mod Compare
 pub mod Site
 pub mod With
-pub mod Places
+pub mod InLists
 pub mod Sheets
 pub mod Agree
 pub mod Fits

@@ -1,21 +1,23 @@
 -- Where a WITH and its part stand in the lists: each list is a view of the log, which is what is said before the new Root and then the
 -- part (`split`), and a view of two pieces is that of the one and then that of the other.
 use Prim.Native.Nat.{ℕ, suc}
+use native.Mathlib.Omega.{arith}
 use mathlib.Core.Path.{_≡_, refl, sym, _∙_, ap}
 use mathlib.Core.Bool.{Bool}
 use mathlib.Core.List.{List, [], _∷_, _++_, map, append-assoc, append-nil}
 use mathlib.Core.Option.{some}
+use lib.ListN.{length, length-append}
 use Rattle.scope.specs.Graph.{Scope, scope}
 use Rattle.clauses.specs.Tree.{Clause, with'}
 use Rattle.sheet.specs.Statement.{Statement}
-use Rattle.resolve.specs.Log.{findsIn, findOf, scopesIn, answersIn, answerOf, opened, logs}
+use Rattle.resolve.specs.Log.{findsIn, scopesIn, answersIn, answerOf, opened, logs}
 use Rattle.resolve.specs.Resolve.{World, Seen, seen, carryAt, barrier, fresh, worldOf}
 use Rattle.kinds.specs.Kinds.{kinds, kindsC}
 use Rattle.checker.specs.Lists
 use Rattle.checker.specs.Lists.{notes}
-use Rattle.checker.specs.Site.{Cut, whole, Site, inHead, inArm, cutOf, Stands, curAll, part, highest, base, barrierOf, pairs, partLog}
+use Rattle.checker.specs.Site.{Cut, whole, Site, inHead, inArm, cutOf, Stands, curAll, part, base, barrierOf, newRoot, partLog}
 use Rattle.checker.specs.With.{partFindings}
-use Rattle.checker.specs.Places.{kindsBefore, kindsAfter, Places}
+use Rattle.checker.specs.InLists.{kindsBefore, kindsAfter, InLists}
 use Rattle.checker.proofs.Views.{pick-append, scopes-append}
 use Rattle.checker.proofs.Split.{preLog, pre-opened, split}
 use Rattle.checker.proofs.Entries.{notes-append, answer-only}
@@ -56,6 +58,10 @@ module _ (warns : Bool) (s : Statement) where
   barrier-last : (p : Site) → scopesIn (preLog warns s p) ≡ scopesIn (lead warns s p) ++ scope 7 (some (curAll (worldOf warns s) (cutOf p .before) [] 0 (base warns s p))) (cutOf p .start) (cutOf p .stop) ∷ []
   barrier-last p = rw (lead-pre warns s p, scopes-append, barrier-scope) refl
 
+  barrier-at : (p : Site) → length (scopesIn (lead warns s p)) ≡ barrierOf warns s p
+  unfolding newRoot opened
+  barrier-at p = omega (arith, pre-opened warns s p, simp length-append at (ap length (barrier-last p)))
+
   root-first : (p : Site) → (later : List Scope) × (scopesIn (partLog warns s p) ≡ scope 1 (some (barrierOf warns s p)) (cutOf p .stop) (cutOf p .stop) ∷ later)
   unfolding barrierOf partLog part fresh logs
   root-first p = (_, refl)
@@ -64,15 +70,19 @@ module _ (warns : Bool) (s : Statement) where
   unfolding Lists.recorded answersIn
   records-noted p q = rw (split warns s p q, pick-append answerOf) (notes-append _ _ [])
 
-  pub places : (p : Site) → Stands s p → Places warns s p
+  pub in-lists : (p : Site) → Stands s p → InLists warns s p
   unfolding Lists.scopes opened
-  places p q = record {
+  in-lists p q = record {
     before = preLog warns s p;
     log = split warns s p q;
     scopes = rw (split warns s p q, scopes-append) refl;
-    number = pre-opened warns s p;
-    barrier = (scopesIn (lead warns s p), curAll (worldOf warns s) (cutOf p .before) [] 0 (base warns s p), barrier-last p);
-    root = root-first p;
+    earlier = scopesIn (lead warns s p);
+    parent = curAll (worldOf warns s) (cutOf p .before) [] 0 (base warns s p);
+    barrier = barrier-last p;
+    barrierAt = barrier-at p;
+    later = root-first p .0;
+    root = root-first p .1;
+    rootAt = pre-opened warns s p;
     bindings = bindings-pieces warns s p q;
     bound = bindings-from warns s p q;
     carried = pairs-listed warns s p q;

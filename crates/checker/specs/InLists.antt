@@ -28,15 +28,21 @@ unfoldable pub kindsAfter : Bool → Statement → Site → List Finding
 kindsAfter warns s (inHead c) = kinds (worldOf warns s) (c .after)
 kindsAfter warns s (inArm e a b c l) = []
 
-pub record Places (warns : Bool) (s : Statement) (p : Site) : Type 0 where
+-- For one WITH of a statement, at the site p.
+pub record InLists (warns : Bool) (s : Statement) (p : Site) : Type 0 where
   -- what is said up to the barrier and with it: the log is that, and then the part
   pub before : List Event
   pub log : Resolve.log warns s ≡ before ++ partLog warns s p
-  -- Scopes: those before, the last of them the WithBarrier, and then the part's, the first of them the new Root, whose parent it is
+  -- Scopes: those before, the last of them the WithBarrier, and then the part's, the first of them the new Root, its child; each of the two
+  -- stands at its number, after as many others
   pub scopes : Lists.scopes warns s ≡ scopesIn before ++ scopesIn (partLog warns s p)
-  pub number : length (scopesIn before) ≡ newRoot warns s p
-  pub barrier : (earlier : List Scope) × (parent : ℕ) × (scopesIn before ≡ earlier ++ scope withBarrier (some parent) (cutOf p .start) (cutOf p .stop) ∷ [])
-  pub root : (later : List Scope) × (scopesIn (partLog warns s p) ≡ scope rootScope (some (barrierOf warns s p)) (cutOf p .stop) (cutOf p .stop) ∷ later)
+  pub earlier : List Scope
+  pub parent : ℕ
+  pub barrier : scopesIn before ≡ earlier ++ scope withBarrier (some parent) (cutOf p .start) (cutOf p .stop) ∷ []
+  pub barrierAt : length earlier ≡ barrierOf warns s p
+  pub later : List Scope
+  pub root : scopesIn (partLog warns s p) ≡ scope rootScope (some (barrierOf warns s p)) (cutOf p .stop) (cutOf p .stop) ∷ later
+  pub rootAt : length (scopesIn before) ≡ newRoot warns s p
   -- Bindings: those of scopes before the new Root, and then those of its number and above, which the part makes
   pub bindings : Lists.bindings warns s ≡ puts (bindsIn before) [] ++ puts (bindsIn (partLog warns s p)) []
   pub bound : from (newRoot warns s p) (Lists.bindings warns s) ≡ puts (bindsIn (partLog warns s p)) []
