@@ -1,4 +1,5 @@
--- "Before and after a WITH" (document 01) on what two check calls leave: the flat words of the lent lists, read as entries.
+-- "Before and after a WITH" (document 01) on what two check calls leave: the flat words of the lent lists, read as entries. For two sheets
+-- that agree `apart-calls` says that call 1 leaves these lists, call 2 those, and the parts that are compared are the same.
 use Prim.Native.Nat.{ℕ, _-_}
 use mathlib.Core.Path.{_≡_}
 use mathlib.Core.Bool.{Bool, cond}
@@ -63,6 +64,7 @@ listsOf warns s =
 unfoldable pub pieces : (before own last : ℕ) → List Finding → List Finding
 pieces before own last fs = take own (drop before fs) ++ drop (length fs - last) fs
 
+-- the same for a statement's WITH, by how many findings its part gives
 unfoldable pub partIn : Bool → Statement → Site → List Finding → List Finding
 partIn warns s p =
     let own = length (findsIn (partLog warns s p)) in

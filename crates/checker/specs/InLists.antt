@@ -28,7 +28,7 @@ unfoldable pub kindsAfter : Bool → Statement → Site → List Finding
 kindsAfter warns s (inHead c) = kinds (worldOf warns s) (c .after)
 kindsAfter warns s (inArm e a b c l) = []
 
--- For one WITH of a statement, at the site p.
+-- For one WITH of a statement, at the site p; `in-lists` gives it for every one.
 pub record InLists (warns : Bool) (s : Statement) (p : Site) : Type 0 where
   -- what is said up to the barrier and with it: the log is that, and then the part
   pub before : List Event

@@ -113,7 +113,7 @@ module _ (s : List ℕ) (st : Statement) (e : readSheet s ≡ accepted st) where
   unfolding textFor of2007 of2008 unused pushOf sameBytes
   pushed-told (unresolved {x} i n) = says-named text.Unresolved 1001 0 0 0 0 refl (omega arith) (omega arith) (λ e. omega arith) x refl i (rw (star-same (getD (st .names) x [])) n)
   pushed-told (shadows {a} {b} {x} i) = says-named text.Shadows 1002 a b 0 0 refl (omega arith) (omega arith) (λ e. omega arith) x refl i refl
-  pushed-told (arithmetic {x} {k} i h g) = says-named text.Arithmetic 2007 0 0 1 k refl h g (λ e. omega arith) x refl i refl
+  pushed-told (arithmetic {x} {k} i h g) = says-named text.Arithmetic 2007 0 0 1 k refl (omega arith) (omega arith) (λ e. omega arith) x refl i refl
   pushed-told (property {x} i) = says-named text.PropAccess 2007 0 0 2 3 refl (omega arith) (omega arith) (λ e. omega arith) x refl i refl
   pushed-told (path {x} {k} i o) = says-named text.PathBinder 2008 0 0 1 k refl (o .0) (o .1) (o .2) x refl i refl
   pushed-told (element {a} {b} {x} {want} {k} i h g o) = element-told a b x want k i h g o

@@ -1,4 +1,4 @@
--- The findings that there are, push by push of resolve.rs and kinds.rs: which details come with a code, and a name of which table.
+-- The findings that there are, push by push of resolve.rs and kinds.rs: the span, name and details that come with each code.
 use Prim.Native.Nat.{ℕ, suc, _≤_, _<_}
 use mathlib.Core.Path.{_≡_}
 use mathlib.Core.Bool.{false}
@@ -17,6 +17,7 @@ IsType t = (boolType ≤ t) × (t ≤ kindType pathKind)
 abbrev pub IsOther : ℕ → ℕ → Type 0
 IsOther want k = (nodeKind ≤ k) × (k ≤ valueKind) × (k ≡ want → ⊥)
 
+-- of a sheet with these names
 pub data Pushed (names : List (List ℕ)) : Finding → Type 0 where
   -- "E1001 comes at each visit of an Unresolved name not visible, except `*`"
   unresolved : {x : ℕ} → x < length names → isStar (getD names x []) ≡ false → Pushed names (finding e1001 0 0 (suc x) 0 0)

@@ -27,6 +27,6 @@ pub record Told (s : List ℕ) (names : List (List ℕ)) (f : Finding) : Type 0 
   pub message : messageOf s f ≡ accepted text
   pub line : Lines.line names f ≡ frontOf f ++ (text ++ bytes "\n")
 
--- so has every finding of an accepted sheet, since it is one of the pushes
+-- so has every finding of an accepted sheet, which is one of the pushes: `all-told` proves it
 abbrev pub AllTold : Type 0
 AllTold = (warns : Bool) (s : List ℕ) (st : Statement) → readSheet s ≡ accepted st → (f : Finding) → List·Memᴰ f (findings warns st) → Pushed (st .names) f × Told s (st .names) f
