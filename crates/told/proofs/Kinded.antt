@@ -13,7 +13,6 @@ use Rattle.heads.specs.declared.Form.{Form}
 use Rattle.heads.specs.declared.Form.the-variants.{Leaf, Var, Unresolved, Prop, Two, Slice, Many, BinOp, UnaryOp, Case, IsNull, PatternPredicate, ListComprehension, PatternComprehension, ListPredicate, MapProjection}
 use Rattle.heads.specs.declared.Maybe.{Maybe}
 use Rattle.heads.specs.declared.Maybe.the-variants as maybe
-use Rattle.expr.proofs.Inverse.{never}
 use Rattle.expr.specs.Tree.{Expr, var, unresolved, node, predicate, comprehension, Exprs, done, more, mark, Steps, end, part, elem}
 use Rattle.expr.specs.Well.{WellE, Wells, WellS, WellPattern}
 use Rattle.clauses.specs.Tree.{Clause, opening, reading, with', return, unwind, call, exprs}
@@ -30,7 +29,7 @@ use Rattle.kinds.specs.Kinds.{Setting, general, arithmetic, property, boolean, 
 use Rattle.told.specs.Pushed as pushed
 use Rattle.told.specs.Pushed.{IsType, Pushed}
 use Rattle.told.proofs.Trees.{kindOf, reading-well, done-well, row-well}
-use Rattle.told.proofs.Rows.{All, nil, cons, join, RowIn, row-in}
+use Rattle.told.proofs.Rows.{All, nil, cons, join, both-true, RowIn, row-in}
 
 -- Types are at most Path's.
 leaf-type : (ts : List ℕ) → All (λ t. t ≤ 10) ts → (k : ℕ) → getD ts k 0 ≤ 10
@@ -119,17 +118,13 @@ module _ (names : List (List ℕ)) where
   gives-unless true p = nil
   gives-unless false p = cons (p refl) nil
 
-  and-both : (a b : Bool) → (a && b) ≡ true → (a ≡ true) × (b ≡ true)
-  and-both true b e = (refl, e)
-  and-both false b e = never (cc)
-
   gives-type : (c : Setting) (t : ℕ) → Known c → t ≤ 10 → Gives (atType c t)
   unfolding atType
   gives-type general t h g = nil
   gives-type arithmetic t h g = nil
   gives-type property t h g = nil
   gives-type boolean t h g =
-      gives-if (leb 2 t && leb t 4) (λ e. let p = and-both (leb 2 t) (leb t 4) e in pushed.predicate (leb-true 2 t (p .0)) (leb-true t 4 (p .1)))
+      gives-if (leb 2 t && leb t 4) (λ e. let p = both-true (leb 2 t) (leb t 4) e in pushed.predicate (leb-true 2 t (p .0)) (leb-true t 4 (p .1)))
   gives-type (listed c o) t h g = gives-unless (eqb t 0) (λ e. h t (omega (arith, eqb-false t 0 e), g))
 
   gives-row : (c : Setting) (r : Option Row) → Known c → RowIn (length names) r → Gives (atRow c r)

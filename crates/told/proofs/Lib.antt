@@ -4,3 +4,4 @@ pub mod Resolved
 pub mod Kinded
 pub mod Texts
 pub mod Told
+pub mod Only

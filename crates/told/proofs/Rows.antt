@@ -32,6 +32,11 @@ module _ {A : Type 0} {P : A → Type 0} where
   member (cons p h) (List·Memᴰ·head e) = rw e p
   member (cons p h) (List·Memᴰ·tail m) = member h m
 
+-- two tests that are both passed
+pub both-true : (a b : Bool) → (a && b) ≡ true → (a ≡ true) × (b ≡ true)
+both-true true b e = (refl, e)
+both-true false b e = never (cc)
+
 -- a row within the tables
 abbrev pub RowIn : ℕ → Option Row → Type 0
 RowIn names none = Unit {0}

@@ -31,7 +31,7 @@ use Rattle.told.specs.Pushed.{Pushed, IsType, IsOther, unresolved, shado
 use Rattle.told.specs.Told.{messageOf, frontOf, Told}
 
 -- the name `*`, as the walk and as the message compare it
-star-same : (bs : List ℕ) → sameBytes bs (42 ∷ []) ≡ isStar bs
+pub star-same : (bs : List ℕ) → sameBytes bs (42 ∷ []) ≡ isStar bs
 unfolding sameBytes isStar
 star-same [] = refl
 star-same (b ∷ []) = go (eqb b 42)
@@ -58,7 +58,7 @@ placed k false b p h = never (cc)
 
 module _ (s : List ℕ) (st : Statement) (e : readSheet s ≡ accepted st) where
   -- a name's text is the statement's name
-  text-read : (i : ℕ) → readText s i ≡ unless 5 (ltb i (length (st .names))) (accepted (getD (st .names) i []))
+  pub text-read : (i : ℕ) → readText s i ≡ unless 5 (ltb i (length (st .names))) (accepted (getD (st .names) i []))
   unfolding readSheet readText locate readNames
   text-read i =
       let w = walked s st e in
@@ -68,7 +68,7 @@ module _ (s : List ℕ) (st : Statement) (e : readSheet s ≡ accepted st) where
   unfolding nameText
   named-text i h = rw (text-read i, lt-ltb i (length (st .names)) h) refl
 
-  nameless-text : nameText s 0 ≡ accepted []
+  pub nameless-text : nameText s 0 ≡ accepted []
   unfolding nameText
   nameless-text = rw (text-read 0) (go (ltb 0 (length (st .names))) (getD (st .names) 0 []))
     where

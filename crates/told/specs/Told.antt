@@ -30,3 +30,9 @@ pub record Told (s : List ℕ) (names : List (List ℕ)) (f : Finding) : Type 0 
 -- so has every finding of an accepted sheet, which is one of the pushes: `all-told` proves it
 abbrev pub AllTold : Type 0
 AllTold = (warns : Bool) (s : List ℕ) (st : Statement) → readSheet s ≡ accepted st → (f : Finding) → List·Memᴰ f (findings warns st) → Pushed (st .names) f × Told s (st .names) f
+
+-- and what `message` accepts for an accepted sheet is one of the pushes, with some span: `only-pushed` proves it
+abbrev pub OnlyPushed : Type 0
+OnlyPushed =
+    (s : List ℕ) (st : Statement) → readSheet s ≡ accepted st → (code name one two : ℕ) (text : List ℕ) → Message.message s code name one two ≡ accepted text
+    → (start : ℕ) × (stop : ℕ) × Pushed (st .names) (finding code start stop name one two)
