@@ -128,7 +128,7 @@ module _ {names : List (List ℕ)} where
       let n = with-name c (g .same) in
       let z : two ≡ 0 = omega (arith, g .low, g .high) in
       (0, 0, rw (n .2, z) (pushed.shadows (n .1)))
-  some-push of-arithmetic c g s = let n = with-name c (g .same) in (0, 0, rw (n .2) (pushed.arithmetic (n .1) (g .low) (g .high)))
+  some-push {two} of-arithmetic c g s = let n = with-name c (g .same) in (0, 0, rw (n .2) (pushed.arithmetic {k = two} (n .1) (omega (arith, g .low)) (omega (arith, g .high))))
   some-push {two} of-property c g s =
       let n = with-name c (g .same) in
       let z : two ≡ 3 = omega (arith, g .low, g .high) in
