@@ -182,4 +182,4 @@ module _ (warns : Bool) (s₁ s₂ : Statement) where
 
   -- Before and after a WITH.
   pub apart : (p₁ p₂ : Site) → Agree warns s₁ s₂ p₁ p₂ → Same warns s₁ s₂ p₁ p₂ (newRoot warns s₁ p₁) (newRoot warns s₂ p₂)
-  apart p₁ p₂ h = record { sameFindings = findings-eq p₁ p₂ h; sameAnswers = answer-eq p₁ p₂ h; sameScopes = scopes-eq p₁ p₂ h; sameBindings = bindings-eq p₁ p₂ h }
+  apart p₁ p₂ h = record { sameFindings = findings-eq p₁ p₂ h; sameVisits = answers-eq p₁ p₂ h; sameAnswers = answer-eq p₁ p₂ h; sameScopes = scopes-eq p₁ p₂ h; sameBindings = bindings-eq p₁ p₂ h }

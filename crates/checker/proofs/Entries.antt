@@ -57,6 +57,15 @@ unfolding notes lastWrite
 answer-notes i [] ws = refl
 answer-notes i (write j b ∷ xs) ws = answer-notes i xs (note (write j b) ws) ∙ ap (lastWrite i xs) (answer-note i j b ws)
 
+pub answer-only : (i : ℕ) (xs : List Write) → answerFor i (notes xs []) ≡ lastWrite i xs none
+unfolding answerFor
+answer-only i xs = answer-notes i xs []
+
+pub notes-append : (xs ys ws : List Write) → notes (xs ++ ys) ws ≡ notes ys (notes xs ws)
+unfolding notes
+notes-append [] ys ws = refl
+notes-append (x ∷ xs) ys ws = notes-append xs ys (note x ws)
+
 last-append : (i : ℕ) (xs ys : List Write) (d : Option Answer) → lastWrite i (xs ++ ys) d ≡ lastWrite i ys (lastWrite i xs d)
 unfolding lastWrite
 last-append i [] ys d = refl
@@ -149,13 +158,15 @@ from-above none′ = refl
 from-above {r} (more′ {e = entry s x v k o} h p) =
     rw (bool-ext (leb (suc r) s) true (λ t. tt) (λ t. le→leb (suc r) s (h .0))) (ap (_∷_ (entry s x v k o)) (from-above p))
 
--- The entries that the second piece makes.
+-- The entries that the first piece makes, and then those that the second makes.
+pub puts-pieces : {mid hi : ℕ} {xs ys : List Bound} → Inside 0 mid xs → Inside mid hi ys → puts (xs ++ ys) [] ≡ puts xs [] ++ puts ys []
+puts-pieces {xs} {ys} p q = puts-append xs ys [] ∙ ap (puts ys) (sym (append-nil (puts xs []))) ∙ puts-past [] q (puts-ranged p none′)
+
 pub from-pieces : {mid hi : ℕ} {xs ys : List Bound} → Inside 0 mid xs → Inside mid hi ys → from (suc mid) (puts (xs ++ ys) []) ≡ puts ys []
 from-pieces {mid} {hi} {xs} {ys} p q =
     let low : Ranged 0 mid (puts xs []) = puts-ranged p none′ in
     let high : Ranged mid hi (puts ys []) = puts-ranged q none′ in
-    ap (from (suc mid)) (puts-append xs ys [] ∙ ap (puts ys) (sym (append-nil (puts xs []))) ∙ puts-past [] q low)
-    ∙ from-append (suc mid) (puts xs []) (puts ys []) ∙ ap₂ _++_ (from-below low) (from-above high)
+    ap (from (suc mid)) (puts-pieces p q) ∙ from-append (suc mid) (puts xs []) (puts ys []) ∙ ap₂ _++_ (from-below low) (from-above high)
 
 -- Numbers moved up.
 up-inj : (m s t : ℕ) → up m s ≡ up m t → s ≡ t

@@ -5,6 +5,7 @@ pub mod Within
 pub mod Split
 pub mod Entries
 pub mod Placed
+pub mod InLists
 pub mod Apart
 pub mod Looks
 pub mod Shows
@@ -13,6 +14,8 @@ pub mod Mets
 pub mod Inners
 pub mod Agrees
 pub mod ApartSheets
+pub mod Agreeing
+pub mod Calls
 pub mod Sizes
 pub mod Codes
 pub mod Uses

@@ -1,26 +1,25 @@
 -- Where the WITH and its part stand in the five lists: the numbers, pairs and findings that Apart names are the lists' own.
 use Prim.Native.Nat.{ℕ, suc, _+_, _≤_, _<_}
 use native.Mathlib.Omega.{arith}
-use mathlib.Core.Path.{_≡_, refl, sym, _∙_, ap}
+use mathlib.Core.Path.{_≡_, refl, _∙_, ap}
 use mathlib.Core.Bool.{Bool, true, false, cond}
 use mathlib.Core.List.{List, [], _∷_, _++_, map, append-assoc, append-nil, List·Memᴰ}
-use mathlib.Core.Option.{none, some}
+use mathlib.Core.Option.{none}
 use lib.ListN.{drop}
 use lib.Seq.{drop-at}
 use lib.Dec.{eqb, eqb-refl}
-use Rattle.scope.specs.Graph.{Scope, scope, Carried, carried}
+use Rattle.scope.specs.Graph.{scope, Carried, carried}
 use Rattle.checker.specs.Lists
-use Rattle.clauses.specs.Tree.{Clause, with', exprs}
+use Rattle.clauses.specs.Tree.{exprs}
 use Rattle.sheet.specs.Statement.{Statement}
-use Rattle.resolve.specs.Log.{Finding, Answer, write, answersIn, bindsIn, bound, Event, open', bind, carry, answer, find, scopesIn, carriesIn, carryOf, findsIn, opened, logs}
-use Rattle.resolve.specs.Resolve.{World, Seen, seen, carryAt, barrier, fresh, clausesLog, armsLog, worldOf}
-use Rattle.kinds.specs.Kinds.{kinds, kindsC}
+use Rattle.resolve.specs.Log.{Answer, write, answersIn, bindsIn, bound, Event, open', bind, carry, answer, find, scopesIn, carriesIn, carryOf, opened, logs}
+use Rattle.resolve.specs.Resolve.{World, Seen, seen, carryAt, barrier, clausesLog, armsLog, worldOf}
 use Rattle.checker.specs.Lists.{puts, answerFor, pairsAt, scopes, bindings, recorded}
 use Rattle.checker.proofs.Views.{pick-append}
 use Rattle.checker.proofs.Within.{Within, nil, cons, inside, within-join, in-open, withinEs, withinCs, withinAs}
-use Rattle.checker.specs.Site.{Cut, whole, Site, inHead, inArm, cutOf, Stands, laterArms, visAll, curAll, part, lastAt, outside, highest, upTo, headLog, base, barrierOf, newRoot, pairs, partLog}
+use Rattle.checker.specs.Site.{Cut, Site, inHead, inArm, cutOf, Stands, laterArms, visAll, curAll, lastAt, outside, highest, upTo, headLog, base, barrierOf, newRoot, pairs, partLog}
 use Rattle.checker.proofs.Split.{head-within, preLog, pre-opened, pre-within, part-within, split}
-use Rattle.checker.proofs.Entries.{bool-ext, ne→eqb, answer-pieces, lastWrite, inside-binds, from-pieces}
+use Rattle.checker.proofs.Entries.{bool-ext, ne→eqb, answer-pieces, lastWrite, inside-binds, puts-pieces, from-pieces}
 use Rattle.checker.specs.Compare.{from}
 
 pub data Barriers (lo hi : ℕ) : List Carried → Type 0 where
@@ -80,16 +79,6 @@ pairs-pieces k {a = a} {z = z} w c i j cs p q =
     )
     (append-nil _ ∙ pairs-barrier w k c i j cs)
 
-kinds-append : (w : World) (xs ys : List Clause) → kinds w (xs ++ ys) ≡ kinds w xs ++ kinds w ys
-unfolding kinds
-kinds-append w [] ys = refl
-kinds-append w (x ∷ xs) ys = rw (kinds-append w xs ys) (sym (append-assoc (kindsC w x) (kinds w xs) (kinds w ys)))
-
-head-kinds : (w : World) (head : List Clause) (c : Cut) → head ≡ whole c
-    → kinds w head ≡ kinds w (c .before ++ with' (c .start) (c .stop) (c .projections) (c .filter) ∷ []) ++ kinds w (c .after)
-unfolding whole kinds
-head-kinds w head c q = rw (q, kinds-append w (c .before), kinds-append w (c .before)) (simp (append-assoc, append-nil))
-
 -- The lists of a statement at its WITH.
 module _ (warns : Bool) (s : Statement) (p : Site) (q : Stands s p) where
   pub scopes-from : drop (newRoot warns s p) (scopes warns s) ≡ scopesIn (partLog warns s p)
@@ -99,6 +88,10 @@ module _ (warns : Bool) (s : Statement) (p : Site) (q : Stands s p) where
   pub part-in : Within (suc (highest (worldOf warns s) (base warns s p) (cutOf p))) (newRoot warns s p + opened (partLog warns s p)) (partLog warns s p)
   unfolding partLog newRoot
   part-in = part-within (worldOf warns s) _ _ (pairs warns s p) (cutOf p .after) (laterArms s p)
+
+  pub bindings-pieces : bindings warns s ≡ puts (bindsIn (preLog warns s p)) [] ++ puts (bindsIn (partLog warns s p)) []
+  unfolding bindings bindsIn
+  bindings-pieces = rw (split warns s p q, pick-append) (puts-pieces (inside-binds (pre-within warns s p)) (inside-binds part-in))
 
   pub bindings-from : from (newRoot warns s p) (bindings warns s) ≡ puts (bindsIn (partLog warns s p)) []
   unfolding bindings bindsIn newRoot
@@ -112,14 +105,14 @@ module _ (warns : Bool) (s : Statement) (p : Site) (q : Stands s p) where
 
 module _ (warns : Bool) (s : Statement) where
   -- What is said before the barrier.
-  lead : Site → List Event
+  unfoldable pub lead : Site → List Event
   lead (inHead c) = open' (scope 1 none (s .start) (s .stop)) ∷ clausesLog (worldOf warns s) (c .before) [] 0 0 ++ outside (worldOf warns s) 0 c
   lead (inArm e a b c l) =
       open' (scope 1 none (s .start) (s .stop))
       ∷ headLog warns s ++ (armsLog (worldOf warns s) e (opened (headLog warns s))
       ++ (clausesLog (worldOf warns s) (c .before) [] 0 (base warns s (inArm e a b c l)) ++ outside (worldOf warns s) (base warns s (inArm e a b c l)) c))
 
-  lead-pre : (p : Site) → preLog warns s p
+  pub lead-pre : (p : Site) → preLog warns s p
       ≡ lead p ++ barrier (worldOf warns s) (highest (worldOf warns s) (base warns s p) (cutOf p)) (curAll (worldOf warns s) (cutOf p .before) [] 0 (base warns s p)) (cutOf p .start) (cutOf p .stop) (pairs warns s p)
   unfolding preLog lead upTo pairs base
   lead-pre (inHead c) = simp append-assoc
@@ -150,25 +143,3 @@ module _ (warns : Bool) (s : Statement) where
   pub pairs-listed : (p : Site) → Stands s p → pairsAt (barrierOf warns s p) (Lists.carriedList warns s) ≡ pairs warns s p
   unfolding Lists.carriedList barrierOf
   pairs-listed p q = rw (split warns s p q, lead-pre p) (pairs-pieces _ (worldOf warns s) _ _ _ (pairs warns s p) (lead-within p) (part-in warns s p q))
-
-  -- The new Root stands at its number, its parent is the barrier, its span the WITH's end.
-  pub root-listed : (p : Site) → Stands s p
-      → (rest : List Scope) × (drop (newRoot warns s p) (Lists.scopes warns s) ≡ scope 1 (some (barrierOf warns s p)) (cutOf p .stop) (cutOf p .stop) ∷ rest)
-  unfolding barrierOf partLog part fresh logs
-  root-listed p q = (_, scopes-from warns s p q)
-
-  -- The findings of the part are two pieces of the findings list in the head case, one in the arm case.
-  unfoldable pub Listed : Site → Type 0
-  Listed (inHead c) =
-      Lists.findings warns s
-      ≡ (findsIn (preLog warns s (inHead c)) ++ findsIn (partLog warns s (inHead c)))
-      ++ (kinds (worldOf warns s) (c .before ++ with' (c .start) (c .stop) (c .projections) (c .filter) ∷ []) ++ kinds (worldOf warns s) (c .after))
-  Listed (inArm e a b c l) =
-      Lists.findings warns s ≡ (findsIn (preLog warns s (inArm e a b c l)) ++ findsIn (partLog warns s (inArm e a b c l))) ++ kinds (worldOf warns s) (s .head)
-
-  pub findings-listed : (p : Site) → Stands s p → Listed p
-  unfolding Listed Lists.findings findsIn
-  findings-listed (inHead c) q =
-      rw (split warns s (inHead c) q, pick-append)
-      (ap (λ (x : List Finding). (findsIn (preLog warns s (inHead c)) ++ findsIn (partLog warns s (inHead c))) ++ x) (head-kinds (worldOf warns s) (s .head) c q))
-  findings-listed (inArm e a b c l) q = rw (split warns s (inArm e a b c l) q, pick-append) refl

@@ -3,6 +3,7 @@ pub mod Room
 pub mod Compare
 pub mod Site
 pub mod With
+pub mod InLists
 pub mod Sheets
 pub mod Agree
 pub mod Fits
@@ -10,4 +11,5 @@ pub mod Uses
 pub mod Filled
 pub mod Adding
 pub mod Checked
+pub mod Calls
 pub mod Accepted

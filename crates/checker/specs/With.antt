@@ -31,9 +31,11 @@ pub record Agree (warns : Bool) (s₁ s₂ : Statement) (p₁ p₂ : Site) : Typ
   pub clauses : map eraseC (cutOf p₁ .after) ≡ map eraseC (cutOf p₂ .after)
   pub arms : map eraseA (laterArms s₁ p₁) ≡ map eraseA (laterArms s₂ p₂)
 
--- What is compared, with r₁ and r₂ the new Roots' numbers.
+-- What is compared, with r₁ and r₂ the new Roots' numbers. `sameVisits`: what the visits in the part record, in order, so that the use ids
+-- that the one part records are those that the other does.
 pub record Same (warns : Bool) (s₁ s₂ : Statement) (p₁ p₂ : Site) (r₁ r₂ : ℕ) : Type 0 where
   pub sameFindings : map blankFinding (partFindings warns s₁ p₁) ≡ map blankFinding (partFindings warns s₂ p₂)
+  pub sameVisits : answersIn (partLog warns s₁ p₁) ≡ answersIn (partLog warns s₂ p₂)
   pub sameAnswers : (i : ℕ) (a : Answer) → List·Memᴰ (write i a) (answersIn (partLog warns s₁ p₁)) → answerFor i (recorded warns s₁) ≡ answerFor i (recorded warns s₂)
   pub sameScopes : map (numberScope (moved r₁ r₂)) (map blankScope (drop r₁ (scopes warns s₁))) ≡ map blankScope (drop r₂ (scopes warns s₂))
   pub sameBindings : map (numberEntry (moved r₁ r₂)) (from r₁ (bindings warns s₁)) ≡ from r₂ (bindings warns s₂)

@@ -1,0 +1,149 @@
+-- Demand 3 on what two check calls leave: entries that are written as words read back, so each call's lists are the definition's, of which
+-- `apart-sheets` compares the parts; and the part's findings stand in the list where `in-lists` says.
+use Prim.Native.Nat.{ℕ, _-_}
+use native.Mathlib.Omega.{arith}
+use mathlib.Core.Path.{_≡_, refl, _∙_, ap, ap₂}
+use mathlib.Core.Bool.{Bool, true, false, _&&_}
+use mathlib.Core.List.{List, [], _∷_, _++_, flatMap, append-assoc}
+use mathlib.Core.Option.{none, some}
+use lib.Dec.{leb}
+use lib.ListN.{length, take, drop, length-append}
+use lib.Seq.{take-at, drop-at}
+use Rattle.words.specs.Words.{words}
+use Rattle.scope.specs.Graph.{Scope, scope, Entry, entry, Carried, carried}
+use Rattle.scope.specs.Flat.{entriesOf, scopeOf, bindingOf, carriedOf}
+use Rattle.expr.proofs.Inverse.{never}
+use Rattle.sheet.specs.Statement.{Statement}
+use Rattle.sheet.specs.Read.{accepted, readSheet}
+use Rattle.resolve.specs.Log.{Finding, finding, found, missing, Write, write, findsIn, findOf}
+use Rattle.resolve.specs.Resolve.{log}
+use Rattle.kinds.specs.Walk.{findingWords, findingOf}
+use Rattle.checker.specs.Lists
+use Rattle.checker.specs.Site.{Site, Stands, newRoot, partLog}
+use Rattle.checker.specs.With.{partFindings}
+use Rattle.checker.specs.InLists.{kindsBefore, kindsAfter}
+use Rattle.checker.specs.Sheets.{AgreeSheets}
+use Rattle.checker.specs.Filled.{filled, scopeWords, bindingWords, carriedWords, recordedWords, withScopes, withBindings, withCarried, withRecorded, withFindings}
+use Rattle.checker.specs.Checked.{Lent, roomy, countsOf, filledBy, answer, left, answerIn, leftIn}
+use Rattle.checker.specs.Calls.{Call, writeOf, entriesIn, listsOf, pieces, partIn, SameLists}
+use Rattle.checker.specs.declared.Counts.{Counts}
+use Rattle.checker.specs.declared.Checked.the-variants as checked
+use Rattle.checker.proofs.Views.{pick-append}
+use Rattle.checker.proofs.InLists.{in-lists}
+use Rattle.checker.proofs.ApartSheets.{apart-sheets}
+
+-- Entries at the front of words read back, if each does.
+module _ {A : Type 0} (width : ℕ) (one : List ℕ → A) (words : A → List ℕ) (back : (a : A) (r : List ℕ) → one (words a ++ r) ≡ a)
+    (past : (a : A) (r : List ℕ) → drop width (words a ++ r) ≡ r) where
+  entries-back : (es : List A) (r : List ℕ) → entriesOf width one (length es) (flatMap words es ++ r) ≡ es
+  unfolding entriesOf flatMap
+  entries-back [] r = refl
+  entries-back (e ∷ es) r =
+      rw (append-assoc (words e) (flatMap words es) r, past e (flatMap words es ++ r)) (ap₂ _∷_ (back e (flatMap words es ++ r)) (entries-back es r))
+
+  filled-back : (es : List A) (old : List ℕ) → entriesOf width one (length es) (filled old (flatMap words es)) ≡ es
+  unfolding filled
+  filled-back es old = entries-back es _
+
+scope-back : (a : Scope) (r : List ℕ) → scopeOf (scopeWords a ++ r) ≡ a
+unfolding scopeWords
+scope-back (scope k none a b) r = refl
+scope-back (scope k (some p) a b) r = refl
+
+scope-past : (a : Scope) (r : List ℕ) → drop 4 (scopeWords a ++ r) ≡ r
+unfolding scopeWords
+scope-past (scope k p a b) r = refl
+
+binding-back : (a : Entry) (r : List ℕ) → bindingOf (bindingWords a ++ r) ≡ a
+unfolding bindingWords
+binding-back (entry s x v k none) r = refl
+binding-back (entry s x v k (some u)) r = refl
+
+binding-past : (a : Entry) (r : List ℕ) → drop 6 (bindingWords a ++ r) ≡ r
+unfolding bindingWords
+binding-past (entry s x v k none) r = refl
+binding-past (entry s x v k (some u)) r = refl
+
+carried-back : (a : Carried) (r : List ℕ) → carriedOf (carriedWords a ++ r) ≡ a
+unfolding carriedWords
+carried-back (carried b x v) r = refl
+
+carried-past : (a : Carried) (r : List ℕ) → drop 3 (carriedWords a ++ r) ≡ r
+unfolding carriedWords
+carried-past (carried b x v) r = refl
+
+recorded-back : (a : Write) (r : List ℕ) → writeOf (recordedWords a ++ r) ≡ a
+unfolding recordedWords
+recorded-back (write i (found v k via)) r = refl
+recorded-back (write i missing) r = refl
+
+recorded-past : (a : Write) (r : List ℕ) → drop 5 (recordedWords a ++ r) ≡ r
+unfolding recordedWords
+recorded-past (write i (found v k via)) r = refl
+recorded-past (write i missing) r = refl
+
+finding-back : (a : Finding) (r : List ℕ) → findingOf (findingWords a ++ r) ≡ a
+finding-back (finding c a b x o t) r = refl
+
+finding-past : (a : Finding) (r : List ℕ) → drop 6 (findingWords a ++ r) ≡ r
+finding-past (finding c a b x o t) r = refl
+
+module _ (warns : Bool) (s : Statement) where
+  filled-entries : (old : Lent) → entriesIn (countsOf warns s) (filledBy warns s old) ≡ listsOf warns s
+  unfolding entriesIn countsOf filledBy listsOf withScopes withBindings withCarried withRecorded withFindings
+  filled-entries old =
+      rw (
+        filled-back 4 scopeOf scopeWords scope-back scope-past (Lists.scopes warns s) (old .scopes),
+        filled-back 6 bindingOf bindingWords binding-back binding-past (Lists.bindings warns s) (old .bindings),
+        filled-back 3 carriedOf carriedWords carried-back carried-past (Lists.carriedList warns s) (old .carried),
+        filled-back 5 writeOf recordedWords recorded-back recorded-past (Lists.recorded warns s) (old .recorded),
+        filled-back 6 findingOf findingWords finding-back finding-past (Lists.findings warns s) (old .findings),
+      )
+      refl
+
+  -- A call that answers with counts has filled the lists.
+  counted : (room : Bool) (old : Lent) {new : Lent} {n : Counts} → checked.Is n ≡ answer warns (accepted s) room → new ≡ left warns (accepted s) room old → entriesIn n new ≡ listsOf warns s
+  unfolding answer left
+  counted true old {new} {n} a b =
+      let e : n ≡ countsOf warns s = cc in
+      rw (e, b) (filled-entries old)
+  counted false old a b = never (cc)
+
+  pub call-lists : {bytes : List ℕ} {room : ℕ} {old new : Lent} {n : Counts} → readSheet bytes ≡ accepted s → Call warns bytes old room n new → entriesIn n new ≡ listsOf warns s
+  unfolding answerIn leftIn
+  call-lists {bytes} {room} {old} e c = counted (roomy (length (words bytes)) old && leb (length (words bytes)) room) old (rw e at (c .answers)) (rw e at (c .leaves))
+
+-- Four pieces of a list, of which the second and the last are taken.
+pieces-taken : (a b c d : List Finding) → pieces (length a) (length b) (length d) (a ++ (b ++ (c ++ d))) ≡ b ++ d
+unfolding pieces
+pieces-taken a b c d =
+    let fs = a ++ (b ++ (c ++ d)) in
+    let regroup : fs ≡ ((a ++ b) ++ c) ++ d = simp append-assoc in
+    let last : drop (length fs - length d) fs ≡ d
+    = ap (drop (length fs - length d)) regroup ∙ drop-at ((a ++ b) ++ c) d (length fs - length d) (simp length-append (omega arith)) in
+    ap₂ _++_ (ap (take (length b)) (drop-at a (b ++ (c ++ d)) (length a) refl) ∙ take-at b (c ++ d) (length b) refl) last
+
+part-found : (warns : Bool) (s : Statement) (p : Site) → Stands s p → partIn warns s p (Lists.findings warns s) ≡ partFindings warns s p
+unfolding partIn findsIn
+part-found warns s p q =
+    let h = in-lists warns s p q in
+    let n : length (findsIn (log warns s)) - length (findsIn (partLog warns s p)) ≡ length (findsIn (h .before)) = rw (h .log, pick-append findOf (h .before) (partLog warns s p)) (simp length-append (omega arith)) in
+    rw (n, h .findings, h .found) (pieces-taken (findsIn (h .before)) (findsIn (partLog warns s p)) (kindsBefore warns s p) (kindsAfter warns s p))
+
+module _ {warns : Bool} {s₁ s₂ : List ℕ} {st₁ st₂ : Statement} {p₁ p₂ : Site} (h : AgreeSheets warns s₁ s₂ st₁ st₂ p₁ p₂) where
+  same-lists : SameLists warns st₁ st₂ p₁ p₂ (newRoot warns st₁ p₁) (newRoot warns st₂ p₂) (listsOf warns st₁) (listsOf warns st₂)
+  unfolding listsOf
+  same-lists =
+      let e = apart-sheets h in
+      record {
+        sameFindings = rw (part-found warns st₁ p₁ (h .stands₁), part-found warns st₂ p₂ (h .stands₂)) (e .sameFindings);
+        sameVisits = e .sameVisits;
+        sameAnswers = e .sameAnswers;
+        sameScopes = e .sameScopes;
+        sameBindings = e .sameBindings;
+      }
+
+  -- Before and after a WITH, of what two check calls leave.
+  pub apart-calls : {lent₁ left₁ lent₂ left₂ : Lent} {room₁ room₂ : ℕ} {n₁ n₂ : Counts} → Call warns s₁ lent₁ room₁ n₁ left₁ → Call warns s₂ lent₂ room₂ n₂ left₂
+      → SameLists warns st₁ st₂ p₁ p₂ (newRoot warns st₁ p₁) (newRoot warns st₂ p₂) (entriesIn n₁ left₁) (entriesIn n₂ left₂)
+  apart-calls a b = rw (call-lists warns st₁ (h .reads₁) a, call-lists warns st₂ (h .reads₂) b) same-lists
