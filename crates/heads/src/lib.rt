@@ -343,7 +343,7 @@ fn read_one(s: &[u8], code: u32, limit: u64, at: usize) -> FormRead
     FormRead::Is(form_one(code, a), at + 1)
 }
 
-// What follows a code: one step for a code that there is, since to look its shape up first would be two.
+// What follows a code: one step for a known code, since to look its shape up first would be two.
 pub fn read_rest(s: &[u8], names: u32, code: u32, at: usize) -> FormRead
     requires { ⌜ at ≤ length (words (now s)) ⌝ }
     ensures { λ r. ⌜ Ans (words (now (s .entry))) at (restOf names code (drop at (words (now (s .entry))))) (formGot (words (now (s .entry))) r) (formEnd at r) ⌝ }

@@ -12,7 +12,7 @@ use Rattle.message.specs.Pushes.{pushOf, gives}
 use Rattle.texts.specs.declared.codes.Said.{Said}
 use Rattle.texts.specs.declared.codes.Said.the-variants as said
 
--- no name is asked for, so that there is none is no cause
+-- no name is asked for, so a missing one is no cause
 abbrev pub nameless : Sheet (List ℕ) → Sheet (List ℕ)
 nameless (accepted x) = accepted []
 nameless (refused c) = cond (eqb c 5) (accepted []) (refused c)

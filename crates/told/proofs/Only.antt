@@ -1,4 +1,4 @@
--- What `message` accepts is a push that there is: a text stands for one code and detail one, and the tests that are passed are the push's.
+-- What `message` accepts is one of the pushes: a text stands for one code and detail one, and the tests that are passed are the push's.
 use Prim.Native.Nat.{ℕ, zero, suc, _≤_, _<_}
 use native.Mathlib.Omega.{arith}
 use mathlib.Core.Path.{_≡_, refl}

@@ -26,7 +26,7 @@ use Rattle.told.specs.Pushed.{Pushed}
 use Rattle.told.proofs.Trees.{kindOf, reading-well, done-well, row-well}
 use Rattle.told.proofs.Rows.{All, nil, cons, join, cut, names-in}
 
--- what is said is no finding, or one that there is
+-- what is said is no finding, or one of the pushes
 abbrev Fine : List (List ℕ) → Event → Type 0
 Fine names (open' s) = Unit {0}
 Fine names (bind b) = Unit {0}

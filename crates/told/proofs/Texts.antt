@@ -1,4 +1,4 @@
--- A push that there is has its text: the sheet's names are the table that `message` reads, its tests are passed, and a line has the text
+-- Each push has its text: the sheet's names are the table that `message` reads, its tests are passed, and a line has the text
 -- that the same code and detail stand for.
 use Prim.Native.Nat.{ℕ, zero, suc, _≤_, _<_}
 use native.Mathlib.Omega.{arith}
