@@ -109,8 +109,11 @@ rust_program() {
         --extern cyrs_hir "$@" "$out/from/src/$name.rs"
 }
 
+# Whether a file isn't there, or code is newer.
+stale() {
+    [ ! -f "$1" ] || [ -n "$(find "$host/../crates" -name '*.rt' -newer "$1" | head -n 1)" ]
+}
+
 archive() {
-    library=$host/../target/staticlib/lib$1.a
-    if [ -f "$library" ] && [ -z "$(find "$host/../crates" -name '*.rt' -newer "$library" | head -n 1)" ]; then return; fi
-    (cd "$host/.." && rt staticlib "$1" >&2)
+    if stale "$host/../target/staticlib/lib$1.a"; then (cd "$host/.." && rt staticlib "$1" >&2); fi
 }

@@ -1,4 +1,4 @@
-//! Times the C function and the Rust's whole job, plain and tuned, on the same sheets in one run, and prints a table; see README.md.
+//! Times the C function and the Rust's whole job, plain and tuned, on the same sheets in one run, and prints two tables; see README.md.
 use generator::worst::{FAMILIES, Family, KILOBYTES};
 use generator::{Random, one};
 use std::collections::HashSet;
@@ -66,7 +66,8 @@ impl Jobs {
         Some(count.parse().expect("findings and their number"))
     }
 
-    /// Nanoseconds a sheet, the mean over all of them: ours, the Rust's and the tuned Rust's.
+    /// Nanoseconds a sheet, the mean over all of them: ours, the Rust's and the tuned Rust's. A turn's sheets are read once before it, so
+    /// that they are as near to the first of the three as to the others.
     fn times(&mut self, sheets: &[&[u8]], rounds: usize) -> [f64; 3] {
         let turns: Vec<&[&[u8]]> = sheets.chunks(TURN / sheets[0].len()).collect();
         let mut least = vec![[f64::INFINITY; 3]; turns.len()];
