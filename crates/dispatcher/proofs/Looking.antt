@@ -2,11 +2,11 @@
 use Prim.Native.Nat.{ℕ, zero, suc, _+_, _%_, _<_}
 use mathlib.Core.List.{List, [], _∷_}
 use mathlib.Core.Logic.{_⊎_, inl, inr}
-use mathlib.Core.Option.{Option, some}
-use mathlib.Core.Path.{_≡_, refl, _∙_, ap}
+use mathlib.Core.Option.{Option, none, some}
+use mathlib.Core.Path.{_≡_, refl}
 use native.Mathlib.Omega.{arith}
 use lib.ListN.{set}
-use Rattle.dispatcher.specs.Dispatcher.{State, state, waiting, serveOr, look}
+use Rattle.dispatcher.specs.Dispatcher.{State, state, waiting, begins, serveOr, look}
 use Rattle.dispatcher.specs.declared.Taken.{Taken}
 use Rattle.dispatcher.specs.declared.Taken.the-variants.{Served, None}
 
@@ -26,6 +26,10 @@ pub record Found (n k q : ℕ) (qs : List (List ℕ)) (r : Taken × State) : Typ
 pub record Nothing (n k q : ℕ) (qs : List (List ℕ)) (last : Option ℕ) (r : Taken × State) : Type 0 where
   pub passed : (j : ℕ) → j < n → waiting qs ((q + j) % 32) ≡ []
   pub same : r ≡ (None (k + n), state qs last)
+
+pub begins-below : (last : Option ℕ) → begins last < 32
+begins-below none = omega arith
+begins-below (some q) = omega arith
 
 module _ (qs : List (List ℕ)) (last : Option ℕ) where
   -- the queue q is empty, and so are those passed after it

@@ -2,8 +2,8 @@
 use Prim.Native.Nat.{ℕ}
 use mathlib.Core.List.{List}
 use mathlib.Core.Path.{_≡_, _∙_, ap}
-use Rattle.dispatcher.specs.Dispatcher.{State, add, take}
-use Rattle.dispatcher.specs.Words.{stateOf, Adds, Takes}
+use Rattle.dispatcher.specs.Dispatcher.{State}
+use Rattle.dispatcher.specs.Words.{Adds, Takes}
 use Rattle.dispatcher.specs.Numbers.{addedNumber, takenNumber, takenWords, AddsAs, TakesAs}
 use Rattle.dispatcher.specs.declared.Added.{Added}
 use Rattle.dispatcher.specs.declared.Taken.{Taken}

@@ -3,16 +3,14 @@
 use Prim.Native.Nat.{ℕ, zero, suc, _+_, _*_, _-_, _%_, _≤_, _<_, min}
 use mathlib.Core.Bool.{Bool, true, false, cond}
 use mathlib.Core.List.{List, [], _∷_, _++_}
-use mathlib.Core.Logic.{⊎-elim}
-use mathlib.Core.Option.{Option, some}
 use mathlib.Core.Path.{_≡_, refl, sym, _∙_, ap}
 use native.Mathlib.Omega.{arith}
 use borrow.Author.Tests.{lt-ltb, le-ltb, le-leb, lt-leb, eqb-true, eqb-false}
 use lib.Dec.{eqb}
 use lib.ListN.{length, getD, set, length-set}
 use lib.Seq.{getD-set-same, getD-set-other, ext-getD}
-use Rattle.dispatcher.specs.Dispatcher.{state, waiting, add}
-use Rattle.dispatcher.specs.Words.{itemsFrom, countOf, queueOf, queuesFrom, lastOf, stateOf, Adds, Serves}
+use Rattle.dispatcher.specs.Dispatcher.{waiting, add}
+use Rattle.dispatcher.specs.Words.{itemsFrom, countOf, queueOf, queuesFrom, Adds, Serves}
 use Rattle.dispatcher.specs.declared.Added.the-variants.{Done, Refused}
 use Rattle.dispatcher.proofs.Lists.{set-one}
 

@@ -1,7 +1,7 @@
 -- A take's loop, by the definition's look: `starts`, with 32 queues to look at; `passes`, an empty one; `stops`, at one that waits; `ends`,
 -- after all.
 use Prim.Native.Nat.{ℕ, zero, suc, _+_, _-_, _%_, _≤_, _<_}
-use mathlib.Core.List.{List, [], _∷_}
+use mathlib.Core.List.{List}
 use mathlib.Core.Path.{_≡_, refl, sym, _∙_}
 use native.Mathlib.Numerals.{add-one}
 use native.Mathlib.Omega.{arith}
@@ -32,7 +32,7 @@ module _ (ws us : List ℕ) (q steps : ℕ) (r : Round ws us q steps) where
   unfolding look
   looked l =
       let n : 32 - steps ≡ suc (32 - (steps + 1)) = omega arith in
-      r .same ∙ rw (n, queue-at ws q (r .below), add-one) refl
+      r .same ∙ rw (n, queue-at ws q (r .below), add-one steps) refl
 
   pub passes : steps < 32 → getD us (544 + q) 0 ≡ 0 → Round ws us ((q + 1) % 32) (steps + 1)
   unfolding itemsFrom

@@ -1,5 +1,4 @@
 -- Rows of calls from the empty state with what they answer, one table by one fact; and the words of the empty state.
-use Prim.Native.Nat.{ℕ}
 use mathlib.Core.List.{List, [], _∷_, _++_, map}
 use mathlib.Core.Path.{_≡_, refl}
 use lib.ListN.{replicate}

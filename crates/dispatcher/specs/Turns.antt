@@ -1,11 +1,12 @@
--- Document 02's sentences on all rows of adds and takes from the empty state. `proofs/Turns` proves the four statements at the end.
-use Prim.Native.Nat.{ℕ, zero, suc, _+_, _-_, _%_, _≤_, _<_}
+-- Document 02's sentences on all rows of adds and takes from the empty state. `proofs/Turns` proves the statements at the end.
+use Prim.Native.Nat.{ℕ, suc, _+_, _-_, _%_, _≤_, _<_}
 use mathlib.Core.Bool.{cond}
 use mathlib.Core.List.{List, [], _∷_, _++_}
 use mathlib.Core.Path.{_≡_}
 use lib.Dec.{eqb}
-use lib.ListN.{length}
+use lib.ListN.{length, replicate}
 use Rattle.dispatcher.specs.Dispatcher.{State, state, empty, waiting, add, begins, take}
+use Rattle.dispatcher.specs.Words.{stateOf, Adds, Takes}
 use Rattle.dispatcher.specs.declared.Added.{Added}
 use Rattle.dispatcher.specs.declared.Added.the-variants.{Done, Refused}
 use Rattle.dispatcher.specs.declared.Taken.{Taken}
@@ -107,3 +108,21 @@ UpTo16 = (calls : List Call) (q : ℕ) → length (waiting (queues (run calls em
 -- the counter, in every state that adds and takes make from the empty one
 abbrev pub StepsCounted : Type 0
 StepsCounted = (calls : List Call) → Counted (run calls empty) (take (run calls empty) .0)
+
+-- a row of calls on words, one after the other: what they answer, and the words after them
+pub data Made : List Call → List ℕ → List Event → List ℕ → Type 0 where
+  none-made : {words : List ℕ} → Made [] words [] words
+  add-made :
+      {q item : ℕ} {answer : Added} {cs : List Call} {es : List Event} {words next after : List ℕ} →
+      Adds q item words next answer → Made cs next es after → Made (adds q item ∷ cs) words (added q item answer ∷ es) after
+  take-made :
+      {answer : Taken} {cs : List Call} {es : List Event} {words next after : List ℕ} →
+      Takes words next answer → Made cs next es after → Made (takes ∷ cs) words (taken answer ∷ es) after
+
+-- calls on 577 zeros answer what the definition answers from the empty state, and leave the words of its state: so the sentences above are
+-- of the code
+abbrev pub OnWords : Type 0
+OnWords =
+    (calls : List Call) (events : List Event) (after : List ℕ) →
+    Made calls (replicate 577 0) events after →
+    (events ≡ log calls empty) × (stateOf after ≡ run calls empty)

@@ -4,7 +4,6 @@
 // No public function here has a `requires`.
 mod exports;
 
-ghost use mathlib.Core.Path.{_≡_};
 ghost use Prim.Native.Nat.{_+_, _<_};
 ghost use lib.ListN.{getD};
 ghost use Rattle.dispatcher.specs.Words.{Adds, Takes, Serves};

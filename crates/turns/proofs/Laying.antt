@@ -1,8 +1,8 @@
 -- Texts laid one after the other (`Laid`): `Copied`, a text that is being copied; `laid-then`, another behind it; `laid-byte`, a byte behind it; and the digits of
 -- a number in ten bytes (`Digits`).
-use Prim.Native.Nat.{ℕ, suc, _+_, _^_, _≤_, _<_}
+use Prim.Native.Nat.{ℕ, _+_, _^_, _≤_, _<_}
 use mathlib.Core.List.{List, [], _∷_, _++_, append-assoc}
-use mathlib.Core.Path.{_≡_, refl, sym, _∙_, ap}
+use mathlib.Core.Path.{_≡_, refl, _∙_}
 use native.Mathlib.Numerals.{add-one}
 use native.Mathlib.Omega.{arith}
 use borrow.Author.Tests.{le-leb}

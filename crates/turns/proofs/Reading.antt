@@ -1,7 +1,7 @@
 -- Reading a line byte by byte: `Begun`, the first i bytes of a text are those of s; `Passed`, no blank among the first i bytes; `Told`, the
 -- first i digits write v. Each has a law to begin, one for the next byte, and one for each way to end.
-use Prim.Native.Nat.{ℕ, zero, suc, _+_, _*_, _-_, _≤_, _<_}
-use mathlib.Core.Bool.{Bool, true, false, cond, _&&_}
+use Prim.Native.Nat.{ℕ, suc, _+_, _*_, _-_, _≤_, _<_}
+use mathlib.Core.Bool.{Bool, true, false, cond}
 use mathlib.Core.List.{List, [], _∷_}
 use mathlib.Core.Option.{Option, none, some}
 use mathlib.Core.Path.{_≡_, refl, sym, _∙_}
@@ -11,7 +11,7 @@ use lib.Dec.{eqb}
 use lib.ListN.{length, getD, take, drop, length-drop}
 use lib.Seq.{take-all}
 use Rattle.words.proofs.Words.{drop-word, drop-none}
-use Rattle.turns.specs.Command.{strip, digitsFrom, zeroAlone, numberOf, beforeBlank, adding, pairOf, taking, pairIn, commandOf, bytes}
+use Rattle.turns.specs.Command.{strip, digitsFrom, numberOf, beforeBlank, adding, pairOf, commandOf, bytes}
 use Rattle.turns.specs.declared.line.Command.the-variants.{Take, Unread}
 
 pub record Begun (text s : List ℕ) (i : ℕ) : Type 0 where

@@ -1,9 +1,9 @@
 -- A line is answered, by the command that it is: `by-add`, `by-take`, `by-unread`.
 use Prim.Native.Nat.{ℕ}
 use mathlib.Core.List.{List}
-use mathlib.Core.Path.{_≡_, refl, sym, ap}
+use mathlib.Core.Path.{_≡_, refl, ap}
 use Rattle.dispatcher.specs.Dispatcher.{State}
-use Rattle.dispatcher.specs.Words.{stateOf, Adds, Takes}
+use Rattle.dispatcher.specs.Words.{Adds, Takes}
 use Rattle.dispatcher.specs.declared.Added.{Added}
 use Rattle.dispatcher.specs.declared.Taken.{Taken}
 use Rattle.turns.specs.Command.{bytes, commandOf}

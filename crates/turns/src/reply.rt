@@ -6,9 +6,7 @@ use dispatcher::Taken;
 use dispatcher::add;
 use dispatcher::take;
 ghost use Prim.Native.Nat.{_+_, _≤_};
-ghost use mathlib.Core.List.{_++_};
 ghost use lib.ListN.{length};
-ghost use Rattle.words.specs.Decimal.{decimal};
 ghost use Rattle.turns.specs.Reply.{field, addedText, takenText, Laid, Replies};
 
 // Lays a text at a place of out, and answers where it ends.

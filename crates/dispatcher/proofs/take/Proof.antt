@@ -1,7 +1,6 @@
 -- The loop's invariant: the words are as they were, and what is left is the definition's look from the queue q on (`Round`).
 use Prim.Native.Nat.{_-_}
 use native.Mathlib.Omega.{arith}
-use borrow.Author.Needs.{needs}
 use Rattle.dispatcher.proofs.Round.{Round, starts, passes, stops, ends}
 use Rattle.dispatcher.proofs.take.Statement.{statement}
 use Rattle.dispatcher.proofs.take.Tie as tie

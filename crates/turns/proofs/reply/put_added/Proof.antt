@@ -1,5 +1,4 @@
 -- The text of the answer that an arm opens is laid, piece by piece (`laid-then`).
-use native.Mathlib.Omega.{arith}
 use borrow.Author.Needs.{needs}
 use Rattle.turns.proofs.Laying.{laid-then}
 use Rattle.turns.proofs.reply.put_added.Statement.{statement}
