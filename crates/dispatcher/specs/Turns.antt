@@ -22,6 +22,7 @@ pub data Event : Type 0 where
   added : (q item : ℕ) → Added → Event
   taken : Taken → Event
 
+-- a call's answer, and the state after it
 abbrev pub step : Call → State → Event × State
 step (adds q item) s = let r = add q item s in (added q item (r .0), r .1)
 step takes s = let r = take s in (taken (r .0), r .1)
@@ -62,6 +63,7 @@ unfoldable pub cameOut : ℕ → List Event → List ℕ
 cameOut q [] = []
 cameOut q (e ∷ es) = outOf q e ++ cameOut q es
 
+-- how many of the calls are takes
 unfoldable pub takesIn : List Call → ℕ
 takesIn [] = 0
 takesIn (adds q item ∷ cs) = takesIn cs
@@ -82,6 +84,7 @@ pub record NoneWaits (s : State) (steps : ℕ) : Type 0 where
   pub all : steps ≡ 32
   pub passed : (q : ℕ) → q < 32 → waiting (queues s) q ≡ []
 
+-- what a take's answer says of the state that it was asked in
 abbrev pub Counted : State → Taken → Type 0
 Counted s (Served q item steps) = ServedAfter s q item steps
 Counted s (None steps) = NoneWaits s steps
