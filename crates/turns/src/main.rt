@@ -7,7 +7,7 @@ use libc::STDIN_FILENO;
 use libc::STDOUT_FILENO;
 use reply::reply;
 
-// Of a line that is being read the first 32 bytes are kept: no line that asks something is longer than 25.
+// Of a line that is being read the first 32 bytes are kept, which ask what the line asks (proofs/Long.antt).
 const KEPT: usize = 32;
 
 // Answers the first n bytes of a line, at a place of the page, and says where the next answer goes; a page without room is written first.
