@@ -1,0 +1,5 @@
+pub mod Cases
+pub mod Dispatcher
+pub mod Numbers
+pub mod Turns
+pub mod Words

@@ -1,0 +1,4 @@
+pub mod Laying
+pub mod Long
+pub mod Reading
+pub mod Replying

@@ -1,0 +1,3 @@
+pub mod Command
+pub mod Decimal
+pub mod Reply
