@@ -12,7 +12,7 @@ use Rattle.expr.specs.Tree.{Expr, var, unresolved, node, predicate, comprehensi
 use Rattle.clauses.specs.Tree.{Projection, projection, Yield, yield, Clause, opening, reading, with', return, unwind, call, Arm, arm, exprs}
 use Rattle.tables.specs.Row.{Row, row}
 use Rattle.expr.specs.Erase.{eraseE, erases, eraseS}
-use Rattle.clauses.specs.Erase.{eraseP, eraseC, eraseA}
+use Rattle.clauses.specs.Erase.{eraseProjection, eraseC, eraseA}
 use Rattle.resolve.specs.Log.{Finding, finding, Bound, bound, Event, open', bind, carry, answer, find, opened, scopesIn, scopeOf}
 use Rattle.resolve.specs.Resolve.{World, Seen, seen, lookup, rowOf, again, bindNew, recordVar, recordName, direct, pathLog, pathOwn, elemLog, elemOwn, owned, variable, resolve, resolves, bindPattern, carriedBy, carryAt, bindAt, yieldName, yieldsLog, barrier, fresh, clauseLog, visAfter, curAfter, clausesLog, armsLog, isStar, bytesOf}
 use Rattle.checker.proofs.Views.{pick-map}
@@ -94,8 +94,8 @@ owned-erase w end own outer = refl
 owned-erase w (part p s) own outer = owned-erase w s (pathOwn w (variable p) own) outer
 owned-erase w (elem k a b v es s) own outer = owned-erase w s (elemOwn w (variable v) own outer) outer
 
-pub exprs-erase : (ps : List Projection) (es : Exprs) → erases (exprs ps es) ≡ exprs (map eraseP ps) (erases es)
-unfolding exprs eraseP erases
+pub exprs-erase : (ps : List Projection) (es : Exprs) → erases (exprs ps es) ≡ exprs (map eraseProjection ps) (erases es)
+unfolding exprs eraseProjection erases
 exprs-erase [] es = refl
 exprs-erase (projection a e ∷ ps) es = ap (more (eraseE e)) (exprs-erase ps es)
 
@@ -107,8 +107,8 @@ direct-erase (node f es) = refl
 direct-erase (predicate s) = refl
 direct-erase (comprehension a b s es) = refl
 
-pub carried-erase : (w : World) (ps : List Projection) (vis : List Seen) → carriedBy w (map eraseP ps) vis ≡ carriedBy w ps vis
-unfolding carriedBy eraseP
+pub carried-erase : (w : World) (ps : List Projection) (vis : List Seen) → carriedBy w (map eraseProjection ps) vis ≡ carriedBy w ps vis
+unfolding carriedBy eraseProjection
 carried-erase w [] vis = refl
 carried-erase w (projection a e ∷ ps) vis = rw (direct-erase e, carried-erase w ps vis) refl
 

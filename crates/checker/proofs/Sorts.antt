@@ -3,7 +3,7 @@ use Prim.Native.Nat.{ℕ, zero, suc, _+_, _*_, _<_, _≤_}
 use native.Mathlib.Numerals.{add-one, add-two, add-three}
 use native.Mathlib.Omega.{arith}
 use mathlib.Core.Path.{_≡_, refl}
-use mathlib.Core.Bool.{Bool, true, false}
+use mathlib.Core.Bool.{Bool, true, false, cond}
 use mathlib.Core.List.{List, [], _∷_}
 use borrow.Author.Tests.{ne-eqb, eqb-true, eqb-false}
 use lib.Dec.{eqb}
@@ -11,7 +11,6 @@ use lib.ListN.{length, set}
 use lib.Seq.{sets}
 use Rattle.scope.specs.Flat.{parentOf}
 use Rattle.scope.specs.Graph.{scope, carried}
-use Rattle.heads.specs.Got.{pick}
 use Rattle.resolve.specs.Log.{Event, open', bind, carry, answer, find, bound, finding, write, found, missing, scopeOf, bindOf, carryOf, answerOf, findOf}
 use Rattle.resolve.specs.Walk.{answered}
 use Rattle.kinds.specs.Walk.{findingWords}
@@ -24,11 +23,11 @@ use Rattle.checker.proofs.Adding.{one-added}
 
 -- an event is what its sort says, and nothing of another sort
 module _ (P : Event → Type 0) where
-  picked : (b : Bool) {Q : Type 0} {x y : Event} → (b ≡ true → Q) → (b ≡ false → Q → ⊥) → (Q → P x) → ((Q → ⊥) → P y) → P (pick b x y)
+  picked : (b : Bool) {Q : Type 0} {x y : Event} → (b ≡ true → Q) → (b ≡ false → Q → ⊥) → (Q → P x) → ((Q → ⊥) → P y) → P (cond b x y)
   picked true q n p r = p (q refl)
   picked false q n p r = r (n refl)
 
-  sorted : (t k : ℕ) {x y : Event} → (t ≡ k → P x) → ((t ≡ k → ⊥) → P y) → P (pick (eqb t k) x y)
+  sorted : (t k : ℕ) {x y : Event} → (t ≡ k → P x) → ((t ≡ k → ⊥) → P y) → P (cond (eqb t k) x y)
   sorted t k = picked (eqb t k) (eqb-true t k) (eqb-false t k)
 
 module _ (e : Logged) where

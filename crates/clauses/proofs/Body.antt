@@ -1,16 +1,16 @@
 -- What follows the kind and the span of a clause: which words it is does not go by the span, and of some kinds it is one reading.
 use Prim.Native.Nat.{ℕ}
 use mathlib.Core.Path.{_≡_, refl}
-use mathlib.Core.Bool.{Bool, true, false}
+use mathlib.Core.Bool.{Bool, true, false, cond}
 use mathlib.Core.List.{List}
-use Rattle.heads.specs.Got.{Got, ok, no, bind, bare, pick, any, flag, counted}
+use Rattle.heads.specs.Got.{Got, ok, no, bind, bare, anyWord, flag, counted}
 use Rattle.heads.specs.Head.{Tables}
 use Rattle.heads.proofs.Shapes.{bare-map}
 use Rattle.expr.specs.Read.{noMore, times, pattern, maybePattern}
 use Rattle.clauses.specs.Tree.{Opening, Reading, where', delete, opening, reading, return, unwind}
 use Rattle.clauses.specs.Read.{clauseExpr, readProjection, readYield, countedExprs, countedMarks, readMatch, readOpening, readWhere, readWith, readReturn, readUnwind, readMarked, readDelete, readCall, readBody}
 
-bare-both : {A : Type 0} (b : Bool) (x y : Got A) → bare (pick b x y) ≡ pick b (bare x) (bare y)
+bare-both : {A : Type 0} (b : Bool) (x y : Got A) → bare (cond b x y) ≡ cond b (bare x) (bare y)
 bare-both true x y = refl
 bare-both false x y = refl
 
@@ -52,7 +52,7 @@ module _ (w : Tables) (a b : ℕ) (ws : List ℕ) where
   unwind-bare : bare (readUnwind w a b ws) ≡ bare (readUnwind w 0 0 ws)
   unfolding readUnwind
   unwind-bare =
-      bare-same (any ws) _ _ (λ v r. simp (bare-both, bare-map (clauseExpr w r) (λ e. unwind a b v e), bare-map (clauseExpr w r) (λ e. unwind 0 0 v e)))
+      bare-same (anyWord ws) _ _ (λ v r. simp (bare-both, bare-map (clauseExpr w r) (λ e. unwind a b v e), bare-map (clauseExpr w r) (λ e. unwind 0 0 v e)))
 
   call-bare : bare (readCall w a b ws) ≡ bare (readCall w 0 0 ws)
   unfolding readCall

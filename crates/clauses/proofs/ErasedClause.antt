@@ -15,7 +15,7 @@ use Rattle.clauses.specs.Tree.{Projection, projection, Reading, where', 
 use Rattle.clauses.specs.Read.{maxDepth, readClause, readArm}
 use Rattle.clauses.specs.Write.{writeClause, writeArm}
 use Rattle.clauses.specs.Well.{Each, WellProjection, WellReading, WellMany, WellClause, WellArm}
-use Rattle.clauses.specs.Erase.{eraseP, eraseC, eraseA}
+use Rattle.clauses.specs.Erase.{eraseProjection, eraseC, eraseA}
 use Rattle.clauses.proofs.ReadsBackClause.{same-many, clause-back, arm-back}
 
 module _ {A : Type 0} (Well : A → Type 0) (erase : A → A) (keeps : (x : A) → Well x → Well (erase x)) where
@@ -37,8 +37,8 @@ erase-words one e write Well back erase keeps xs ys h i p =
     same-many one write Well back e _ _ (erase-each Well erase keeps xs h) (erase-each Well erase keeps ys i) p
 
 module _ (w : Tables) where
-  erase-projection : (p : Projection) → WellProjection w p → WellProjection w (eraseP p)
-  unfolding eraseP WellProjection
+  erase-projection : (p : Projection) → WellProjection w p → WellProjection w (eraseProjection p)
+  unfolding eraseProjection WellProjection
   erase-projection (projection a e) h = (h .0, erase-well w e maxDepth (h .1))
 
   erase-reading : (r : Reading) (es : Exprs) → WellReading w r es → WellReading w r (erases es)
@@ -57,8 +57,8 @@ module _ (w : Tables) where
   erase-clause-well (opening o a b s) h = (omega arith, h .1, erase-pattern s (h .2))
   erase-clause-well (reading r a b es) h = (omega arith, erase-reading r es (h .1))
   erase-clause-well (with' a b ps f) h =
-      (omega arith, erase-many (WellProjection w) eraseP erase-projection ps (h .1), rw (erase-kids f) (h .2), erase-marks f ∙ h .3, erase-wells w 0 f maxDepth (h .4))
-  erase-clause-well (return a b ps) h = (omega arith, erase-many (WellProjection w) eraseP erase-projection ps (h .1))
+      (omega arith, erase-many (WellProjection w) eraseProjection erase-projection ps (h .1), rw (erase-kids f) (h .2), erase-marks f ∙ h .3, erase-wells w 0 f maxDepth (h .4))
+  erase-clause-well (return a b ps) h = (omega arith, erase-many (WellProjection w) eraseProjection erase-projection ps (h .1))
   erase-clause-well (unwind a b v e) h = (omega arith, h .1, h .2, erase-well w e maxDepth (h .3))
   erase-clause-well (call a b es ys) h = (omega arith, erase-reading delete es (h .1), h .2)
 

@@ -1,11 +1,11 @@
 -- Cause 7 is decided after causes 5 and 6, in clauses and arms too: a strict reader and its loose one agree up to the first variable
 -- that is not known, and what the loose one reads binds it. Readers one after the other keep this, so that many of a kind do.
 use Prim.Native.Nat.{ℕ, zero, suc}
-use mathlib.Core.Bool.{Bool, true, false}
+use mathlib.Core.Bool.{Bool, true, false, cond}
 use mathlib.Core.Path.{refl}
 use mathlib.Core.List.{List, [], flatMap}
 use lib.Dec.{eqb}
-use Rattle.heads.specs.Got.{Got, pick, wordIn, any, flag, many, counted}
+use Rattle.heads.specs.Got.{Got, wordIn, anyWord, flag, many, counted}
 use Rattle.heads.specs.Head.{Tables}
 use Rattle.heads.specs.declared.Maybe.the-variants as maybe
 use Rattle.expr.specs.Binders.{binder, binders, bindersE}
@@ -23,11 +23,11 @@ module _ {w : Tables} where
   pub strict-counted : {A : Type 0} {bs : A → List ℕ} {one one' : List ℕ → Got A} → Follows w bs one one' →
       Follows w (flatMap bs) (counted one) (counted one')
   unfolding counted
-  strict-counted p ws = strict-head (any ws) (λ n r. strict-many p n r)
+  strict-counted p ws = strict-head (anyWord ws) (λ n r. strict-many p n r)
 
   -- an entry of a table of readers, or the rest of the table
   entry : {A : Type 0} {bs : A → List ℕ} {g g' h h' : Got A} (b : Bool) → Strict w [] bs g g' → Strict w [] bs h h' →
-      Strict w [] bs (pick b g h) (pick b g' h')
+      Strict w [] bs (cond b g h) (cond b g' h')
   entry true p q = p
   entry false p q = q
 
@@ -40,11 +40,11 @@ module _ {w : Tables} where
 
   strict-exprs : Follows w binders (countedExprs (loose w)) (countedExprs w)
   unfolding countedExprs
-  strict-exprs ws = strict-head (any ws) (λ n r. strict-row n expr r)
+  strict-exprs ws = strict-head (anyWord ws) (λ n r. strict-row n expr r)
 
   strict-marked : (kind : ℕ) → Follows w binders (countedMarks (loose w) kind) (countedMarks w kind)
   unfolding countedMarks
-  strict-marked kind ws = strict-head (any ws) (λ n r. strict-marks kind n expr r)
+  strict-marked kind ws = strict-head (anyWord ws) (λ n r. strict-marks kind n expr r)
 
   strict-body : (a b kind : ℕ) → Follows w bindersC (readBody (loose w) a b kind) (readBody w a b kind)
   unfolding clausal bindersC binder
@@ -56,7 +56,7 @@ module _ {w : Tables} where
       (λ ps r. strict-head (flag r) (λ g r2. strict-bind (strict-row g expr r2) (λ es r3. same refl))))
       (entry (eqb kind 4) (strict-bind (strict-counted strict-projection ws) (λ ps r. same refl))  -- Return
       (entry (eqb kind 5)  -- Unwind
-      (strict-head (any ws) (λ v r. strict-allow (maybe.Var v) (strict-bind (expr r) (λ e r2. same refl))))
+      (strict-head (anyWord ws) (λ v r. strict-allow (maybe.Var v) (strict-bind (expr r) (λ e r2. same refl))))
       (entry (eqb kind 6) (strict-bind (strict-pattern expr ws) (λ s r. same refl))  -- Create
       (entry (eqb kind 7) (strict-bind (strict-pattern expr ws) (λ s r. same refl))  -- Merge
       (entry (eqb kind 8) (strict-bind (strict-marked 1 ws) (λ es r. same refl))  -- Set
@@ -69,10 +69,10 @@ module _ {w : Tables} where
 pub strict-clause : (w : Tables) → Follows w bindersC (readClause (loose w)) (readClause w)
 unfolding readClause
 strict-clause w ws =
-    strict-head (any ws) (λ kind r. strict-head (any r) (λ a r2. strict-head (wordIn a 4294967296 r2) (λ b r3. strict-body a b kind r3)))
+    strict-head (anyWord ws) (λ kind r. strict-head (anyWord r) (λ a r2. strict-head (wordIn a 4294967296 r2) (λ b r3. strict-body a b kind r3)))
 
 pub strict-arm : (w : Tables) → Follows w bindersA (readArm (loose w)) (readArm w)
 unfolding readArm bindersA
 strict-arm w ws =
-    strict-head (any ws)
+    strict-head (anyWord ws)
     (λ a r. strict-head (wordIn a 4294967296 r) (λ b r2. strict-bind (strict-counted (strict-clause w) r2) (λ cs r3. same refl)))

@@ -2,13 +2,13 @@
 -- clause's words, and the clause is within the tables. The same of many of a kind, by induction on how many.
 use Prim.Native.Nat.{ℕ, zero, suc, _<_}
 use native.Mathlib.Omega.{arith}
-use mathlib.Core.Bool.{Bool, true, false}
+use mathlib.Core.Bool.{Bool, true, false, cond}
 use mathlib.Core.Path.{_≡_, refl, ap}
 use mathlib.Core.List.{List, _∷_, _++_, append-assoc, flatMap}
 use lib.Dec.{eqb}
 use lib.ListN.{length}
 use borrow.Author.Tests.{eqb-true}
-use Rattle.heads.specs.Got.{Got, ok, pick, many, counted}
+use Rattle.heads.specs.Got.{Got, ok, many, counted}
 use Rattle.heads.specs.Head.{Tables}
 use Rattle.expr.specs.Tree.{Exprs, kidCount, markCount}
 use Rattle.expr.specs.Read.{noMore, times, pattern}
@@ -51,10 +51,10 @@ abbrev WellMarks : Tables → ℕ → Exprs → Type 0
 WellMarks w kind es = (kidCount es ≡ 0) × IsWord (markCount es) × Wells w kind es maxDepth
 
 -- an entry of a table of readers, or the rest of the table
-entry : {A : Type 0} {g h : Got A} {Q : A → List ℕ → Type 0} (k j : ℕ) → (k ≡ j → Gives g Q) → Gives h Q → Gives (pick (eqb k j) g h) Q
+entry : {A : Type 0} {g h : Got A} {Q : A → List ℕ → Type 0} (k j : ℕ) → (k ≡ j → Gives g Q) → Gives h Q → Gives (cond (eqb k j) g h) Q
 entry {A} {g} {h} {Q} k j p q = go (eqb k j) (eqb-true k j)
   where
-    go : (b : Bool) → (b ≡ true → k ≡ j) → Gives (pick b g h) Q
+    go : (b : Bool) → (b ≡ true → k ≡ j) → Gives (cond b g h) Q
     go true e = p (e refl)
     go false e = q
 

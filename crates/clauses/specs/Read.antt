@@ -1,8 +1,9 @@
 -- Clauses and arms read from words (document 01, "Clause"; causes 5, 6 and 7).
+use mathlib.Core.Bool.{cond}
 use Prim.Native.Nat.{ℕ, zero, suc}
 use mathlib.Core.List.{List, [], _∷_}
 use mathlib.Core.Option.{Option, none, some}
-use Rattle.heads.specs.Got.{Got, ok, no, bind, pick, look, wordIn, any, flag, counted}
+use Rattle.heads.specs.Got.{Got, ok, no, bind, look, wordIn, anyWord, flag, counted}
 use Rattle.heads.specs.Head.{Tables}
 use Rattle.expr.specs.Tree.{Exprs, Steps}
 use Rattle.expr.specs.Read.{Reader, readExpr, times, noMore, marks, pattern}
@@ -26,11 +27,11 @@ module _ (w : Tables) where
 
   unfoldable pub readYield : List ℕ → Got Yield
   readYield ws =
-      bind (wordIn 0 (w .names) ws) (λ x r. bind (wordIn 0 (suc (w .names)) r) (λ a r2. bind (any r2) (λ v r3. ok (yield x (aliasOf a) v) r3)))
+      bind (wordIn 0 (w .names) ws) (λ x r. bind (wordIn 0 (suc (w .names)) r) (λ a r2. bind (anyWord r2) (λ v r3. ok (yield x (aliasOf a) v) r3)))
 
   -- a count, and as many expressions
   unfoldable pub countedExprs : List ℕ → Got Exprs
-  countedExprs ws = bind (any ws) (λ n r. times n clauseExpr noMore r)
+  countedExprs ws = bind (anyWord ws) (λ n r. times n clauseExpr noMore r)
 
   -- a flag, and an expression if it is 1
   unfoldable pub filterExprs : List ℕ → Got Exprs
@@ -38,7 +39,7 @@ module _ (w : Tables) where
 
   -- a count, and as many marks of a kind with their expressions
   unfoldable pub countedMarks : ℕ → List ℕ → Got Exprs
-  countedMarks kind ws = bind (any ws) (λ n r. marks kind n clauseExpr r)
+  countedMarks kind ws = bind (anyWord ws) (λ n r. marks kind n clauseExpr r)
 
   -- What follows the kind and the span, a clause kind each.
   module _ (a b : ℕ) where
@@ -61,7 +62,7 @@ module _ (w : Tables) where
 
     -- the variable is bound: cause 7 where it is not known
     unfoldable pub readUnwind : List ℕ → Got Clause
-    readUnwind ws = bind (any ws) (λ v r. pick (w .known v) (bind (clauseExpr r) (λ e r2. ok (unwind a b v e) r2)) (no 7))
+    readUnwind ws = bind (anyWord ws) (λ v r. cond (w .known v) (bind (clauseExpr r) (λ e r2. ok (unwind a b v e) r2)) (no 7))
 
     unfoldable pub readMarked : Reading → ℕ → List ℕ → Got Clause
     readMarked which kind ws = bind (countedMarks kind ws) (λ es r. ok (reading which a b es) r)
@@ -91,11 +92,11 @@ module _ (w : Tables) where
 
   -- "Clause: kind, start, end, then"
   unfoldable pub readClause : List ℕ → Got Clause
-  readClause ws = bind (any ws) (λ kind r. bind (any r) (λ a r2. bind (wordIn a 4294967296 r2) (λ b r3. readBody a b kind r3)))
+  readClause ws = bind (anyWord ws) (λ kind r. bind (anyWord r) (λ a r2. bind (wordIn a 4294967296 r2) (λ b r3. readBody a b kind r3)))
 
   -- "Arm: start, end, clause count, clauses"
   unfoldable pub readArm : List ℕ → Got Arm
-  readArm ws = bind (any ws) (λ a r. bind (wordIn a 4294967296 r) (λ b r2. bind (counted readClause r2) (λ cs r3. ok (arm a b cs) r3)))
+  readArm ws = bind (anyWord ws) (λ a r. bind (wordIn a 4294967296 r) (λ b r2. bind (counted readClause r2) (λ cs r3. ok (arm a b cs) r3)))
 
 -- `unfolding clausal` opens all of the above
 unfoldable pub clausal : Unit {0}

@@ -3,11 +3,11 @@
 use Prim.Native.Nat.{ℕ, zero, suc, _+_, _-_, _≤_, _<_}
 use native.Mathlib.Omega.{arith}
 use mathlib.Core.Path.{_≡_, refl, ap, sym, _∙_}
-use mathlib.Core.Bool.{Bool, true, false}
+use mathlib.Core.Bool.{Bool, true, false, cond}
 use mathlib.Core.List.{List, _∷_}
 use lib.ListN.{length, getD, drop, length-drop, length-append}
 use Rattle.words.proofs.Words.{drop-word}
-use Rattle.heads.specs.Got.{Got, ok, no, bind, bare, isOk, pick, wordIn, any}
+use Rattle.heads.specs.Got.{Got, ok, no, bind, bare, isOk, wordIn, anyWord}
 use Rattle.heads.specs.Form.{readForm, kidsOf, itemsOf, hasPattern}
 use Rattle.heads.specs.Head.{Tables, allowed, readPart, readElem, markLow, markHigh, markKids}
 use Rattle.heads.specs.declared.Form.{Form}
@@ -46,7 +46,7 @@ pub refused : {A X : Type 0} (g : Got A) (c : ℕ) → isOk g ≡ true → bare 
 refused (ok a r) c o e = never (cc)
 refused (no d) c o e = never (cc)
 
-pub picked : {A : Type 0} (b : Bool) (g : Got A) (c : ℕ) → isOk (pick b g (no c)) ≡ true → pick b g (no c) ≡ g
+pub picked : {A : Type 0} (b : Bool) (g : Got A) (c : ℕ) → isOk (cond b g (no c)) ≡ true → cond b g (no c) ≡ g
 picked true g c o = refl
 picked false g c o = never (cc)
 
@@ -112,9 +112,9 @@ module _ (kind : ℕ) (P : Reader) (ws : List ℕ) (at : ℕ) (o : isOk (markFul
 
 -- a pattern
 module _ (t : Tables) (P : Reader) (ws : List ℕ) (at : ℕ) (has : Bool) (h : has ≡ true) (o : isOk (maybePattern has t P (drop at ws)) ≡ true) where
-  count-fine : (at < length ws) × (any (drop at ws) ≡ ok (getD ws at 0) (drop (at + 1) ws))
+  count-fine : (at < length ws) × (anyWord (drop at ws) ≡ ok (getD ws at 0) (drop (at + 1) ws))
   unfolding pattern maybePattern
-  count-fine = word-there 0 4294967296 ws at (ok-left (any (drop at ws)) _ (rw h at o))
+  count-fine = word-there 0 4294967296 ws at (ok-left (anyWord (drop at ws)) _ (rw h at o))
 
   pub pattern-room : at < length ws
   pattern-room = count-fine .0

@@ -1,11 +1,12 @@
 -- The rows of an expression and a pattern: expressions, marks with their expressions, elements, parts.
+use mathlib.Core.Bool.{cond}
 use Rattle.heads.proofs.Rows.{Rows, rows-rest}
 use Rattle.heads.proofs.Shapes.{Rest, bare-bind, bare-row, bare-map, next-bind, bare-end, bare-pick-row}
 use Rattle.heads.proofs.Chain.{step, test, last, Past, turn, bare-run}
 use Prim.Native.Nat.{ℕ, suc}
 use mathlib.Core.Path.{_≡_, refl, sym, _∙_}
 use mathlib.Core.List.{List}
-use Rattle.heads.specs.Got.{Got, ok, no, bind, next, bare, pick, wordIn}
+use Rattle.heads.specs.Got.{Got, ok, no, bind, next, bare, wordIn}
 use Rattle.heads.specs.Head.{Tables, allowed, readPart, markLow, markHigh, markKids}
 use Rattle.expr.specs.Tree.{more, mark, elem, part}
 use Rattle.expr.specs.Read.{Reader, RestE, RestS, noMore, noSteps, times, marks, elemOne, elems, partOne, parts}
@@ -66,7 +67,7 @@ module _ (w : Tables) (P : Reader) where
   elems-rest K = rows-rest elemRows (λ n r. bare (elems n w P K r)) (λ r. bare (K r)) (elems-more K) (elems-end K)
 
   -- parts
-  part-one : (ws : List ℕ) → bare (partOne w P ws) ≡ bind (readPart ws) (λ h r. pick (allowed w (h .path)) (bare (elems (h .count) w P noSteps r)) (no 7))
+  part-one : (ws : List ℕ) → bare (partOne w P ws) ≡ bind (readPart ws) (λ h r. cond (allowed w (h .path)) (bare (elems (h .count) w P noSteps r)) (no 7))
   unfolding partOne
   part-one = bare-run (step readPart (λ h. test (allowed w (h .path)) 7 (last (elems (h .count) w P noSteps))))
 

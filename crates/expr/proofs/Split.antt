@@ -1,9 +1,9 @@
 -- A row, and what is read after it: the reader of both is the reader of the row and then of the rest, whose trees are put together.
 use Prim.Native.Nat.{ℕ, zero, suc}
 use mathlib.Core.Path.{_≡_, refl, ap, _∙_}
-use mathlib.Core.Bool.{Bool, true, false}
+use mathlib.Core.Bool.{Bool, true, false, cond}
 use mathlib.Core.List.{List}
-use Rattle.heads.specs.Got.{Got, ok, no, bind, pick, wordIn}
+use Rattle.heads.specs.Got.{Got, ok, no, bind, wordIn}
 use Rattle.heads.specs.Head.{Tables, allowed, readPart, markLow, markHigh, markKids}
 use Rattle.heads.specs.declared.Part.{Part}
 use Rattle.heads.specs.declared.Elem.{Elem}
@@ -82,10 +82,10 @@ module _ (w : Tables) (P : Reader) where
   unfolding parts partFull joinS
   parts-step n ws = turn (readPart ws)
     where
-      tested : (t : Bool) (h : Part) (r : List ℕ) → pick t (bind (elems (h .count) w P (parts n w P) r) (λ s r2. ok (part (h .path) s) r2)) (no 7) ≡ bind (pick t (bind (elems (h .count) w P noSteps r) (λ s r2. ok (part (h .path) s) r2)) (no 7)) (λ a r. bind (parts n w P r) (λ b r2. ok (joinS a b) r2))
+      tested : (t : Bool) (h : Part) (r : List ℕ) → cond t (bind (elems (h .count) w P (parts n w P) r) (λ s r2. ok (part (h .path) s) r2)) (no 7) ≡ bind (cond t (bind (elems (h .count) w P noSteps r) (λ s r2. ok (part (h .path) s) r2)) (no 7)) (λ a r. bind (parts n w P r) (λ b r2. ok (joinS a b) r2))
       tested true h r = split-by joinS (part (h .path)) (λ a b. refl) (elems (h .count) w P noSteps r) (elems (h .count) w P (parts n w P) r) (parts n w P) (elems-split (parts n w P) (h .count) r)
       tested false h r = refl
 
-      turn : (g : Got Part) → bind g (λ h r. pick (allowed w (h .path)) (bind (elems (h .count) w P (parts n w P) r) (λ s r2. ok (part (h .path) s) r2)) (no 7)) ≡ bind (bind g (λ h r. pick (allowed w (h .path)) (bind (elems (h .count) w P noSteps r) (λ s r2. ok (part (h .path) s) r2)) (no 7))) (λ a r. bind (parts n w P r) (λ b r2. ok (joinS a b) r2))
+      turn : (g : Got Part) → bind g (λ h r. cond (allowed w (h .path)) (bind (elems (h .count) w P (parts n w P) r) (λ s r2. ok (part (h .path) s) r2)) (no 7)) ≡ bind (bind g (λ h r. cond (allowed w (h .path)) (bind (elems (h .count) w P noSteps r) (λ s r2. ok (part (h .path) s) r2)) (no 7))) (λ a r. bind (parts n w P r) (λ b r2. ok (joinS a b) r2))
       turn (ok h r) = tested (allowed w (h .path)) h r
       turn (no c) = refl

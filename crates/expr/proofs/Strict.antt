@@ -1,10 +1,10 @@
 -- Cause 7 is decided after causes 5 and 6. A strict reader refuses with 7 at the first variable that has no row of the bindings table,
 -- a loose one lets every variable pass. The two agree up to that variable, and what the loose one reads from there on binds it as well.
 use Prim.Native.Nat.{ℕ, zero, suc}
-use mathlib.Core.Bool.{Bool, true, false, _&&_, and-assoc, and-true, and-false}
+use mathlib.Core.Bool.{Bool, true, false, _&&_, and-assoc, and-true, and-false, cond}
 use mathlib.Core.Path.{_≡_, refl, sym, _∙_, ap}
 use mathlib.Core.List.{List, [], _∷_, _++_, append-assoc}
-use Rattle.heads.specs.Got.{Got, ok, no, bind, pick, wordIn, any}
+use Rattle.heads.specs.Got.{Got, ok, no, bind, wordIn, anyWord}
 use Rattle.heads.specs.Form.{readForm, kidsOf, itemsOf}
 use Rattle.heads.specs.Head.{Tables, allowed, readPart, readElem, markLow, markHigh, markKids}
 use Rattle.heads.specs.declared.Elem.{Elem}
@@ -48,7 +48,7 @@ nodeOf f P r = bind (times (kidsOf f) P (marks 0 (itemsOf f) P) r) (λ es r2. ok
 
 module _ {w : Tables} where
   -- where ys are bound after xs, the strict reader goes on only if they are known
-  cut : {A : Type 0} {xs : List ℕ} {ds : A → List ℕ} {g h : Got A} (ys : List ℕ) (b : Bool) → allKnown (w .known) ys ≡ b → Strict w (xs ++ ys) ds g h → Strict w xs ds g (pick b h (no 7))
+  cut : {A : Type 0} {xs : List ℕ} {ds : A → List ℕ} {g h : Got A} (ys : List ℕ) (b : Bool) → allKnown (w .known) ys ≡ b → Strict w (xs ++ ys) ds g h → Strict w xs ds g (cond b h (no 7))
   cut {xs} ys true e (same q) = same (q ∙ known-append (w .known) true xs ys e ∙ and-true (allKnown (w .known) xs))
   cut ys true e refused = refused
   cut ys true e (unknown q) = unknown q
@@ -72,7 +72,7 @@ module _ {w : Tables} where
   strict-head (no c) f = refused
 
   -- after a variable that is bound, where one is
-  pub strict-allow : {A : Type 0} {xs : List ℕ} {ds : A → List ℕ} {g h : Got A} (m : Maybe) → Strict w (xs ++ binder m) ds g h → Strict w xs ds (pick (allowed (loose w) m) g (no 7)) (pick (allowed w m) h (no 7))
+  pub strict-allow : {A : Type 0} {xs : List ℕ} {ds : A → List ℕ} {g h : Got A} (m : Maybe) → Strict w (xs ++ binder m) ds g h → Strict w xs ds (cond (allowed (loose w) m) g (no 7)) (cond (allowed w m) h (no 7))
   unfolding allKnown binder
   strict-allow (maybe.Var v) s = cut (v ∷ []) (w .known v) (and-true (w .known v)) s
   strict-allow maybe.Nothing s = cut [] true refl s
@@ -115,7 +115,7 @@ module _ {w : Tables} where
 
   pub strict-pattern : {P P' : Reader} → Follows w bindersE P P' → Follows w bindersS (pattern (loose w) P) (pattern w P')
   unfolding pattern
-  strict-pattern p ws = strict-head (any ws) (λ n r. strict-parts n p r)
+  strict-pattern p ws = strict-head (anyWord ws) (λ n r. strict-parts n p r)
 
   strict-node : (f : Form) {P P' : Reader} → Follows w bindersE P P' → Follows w bindersE (nodeOf f P) (nodeOf f P')
   unfolding bindersE

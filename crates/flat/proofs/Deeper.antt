@@ -1,9 +1,9 @@
 -- With one level more of room a reading is the same, but where less room refuses it by cause 6.
 use Prim.Native.Nat.{ℕ, zero, suc}
-use mathlib.Core.Bool.{Bool, true, false}
+use mathlib.Core.Bool.{Bool, true, false, cond}
 use mathlib.Core.Path.{_≡_}
 use mathlib.Core.List.{List, [], _∷_}
-use Rattle.heads.specs.Got.{Got, ok, no, bind, next, bare, pick, wordIn, any}
+use Rattle.heads.specs.Got.{Got, ok, no, bind, next, bare, wordIn, anyWord}
 use Rattle.heads.specs.Form.{readForm, kidsOf, itemsOf, hasPattern}
 use Rattle.heads.specs.Head.{Tables, allowed, readPart, readElem, markLow, markHigh, markKids, deepCause}
 use Rattle.heads.specs.declared.Form.{Form}
@@ -43,7 +43,7 @@ pub deep-ok : {A : Type 0} {g h : Got A} {a : A} {r : List ℕ} → Deep g h →
 deep-ok same e = e
 deep-ok deep e = never (cc)
 
-deep-pick : {A : Type 0} {g h : Got A} (b : Bool) → Deep g h → Deep (pick b g (no 7)) (pick b h (no 7))
+deep-pick : {A : Type 0} {g h : Got A} (b : Bool) → Deep g h → Deep (cond b g (no 7)) (cond b h (no 7))
 deep-pick true d = d
 deep-pick false d = same
 
@@ -79,7 +79,7 @@ module _ (w : Tables) {P P' : Reader} (p : Deeper P P') where
 
   deep-pattern : (b : Bool) → Deeper (maybePattern b w P) (maybePattern b w P')
   unfolding maybePattern pattern
-  deep-pattern true ws = deep-head (any ws) (λ n r. deep-parts n r)
+  deep-pattern true ws = deep-head (anyWord ws) (λ n r. deep-parts n r)
   deep-pattern false ws = same
 
   deep-after : (f : Form) → Deeper (afterForm w P f) (afterForm w P' f)

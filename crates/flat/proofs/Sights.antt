@@ -5,7 +5,7 @@ use mathlib.Core.Path.{_≡_, refl, sym, ap}
 use mathlib.Core.Bool.{Bool, true}
 use mathlib.Core.List.{List}
 use lib.ListN.{length, getD, drop}
-use Rattle.heads.specs.Got.{Got, ok, isOk, bind, wordIn, any}
+use Rattle.heads.specs.Got.{Got, ok, isOk, bind, wordIn, anyWord}
 use Rattle.heads.specs.Form.{readForm, restOf, shapeOf, limitOf, formNone, formOne}
 use Rattle.heads.specs.declared.Form.{Form}
 use Rattle.heads.specs.declared.Form.the-variants.{Var, Unresolved}
@@ -24,7 +24,7 @@ module _ (ws : List ℕ) (at names : ℕ) (f : Form) (r : List ℕ) (e : readFor
   unfolding readForm
   coded =
       let o : isOk (readForm names (drop at ws)) ≡ true = ap isOk e in
-      let t = word-there 0 4294967296 ws at (ok-left (any (drop at ws)) _ o) in
+      let t = word-there 0 4294967296 ws at (ok-left (anyWord (drop at ws)) _ o) in
       (t .0, rw (t .1) at e)
 
   -- no word follows

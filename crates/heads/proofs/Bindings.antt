@@ -2,16 +2,15 @@
 use Prim.Native.Nat.{ℕ, zero, suc, _+_, _-_, _<_, _≤_}
 use native.Mathlib.Omega.{arith}
 use mathlib.Core.Path.{_≡_, refl, ap, _∙_}
-use mathlib.Core.Bool.{true, false}
+use mathlib.Core.Bool.{true, false, cond}
 use mathlib.Core.List.{List}
 use lib.Dec.{eqb}
 use lib.ListN.{length, drop, getD}
 use lib.Seq.{drop-drop}
 use Rattle.words.proofs.Words.{drop-word, drop-none}
-use Rattle.heads.specs.Got.{pick}
 use Rattle.heads.specs.Answer.{rowIds, isIn}
 
-pub rows-more : (ws : List ℕ) (p left v : ℕ) → 0 < left → p < length ws → isIn v (rowIds left (drop p ws)) ≡ pick (eqb v (getD ws p 0)) true (isIn v (rowIds (left - 1) (drop (p + 5) ws)))
+pub rows-more : (ws : List ℕ) (p left v : ℕ) → 0 < left → p < length ws → isIn v (rowIds left (drop p ws)) ≡ cond (eqb v (getD ws p 0)) true (isIn v (rowIds (left - 1) (drop (p + 5) ws)))
 unfolding isIn rowIds
 rows-more ws p left v h lt =
     let l : left ≡ suc (left - 1) = omega arith in

@@ -4,14 +4,14 @@
 use Prim.Native.Nat.{ℕ, _^_, _<_, _≤_}
 use native.Mathlib.Omega.{arith}
 use mathlib.Core.Path.{_≡_, refl, ap, _∙_}
-use mathlib.Core.Bool.{Bool, true, false}
+use mathlib.Core.Bool.{Bool, true, false, cond}
 use mathlib.Core.List.{List}
 use lib.ListN.{length, drop}
 use mir.Syntax.{w64}
 use mir.Val.{Fits}
 use Rattle.words.specs.Words.{words}
 use Rattle.words.proofs.Words.{length-words}
-use Rattle.heads.specs.Got.{Got, ok, no, bind, bare, pick}
+use Rattle.heads.specs.Got.{Got, ok, no, bind, bare}
 use Rattle.heads.specs.Answer.{Ans}
 use Rattle.heads.proofs.Shapes.{bare-head, bare-pick}
 
@@ -22,7 +22,7 @@ pub data Chain (A : Type 0) : Type 1 where
 
 abbrev pub run : {A : Type 0} → Chain A → List ℕ → Got A
 run (step f k) r = bind (f r) (λ x r2. run (k x) r2)
-run (test b n k) r = pick b (run k r) (no n)
+run (test b n k) r = cond b (run k r) (no n)
 run (last f) r = f r
 
 -- a chain of which only what follows it matters

@@ -3,10 +3,10 @@
 use Prim.Native.Nat.{ℕ, _+_}
 use native.Mathlib.Omega.{arith}
 use mathlib.Core.Path.{_≡_, refl, ap, _∙_}
-use mathlib.Core.Bool.{Bool, true, false}
+use mathlib.Core.Bool.{Bool, true, false, cond}
 use mathlib.Core.List.{List, [], _++_}
 use lib.ListN.{getD, drop}
-use Rattle.heads.specs.Got.{Got, ok, no, bind, bare, isOk, pick}
+use Rattle.heads.specs.Got.{Got, ok, no, bind, bare, isOk}
 use Rattle.expr.proofs.Accepted.{inverse, ok-bare, Begins, begin-room, begin-is}
 use Rattle.resolve.specs.Log.{Finding}
 use Rattle.kinds.specs.Walk.{found, Ready, Walks, Checked}
@@ -38,7 +38,7 @@ pub alike-bind : {A B C : Type 0} (f : A → List Finding) (g : B → List Findi
 alike-bind f g (ok c r) k l e = e c r
 alike-bind f g (no c) k l e = record { shape = refl; finds = refl }
 
-pub alike-pick : {A B : Type 0} {f : A → List Finding} {g : B → List Finding} (b : Bool) {x y : Got A} {v w : Got B} → Alike f g x v → Alike f g y w → Alike f g (pick b x y) (pick b v w)
+pub alike-pick : {A B : Type 0} {f : A → List Finding} {g : B → List Finding} (b : Bool) {x y : Got A} {v w : Got B} → Alike f g x v → Alike f g y w → Alike f g (cond b x y) (cond b v w)
 alike-pick true l m = l
 alike-pick false l m = m
 

@@ -1,11 +1,11 @@
 -- The clauses by their parts: with which word each begins, and whose findings its findings are.
 use Prim.Native.Nat.{ℕ, suc, _+_}
 use mathlib.Core.Path.{_≡_, refl, ap, sym, _∙_}
-use mathlib.Core.Bool.{Bool, true}
+use mathlib.Core.Bool.{Bool, true, cond}
 use mathlib.Core.List.{List, [], _∷_, _++_, append-assoc, append-nil}
 use borrow.Author.Tests.{ne-eqb}
 use lib.Dec.{eqb}
-use Rattle.heads.specs.Got.{Got, ok, no, bind, bare, pick, wordIn, any, flag, many, counted}
+use Rattle.heads.specs.Got.{Got, ok, no, bind, bare, wordIn, anyWord, flag, many, counted}
 use Rattle.heads.specs.Head.{Tables}
 use Rattle.heads.specs.Answer.{knownAt}
 use Rattle.expr.specs.Tree.{Expr, Exprs, done, more, Steps}
@@ -46,11 +46,11 @@ module _ (t : Tables) where
   match-begins = record { low = 0; high = 2; same = λ ws. refl }
 
   -- a clause: three words, and its body
-  pub clause-begins : Begins (readClause t) (λ kind r. bind (any r) (λ a r2. bind (wordIn a 4294967296 r2) (λ b r3. readBody t a b kind r3)))
+  pub clause-begins : Begins (readClause t) (λ kind r. bind (anyWord r) (λ a r2. bind (wordIn a 4294967296 r2) (λ b r3. readBody t a b kind r3)))
   unfolding readClause
   clause-begins = record { low = 0; high = 4294967296; same = λ ws. refl }
 
-  pub start-begins : (kind : ℕ) → Begins (λ r. bind (any r) (λ a r2. bind (wordIn a 4294967296 r2) (λ b r3. readBody t a b kind r3))) (λ a r2. bind (wordIn a 4294967296 r2) (λ b r3. readBody t a b kind r3))
+  pub start-begins : (kind : ℕ) → Begins (λ r. bind (anyWord r) (λ a r2. bind (wordIn a 4294967296 r2) (λ b r3. readBody t a b kind r3))) (λ a r2. bind (wordIn a 4294967296 r2) (λ b r3. readBody t a b kind r3))
   start-begins kind = record { low = 0; high = 4294967296; same = λ ws. refl }
 
   pub end-begins : (kind a : ℕ) → Begins (λ r2. bind (wordIn a 4294967296 r2) (λ b r3. readBody t a b kind r3)) (λ b r3. readBody t a b kind r3)
@@ -149,7 +149,7 @@ module _ (w : World) where
     pub unwind-body : Alike (ofE w general) (kindsC w) (unwindExpr t ws) (readBody t 0 0 5 ws)
     unfolding readBody readUnwind unwindExpr kindsC
     unwind-body =
-        alike-bind (ofE w general) (kindsC w) (any ws) _ _
+        alike-bind (ofE w general) (kindsC w) (anyWord ws) _ _
         (λ v r. alike-pick (t .known v) (alike-map (ofE w general) (kindsC w) (unwind 0 0 v) (λ e. refl) (clauseExpr t r)) (alike-no 7))
 
     -- the span has no findings
@@ -160,7 +160,7 @@ module _ (w : World) where
         (alike-pick (eqb kind 2) (alike-maps (kindsC w) (reading where' 0 0) (reading where' a b) (λ es. refl) (times 1 (clauseExpr t) noMore ws))
         (alike-pick (eqb kind 3) (alike-bind (kindsC w) (kindsC w) (counted (readProjection t) ws) _ _ (λ ps r. alike-bind (kindsC w) (kindsC w) (flag r) _ _ (λ g r2. alike-maps (kindsC w) (with' 0 0 ps) (with' a b ps) (λ es. refl) (times g (clauseExpr t) noMore r2))))
         (alike-pick (eqb kind 4) (alike-maps (kindsC w) (return 0 0) (return a b) (λ ps. refl) (counted (readProjection t) ws))
-        (alike-pick (eqb kind 5) (alike-bind (kindsC w) (kindsC w) (any ws) _ _ (λ v r. alike-pick (t .known v) (alike-maps (kindsC w) (unwind 0 0 v) (unwind a b v) (λ e. refl) (clauseExpr t r)) (alike-no 7)))
+        (alike-pick (eqb kind 5) (alike-bind (kindsC w) (kindsC w) (anyWord ws) _ _ (λ v r. alike-pick (t .known v) (alike-maps (kindsC w) (unwind 0 0 v) (unwind a b v) (λ e. refl) (clauseExpr t r)) (alike-no 7)))
         (alike-pick (eqb kind 6) (alike-maps (kindsC w) (opening create 0 0) (opening create a b) (λ s. refl) (pattern t (clauseExpr t) ws))
         (alike-pick (eqb kind 7) (alike-maps (kindsC w) (opening merge 0 0) (opening merge a b) (λ s. refl) (pattern t (clauseExpr t) ws))
         (alike-pick (eqb kind 8) (alike-maps (kindsC w) (reading set 0 0) (reading set a b) (λ es. refl) (countedMarks t 1 ws))

@@ -8,7 +8,7 @@ use lib.Dec.{eqb}
 use lib.ListN.{length, getD, drop}
 use lib.Seq.{sets}
 use Rattle.scope.specs.Flat.{entriesOf}
-use Rattle.heads.specs.Got.{Got, ok, no, bind, bare, isOk, pick, any, flag}
+use Rattle.heads.specs.Got.{Got, ok, no, bind, bare, isOk, anyWord, flag}
 use Rattle.heads.specs.Head.{Tables}
 use Rattle.heads.specs.Answer.{tables}
 use Rattle.heads.specs.declared.Elem.{Elem}
@@ -175,7 +175,7 @@ unfoldable pub matchSteps : Tables → List ℕ → Got Steps
 matchSteps t ws = bind (flag ws) (λ o r. maybePattern true t (clauseExpr t) r)
 
 unfoldable pub unwindExpr : Tables → List ℕ → Got Expr
-unwindExpr t ws = bind (any ws) (λ v r. pick (t .known v) (clauseExpr t r) (no 7))
+unwindExpr t ws = bind (anyWord ws) (λ v r. cond (t .known v) (clauseExpr t r) (no 7))
 
 -- the findings of projections
 abbrev pub ofProjection : World → Projection → List Finding

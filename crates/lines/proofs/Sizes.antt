@@ -2,13 +2,12 @@
 use Prim.Native.Nat.{ℕ, _+_, _^_, _<_, _≤_}
 use native.Mathlib.Omega.{arith}
 use mathlib.Core.Path.{_≡_}
-use mathlib.Core.Bool.{Bool, true, false}
+use mathlib.Core.Bool.{Bool, true, false, cond}
 use mathlib.Core.List.{List, [], flatMap}
 use lib.Dec.{leb}
 use lib.ListN.{length, take, drop, length-append, length-take, length-drop}
 use Rattle.words.specs.Decimal.{width}
 use Rattle.words.proofs.Digits.{width-le, length-decimal}
-use Rattle.heads.specs.Got.{pick}
 use Rattle.tables.specs.Name.{textAt, lengthAt, nameAt}
 use Rattle.resolve.specs.Log.{Finding}
 use Rattle.texts.specs.Codes.{textFor}
@@ -50,6 +49,6 @@ pub name-short : (s : List ℕ) (p : ℕ) → length (nameAt s p) ≤ length s
 unfolding nameAt textAt
 name-short s p = picked (leb (p + 4 + lengthAt s p) (length s))
   where
-    picked : (b : Bool) → length (pick b (take (lengthAt s p) (drop (p + 4) s)) []) ≤ length s
+    picked : (b : Bool) → length (cond b (take (lengthAt s p) (drop (p + 4) s)) []) ≤ length s
     picked true = simp (length-take, length-drop) (omega arith)
     picked false = omega arith

@@ -6,8 +6,8 @@ use mathlib.Core.List.{List, [], _∷_, map}
 use mathlib.Core.Option.{Option, none, some}
 use lib.ListN.{replicate}
 use Rattle.words.specs.Words.{words}
-use Rattle.words.specs.Fnv.{useId, fnv1Of, fnvFrom, fnvStep, xorByte, xorBits}
-use Rattle.words.specs.Decimal.{digits, widthWithin, width as decimalWidth, decimal}
+use Rattle.words.specs.Fnv.{useId, fnv1Of, fnvFrom, fnvStep}
+use Rattle.words.specs.Decimal.{lowDigits, widthWithin, width as decimalWidth, decimal}
 use Rattle.words.specs.Utf8.{isUtf8, goesOn, step, after}
 use Rattle.heads.specs.Got.{wordIn, many, counted}
 use Rattle.heads.specs.Form.{shapeOf, limitOf, formNone, formOne, caseRest, compRest, restOf, readForm}
@@ -220,5 +220,5 @@ cases =
     ∷ []
 
 pub cases-hold : map given cases ≡ map expected cases
-unfolding words useId fnv1Of fnvFrom fnvStep xorByte xorBits digits widthWithin decimalWidth decimal isUtf8 goesOn step after wordIn many counted shapeOf limitOf formNone formOne caseRest compRest restOf readForm readMaybe readPart readElem deepCause isIn tree reading binder bindersE allKnown clausal bindersP bindersC bindersA sameBytes nameIn freshAfter distinct allZero nameBody readName rowId readRow sized inPlace placesOf readNames readRows readClauses locate readSections readSheet bytesOf boundIn carriesName parentAt kindAt answerAt passes climb lookupIn covers width better narrowest scopeAtOffset logs walk kindWalk lists typeName kindName textOf of2007 of2008 of5010 unused textFor front lineFor line listed listing
+unfolding words useId fnv1Of fnvFrom fnvStep lowDigits widthWithin decimalWidth decimal isUtf8 goesOn step after wordIn many counted shapeOf limitOf formNone formOne caseRest compRest restOf readForm readMaybe readPart readElem deepCause isIn tree reading binder bindersE allKnown clausal bindersP bindersC bindersA sameBytes nameIn freshAfter distinct allZero nameBody readName rowId readRow sized inPlace placesOf readNames readRows readClauses locate readSections readSheet bytesOf boundIn carriesName parentAt kindAt answerAt passes climb lookupIn covers width better narrowest scopeAtOffset logs walk kindWalk lists typeName kindName textOf of2007 of2008 of5010 unused textFor front lineFor line listed listing
 cases-hold = refl

@@ -6,7 +6,7 @@ use mathlib.Core.Path.{_≡_, refl, sym}
 use mathlib.Core.Bool.{true}
 use mathlib.Core.List.{List}
 use lib.ListN.{length, getD, drop}
-use Rattle.heads.specs.Got.{Got, ok, bind, isOk, wordIn, any, many, counted}
+use Rattle.heads.specs.Got.{Got, ok, bind, isOk, wordIn, anyWord, many, counted}
 use Rattle.heads.specs.Head.{Tables}
 use Rattle.expr.proofs.Accepted.{Begins, ok-left}
 use Rattle.clauses.specs.Tree.{Clause, Arm, arm}
@@ -31,7 +31,7 @@ fresh-moves vis log w =
 -- the words of a clause, one by one, and those of an arm
 module _ (t : Tables) where
   abbrev afterKind : ℕ → List ℕ → Got Clause
-  afterKind kind r = bind (any r) (λ a r2. bind (wordIn a 4294967296 r2) (λ b r3. readBody t a b kind r3))
+  afterKind kind r = bind (anyWord r) (λ a r2. bind (wordIn a 4294967296 r2) (λ b r3. readBody t a b kind r3))
 
   abbrev afterStart : ℕ → ℕ → List ℕ → Got Clause
   afterStart kind a r = bind (wordIn a 4294967296 r) (λ b r2. readBody t a b kind r2)

@@ -6,7 +6,7 @@ use mathlib.Core.Bool.{true}
 use mathlib.Core.List.{List, [], _∷_}
 use lib.ListN.{length, getD, drop}
 use Rattle.scope.specs.Graph.{unwindScope, callScope}
-use Rattle.heads.specs.Got.{Got, ok, no, bind, bare, isOk, wordIn, any, many, counted}
+use Rattle.heads.specs.Got.{Got, ok, no, bind, bare, isOk, wordIn, anyWord, many, counted}
 use Rattle.heads.specs.Head.{Tables}
 use Rattle.heads.specs.Answer.{knownAt}
 use Rattle.expr.specs.Tree.{Expr, Exprs}
@@ -80,23 +80,23 @@ word-below {S = S} b ws at o x q =
 
 module _ (t : Tables) where
   abbrev afterName : ℕ → List ℕ → Got Yield
-  afterName x r = bind (wordIn 0 (suc (t .names)) r) (λ a r2. bind (any r2) (λ v r3. ok (yield x (aliasOf a) v) r3))
+  afterName x r = bind (wordIn 0 (suc (t .names)) r) (λ a r2. bind (anyWord r2) (λ v r3. ok (yield x (aliasOf a) v) r3))
 
   yield-begins : Begins (readYield t) afterName
   unfolding readYield
   yield-begins = record { low = 0; high = t .names; same = λ ws. refl }
 
-  alias-begins : (x : ℕ) → Begins (afterName x) (λ a r2. bind (any r2) (λ v r3. ok (yield x (aliasOf a) v) r3))
+  alias-begins : (x : ℕ) → Begins (afterName x) (λ a r2. bind (anyWord r2) (λ v r3. ok (yield x (aliasOf a) v) r3))
   alias-begins x = record { low = 0; high = suc (t .names); same = λ ws. refl }
 
-  variable-begins : (x a : ℕ) → Begins (λ r2. bind (any r2) (λ v r3. ok (yield x (aliasOf a) v) r3)) (λ v r3. ok (yield x (aliasOf a) v) r3)
+  variable-begins : (x a : ℕ) → Begins (λ r2. bind (anyWord r2) (λ v r3. ok (yield x (aliasOf a) v) r3)) (λ v r3. ok (yield x (aliasOf a) v) r3)
   variable-begins x a = record { low = 0; high = 4294967296; same = λ ws. refl }
 
   module _ (ws : List ℕ) (at : ℕ) (o : isOk (readYield t (drop at ws)) ≡ true) (x a v : ℕ) (ex : x ≡ getD ws at 0) (ea : a ≡ getD ws (at + 1) 0) (ev : v ≡ getD ws (at + 1 + 1) 0) where
     alias-fine : isOk (afterName x (drop (at + 1) ws)) ≡ true
     alias-fine = rw (begin-is yield-begins ws at o x ex) at o
 
-    variable-fine : isOk (bind (any (drop (at + 1 + 1) ws)) (λ v r3. ok (yield x (aliasOf a) v) r3)) ≡ true
+    variable-fine : isOk (bind (anyWord (drop (at + 1 + 1) ws)) (λ v r3. ok (yield x (aliasOf a) v) r3)) ≡ true
     variable-fine = rw (begin-is (alias-begins x) ws (at + 1) alias-fine a ea) at alias-fine
 
     yield-room : at + 3 ≤ length ws
@@ -159,7 +159,7 @@ module _ (ws : List ℕ) (e : Env) (a b : ℕ) where
   -- its span is not read here
   pub unwind-bare : (r : List ℕ) → bare (readUnwind (tablesAt ws e) a b r) ≡ bare (readUnwind (tablesAt ws e) 0 0 r)
   unfolding readUnwind knownAt
-  unwind-bare r = spanned (any r)
+  unwind-bare r = spanned (anyWord r)
     where
       spanned : (g : Got ℕ) → bare (bind g (λ v r1. bind (clauseExpr (tablesAt ws e) r1) (λ x r2. ok (unwind a b v x) r2))) ≡ bare (bind g (λ v r1. bind (clauseExpr (tablesAt ws e) r1) (λ x r2. ok (unwind 0 0 v x) r2)))
       spanned (ok v r1) = bare-map (unwind a b v) (clauseExpr (tablesAt ws e) r1) ∙ sym (bare-map (unwind 0 0 v) (clauseExpr (tablesAt ws e) r1))

@@ -4,7 +4,7 @@ use mathlib.Core.Bool.{true}
 use mathlib.Core.List.{List, [], _∷_, map}
 use mathlib.Core.Option.{none, some}
 use Prim.Native.Nat.{ℕ, suc}
-use Rattle.words.specs.Fnv.{useId, fnv1Of, fnvFrom, fnvStep, xorByte, xorBits}
+use Rattle.words.specs.Fnv.{useId, fnv1Of, fnvFrom, fnvStep}
 use Rattle.heads.specs.declared.Maybe.the-variants as maybe
 use Rattle.expr.specs.Tree.{Expr, var, unresolved, done, more, Steps, end, part, elem}
 use Rattle.clauses.specs.Tree.{Clause, projection, match, opening, reading, where', with', return, unwind, arm}
@@ -63,5 +63,5 @@ pub traps : map (log true)
     ∷ matched (open' (scope 2 (some 1) 3 4) ∷ open' (scope 5 (some 2) 5 6) ∷ bind (bound 3 0 1 4) ∷ [])
     ∷ matched (open' (scope 2 (some 0) 3 4) ∷ bind (bound 2 0 1 1) ∷ [])
     ∷ []
-unfolding small nodeA nameA nameB logs walk useId fnv1Of fnvFrom fnvStep xorByte xorBits
+unfolding small nodeA nameA nameB logs walk useId fnv1Of fnvFrom fnvStep
 traps = refl

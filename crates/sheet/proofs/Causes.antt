@@ -3,14 +3,14 @@ use Prim.Native.Nat.{ℕ, suc, _+_, _-_, _*_, _≤_}
 use native.Mathlib.Numerals.{add-one}
 use native.Mathlib.Omega.{arith}
 use mathlib.Core.Path.{_≡_, refl, sym, ap, _∙_}
-use mathlib.Core.Bool.{Bool, true, false, _&&_, and-assoc, and-false}
+use mathlib.Core.Bool.{Bool, true, false, _&&_, and-assoc, and-false, cond}
 use mathlib.Core.List.{List, [], _∷_, _++_, flatMap}
 use borrow.Author.Tests.{ltb-true, ltb-false}
 use lib.Dec.{ltb}
 use lib.ListN.{length, take, drop}
 use Rattle.words.specs.Words.{words}
 use Rattle.words.proofs.Words.{length-words, drop-word, drop-none}
-use Rattle.heads.specs.Got.{Got, ok, no, bare, pick, many}
+use Rattle.heads.specs.Got.{Got, ok, no, bare, many}
 use Rattle.heads.specs.Head.{Tables}
 use Rattle.heads.specs.Answer.{Reads, tables, knownAt, rowIds, isIn}
 use Rattle.heads.specs.declared.Read.{Read}
@@ -34,7 +34,7 @@ by-shape (ok a []) = refl
 by-shape (ok a (w ∷ ws)) = refl
 by-shape (no c) = refl
 
-ends : (p : ℕ) (ws : List ℕ) (b : Bool) → ltb p (length ws) ≡ b → pick b (Refused 5) Accepted ≡ verdict (usedUp {A = Unit {0}} (ok tt (drop p ws)))
+ends : (p : ℕ) (ws : List ℕ) (b : Bool) → ltb p (length ws) ≡ b → cond b (Refused 5) Accepted ≡ verdict (usedUp {A = Unit {0}} (ok tt (drop p ws)))
 ends p ws true e = rw (drop-word ws p (ltb-true p (length ws) e))
 ends p ws false e = rw (drop-none ws p (ltb-false p (length ws) e))
 

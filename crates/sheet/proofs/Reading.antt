@@ -2,11 +2,11 @@
 use Prim.Native.Nat.{ℕ, _+_, _*_, _<_, _≤_}
 use native.Mathlib.Omega.{arith}
 use mathlib.Core.Path.{_≡_, refl, ap}
-use mathlib.Core.Bool.{Bool, true, false}
+use mathlib.Core.Bool.{Bool, true, false, cond}
 use mathlib.Core.List.{List, [], _∷_, _++_, map, flatMap, append-nil}
 use lib.ListN.{length, drop}
 use Rattle.words.proofs.Words.{drop-word, drop-none}
-use Rattle.heads.specs.Got.{Got, ok, no, bare, pick, many}
+use Rattle.heads.specs.Got.{Got, ok, no, bare, many}
 use Rattle.heads.specs.Answer.{rowIds, isIn}
 use Rattle.expr.proofs.Inverse.{never, Gives, gave, after, word-gives}
 use Rattle.clauses.proofs.WrittenClause.{Is, many-gives}
@@ -59,10 +59,10 @@ module _ (names n : ℕ) (ws : List ℕ) where
   unfolding readRows
   rows-left {p} l e h = rows-more (many (readRow names) n ws) (rw (drop-word l p h) at e)
 
-  rows-all : (g : Got (List Row)) {b : Bool} → many (readRow names) n ws ≡ g → bare g ≡ ok tt [] → b ≡ distinct isIn (rowIds n ws) → (length ws ≡ n * 5) × (pick b Accepted (Refused 4) ≡ verdict (then' (entire 4 g) (λ rs. unless 4 (distinct isIn (map rowId rs)) (accepted rs))))
+  rows-all : (g : Got (List Row)) {b : Bool} → many (readRow names) n ws ≡ g → bare g ≡ ok tt [] → b ≡ distinct isIn (rowIds n ws) → (length ws ≡ n * 5) × (cond b Accepted (Refused 4) ≡ verdict (then' (entire 4 g) (λ rs. unless 4 (distinct isIn (map rowId rs)) (accepted rs))))
   rows-all (ok rs []) {b} e f d = let h = rows-read names n ws rs e in (h .1, rw (h .0, ← d) (decided b rs))
     where
-      decided : (b : Bool) (rs : List Row) → pick b Accepted (Refused 4) ≡ verdict (unless 4 b (accepted rs))
+      decided : (b : Bool) (rs : List Row) → cond b Accepted (Refused 4) ≡ verdict (unless 4 b (accepted rs))
       decided true rs = refl
       decided false rs = refl
   rows-all (ok rs (w ∷ r)) e f d = never (cc)
@@ -72,6 +72,6 @@ module _ (names n : ℕ) (ws : List ℕ) where
     pub rows-long : length ws ≡ n * 5
     rows-long = rows-all (many (readRow names) n ws) refl (rw (drop-none l p h) at e) refl .0
 
-    pub rows-done : {b : Bool} → b ≡ distinct isIn (rowIds n ws) → pick b Accepted (Refused 4) ≡ verdict (readRows names n ws)
+    pub rows-done : {b : Bool} → b ≡ distinct isIn (rowIds n ws) → cond b Accepted (Refused 4) ≡ verdict (readRows names n ws)
     unfolding readRows
     rows-done d = rows-all (many (readRow names) n ws) refl (rw (drop-none l p h) at e) d .1

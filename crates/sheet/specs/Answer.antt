@@ -7,7 +7,7 @@ use lib.Dec.{ltb}
 use lib.ListN.{length, take, getD}
 use Rattle.words.specs.Words.{words}
 use Rattle.words.specs.Fnv.{useId}
-use Rattle.heads.specs.Got.{Got, pick, many}
+use Rattle.heads.specs.Got.{Got, many}
 use Rattle.heads.specs.Head.{Tables}
 use Rattle.heads.specs.Answer.{tables}
 use Rattle.clauses.specs.Tree.{Arm}
@@ -94,7 +94,7 @@ pub record Settled (s : List ℕ) (p : Places) (tab ids : List ℕ) (r : Verdict
 
 -- what an answer says of a section that ends at `end`
 abbrev pub endVerdict : Read → ℕ → Verdict
-endVerdict (read.Next p) end = pick (ltb p end) (verdicts.Refused 5) verdicts.Accepted
+endVerdict (read.Next p) end = cond (ltb p end) (verdicts.Refused 5) verdicts.Accepted
 endVerdict (read.Refused c) end = verdicts.Refused c
 
 -- the tables of a section that ends at the word `to`: binders are sought among the k - 1 bindings, or not at all where k is 0

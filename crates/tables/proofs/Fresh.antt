@@ -3,7 +3,7 @@ use Prim.Native.Nat.{ℕ, _+_, _<_, _≤_}
 use native.Mathlib.Numerals.{add-one}
 use native.Mathlib.Omega.{arith}
 use mathlib.Core.Path.{_≡_, refl, sym, ap, _∙_}
-use mathlib.Core.Bool.{Bool, true, false, false≢true, not, _&&_, _||_}
+use mathlib.Core.Bool.{Bool, true, false, false≢true, not, _&&_, _||_, cond}
 use mathlib.Core.List.{List, [], _∷_, map, map-append}
 use borrow.Author.Tests.{eqb-true, eq-eqb}
 use lib.Dec.{eqb}
@@ -11,7 +11,6 @@ use lib.ListN.{length, take, drop, getD, length-take, length-map}
 use lib.Seq.{take-suc, take-take, getD-take, length-take-le}
 use Rattle.words.specs.Fnv.{useId}
 use Rattle.words.proofs.Words.{drop-word}
-use Rattle.heads.specs.Got.{pick}
 use Rattle.heads.specs.Answer.{isIn}
 use Rattle.tables.specs.Distinct.{sameBytes, nameIn, freshAfter}
 use Rattle.tables.specs.Name.{nameAt}
@@ -55,7 +54,7 @@ unfolding sameBytes
 same-more a b i h k = rw (drop-word a i h, drop-word b i k)
 
 -- a name that stands among others has its use id among theirs
-or-else : (a b d e : Bool) → (a ≡ true → d ≡ true) → (b ≡ true → e ≡ true) → a || b ≡ true → pick d true e ≡ true
+or-else : (a b d e : Bool) → (a ≡ true → d ≡ true) → (b ≡ true → e ≡ true) → a || b ≡ true → cond d true e ≡ true
 or-else true b d e f g h = rw (f refl)
 or-else false b true e f g h = refl
 or-else false b false e f g h = g h

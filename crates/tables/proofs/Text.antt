@@ -2,14 +2,14 @@
 use Prim.Native.Nat.{ℕ, suc, _+_, _-_, _*_, _<_, _≤_}
 use native.Mathlib.Omega.{arith}
 use mathlib.Core.Path.{_≡_, refl}
-use mathlib.Core.Bool.{Bool, _&&_}
+use mathlib.Core.Bool.{Bool, _&&_, cond}
 use mathlib.Core.List.{List, [], _∷_}
 use borrow.Author.Tests.{le-leb, lt-leb}
 use lib.ListN.{length, take, drop, length-drop}
 use lib.Seq.{drop-drop, length-take-le}
 use Rattle.words.specs.Utf8.{isUtf8}
 use Rattle.words.proofs.Words.{drop-word}
-use Rattle.heads.specs.Got.{Got, ok, no, pick}
+use Rattle.heads.specs.Got.{Got, ok, no}
 use Rattle.heads.specs.Answer.{Ans, readEnd}
 use Rattle.heads.specs.declared.Read.{Read}
 use Rattle.heads.specs.declared.Read.the-variants as read
@@ -40,7 +40,7 @@ pub body-short : (s : List ℕ) (at n : ℕ) → n ≤ 255 → length s - at < p
 unfolding nameBody
 body-short s at n h k = rw (le-leb n 255 h, length-drop at s, lt-leb (padded n) (length s - at) k)
 
-pub body-fits : (s : List ℕ) (at n : ℕ) → n ≤ 255 → at + padded n ≤ length s → {z : Bool} → z ≡ allZero (take (at + padded n - (at + n)) (drop (at + n) s)) → nameBody n (drop at s) ≡ pick (z && isUtf8 (take (at + n - at) (drop at s))) (ok (textAt s at n) (drop (at + padded n) s)) (no 3)
+pub body-fits : (s : List ℕ) (at n : ℕ) → n ≤ 255 → at + padded n ≤ length s → {z : Bool} → z ≡ allZero (take (at + padded n - (at + n)) (drop (at + n) s)) → nameBody n (drop at s) ≡ cond (z && isUtf8 (take (at + n - at) (drop at s))) (ok (textAt s at n) (drop (at + padded n) s)) (no 3)
 unfolding nameBody textAt
 body-fits s at n h k zero =
     let text : at + n - at ≡ n = omega arith in

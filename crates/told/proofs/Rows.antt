@@ -6,7 +6,6 @@ use mathlib.Core.Bool.{Bool, true, false, cond, _&&_}
 use mathlib.Core.List.{List, [], _∷_, _++_, map, List·Memᴰ, List·Memᴰ·head, List·Memᴰ·tail}
 use mathlib.Core.Option.{Option, none, some}
 use lib.Dec.{eqb}
-use Rattle.heads.specs.Got.{pick}
 use Rattle.heads.specs.Answer.{isIn}
 use Rattle.expr.specs.Binders.{allKnown}
 use Rattle.expr.proofs.Inverse.{never}
@@ -57,7 +56,7 @@ unfolding rowOf Each WellRow isIn rowId rowName
 name-in names v [] h e = never (cc)
 name-in names v (row i x k a b ∷ t) h e = go (eqb v i) (name-in names v t (h .1)) e
   where
-    go : (q : Bool) → (isIn v (map rowId t) ≡ true → rowName (rowOf v t) < names) → pick q true (isIn v (map rowId t)) ≡ true → rowName (cond q (some (row i x k a b)) (rowOf v t)) < names
+    go : (q : Bool) → (isIn v (map rowId t) ≡ true → rowName (rowOf v t) < names) → cond q true (isIn v (map rowId t)) ≡ true → rowName (cond q (some (row i x k a b)) (rowOf v t)) < names
     go true g e = h .0 .1
     go false g e = g e
 

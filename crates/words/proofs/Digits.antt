@@ -9,7 +9,7 @@ use borrow.Author.Tests.{lt-ltb, le-ltb}
 use lib.Dec.{ltb}
 use lib.ListN.{length, drop, set, length-append, length-set}
 use lib.Seq.{append-snoc, drop-cons, drop-set-lt, getD-set-same}
-use Rattle.words.specs.Decimal.{digits, widthWithin, width, decimal}
+use Rattle.words.specs.Decimal.{lowDigits, widthWithin, width, decimal}
 
 -- the fuel doesn't count, where there is enough
 fuel : (f g n : ℕ) → n ≤ f → n ≤ g → widthWithin f n ≡ widthWithin g n
@@ -44,8 +44,8 @@ pub width-le : (n : ℕ) → n < 2 ^ 32 → width n ≤ 10
 unfolding width
 width-le n h = within-le n 9 n (omega arith)
 
-length-digits : (k n : ℕ) → length (digits k n) ≡ k
-unfolding digits
+length-digits : (k n : ℕ) → length (lowDigits k n) ≡ k
+unfolding lowDigits
 length-digits zero n = refl
 length-digits (suc k) n = rw (length-append, length-digits k (n / 10)) (omega arith)
 
@@ -54,8 +54,8 @@ unfolding decimal
 length-decimal n = length-digits (width n) n
 
 -- the last digit, written where it stands
-pub digits-put : (i n : ℕ) (page : List ℕ) → 0 < i → i ≤ length page → digits i n ++ drop i page ≡ digits (i - 1) (n / 10) ++ drop (i - 1) (set page (i - 1) (48 + n % 10))
-unfolding digits
+pub digits-put : (i n : ℕ) (page : List ℕ) → 0 < i → i ≤ length page → lowDigits i n ++ drop i page ≡ lowDigits (i - 1) (n / 10) ++ drop (i - 1) (set page (i - 1) (48 + n % 10))
+unfolding lowDigits
 digits-put zero n page p h = absurd (omega arith)
 digits-put (suc i) n page p h =
     rw

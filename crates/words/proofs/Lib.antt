@@ -1,5 +1,4 @@
 pub mod Words
-pub mod Xor
 pub mod Utf8Laws
 pub mod Digits
 pub mod Front

@@ -3,7 +3,7 @@
 use borrow.Author.Needs.{needs}
 use mathlib.Core.Path.{refl}
 use Rattle.words.specs.Words.{words}
-use Rattle.heads.specs.Got.{any}
+use Rattle.heads.specs.Got.{anyWord}
 use Rattle.heads.specs.Answer.{tables}
 use Rattle.heads.proofs.Chain.{step, last, fact, begin-bare, fits}
 use Rattle.heads.proofs.Opened.{past-word, stop-word, last-read}
@@ -16,7 +16,7 @@ pub counted-marks-spec : {M : Type 1} → statement M
 unfolding countedMarks
 counted-marks-spec =
     let begun = fact (λ (k : tie.Start). let a = k .args in let w = tables (words (a .s .now)) (a .names) (a .rows) (a .k) in
-    begin-bare (countedMarks w (a .kind)) (step any λ n. last (marks (a .kind) n (clauseExpr w))) (λ r. refl) (a .s .now) (a .at) (k .pre) (k .good .0 .0)) in
+    begin-bare (countedMarks w (a .kind)) (step anyWord λ n. last (marks (a .kind) n (clauseExpr w))) (λ r. refl) (a .s .now) (a .at) (k .pre) (k .good .0 .0)) in
     let one = fact (λ (k : tie.After-known-told). past-word (begun (k .before .before .before .before .before)) (k .before .n .given .1) (k .before .before .before .word-in .ensures)) in
     tie.close
     (tie.spec

@@ -3,7 +3,7 @@
 use borrow.Author.Needs.{needs}
 use mathlib.Core.Path.{refl}
 use Rattle.words.specs.Words.{words}
-use Rattle.heads.specs.Got.{any, many, counted}
+use Rattle.heads.specs.Got.{anyWord, many, counted}
 use Rattle.heads.specs.Answer.{tables}
 use Rattle.heads.proofs.Chain.{step, last, fact, begin-bare, fits}
 use Rattle.heads.proofs.Opened.{past-word, stop-word, last-read}
@@ -15,7 +15,7 @@ pub counted-yields-spec : {M : Type 1} → statement M
 unfolding counted
 counted-yields-spec =
     let begun = fact (λ (k : tie.Start). let a = k .args in let w = tables (words (a .s .now)) (a .names) (a .rows) (a .k) in
-    begin-bare (counted (readYield w)) (step any λ n. last (many (readYield w) n)) (λ r. refl) (a .s .now) (a .at) (k .pre) (k .good .0 .0)) in
+    begin-bare (counted (readYield w)) (step anyWord λ n. last (many (readYield w) n)) (λ r. refl) (a .s .now) (a .at) (k .pre) (k .good .0 .0)) in
     let one = fact (λ (k : tie.After-known-told). past-word (begun (k .before .before .before .before .before)) (k .before .n .given .1) (k .before .before .before .word-in .ensures)) in
     tie.close
     (tie.spec

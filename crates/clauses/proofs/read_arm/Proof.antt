@@ -1,7 +1,7 @@
 -- The definition reads a span and a count, as far as `one` to `three` say, and as many clauses, which the callee reads.
 use borrow.Author.Needs.{needs}
 use Rattle.words.specs.Words.{words}
-use Rattle.heads.specs.Got.{ok, wordIn, any, many, counted}
+use Rattle.heads.specs.Got.{ok, wordIn, anyWord, many, counted}
 use Rattle.heads.specs.Answer.{tables}
 use Rattle.heads.proofs.Shapes.{bind-each, bind-bind}
 use Rattle.heads.proofs.Chain.{step, last, fact, begin-bare, fits}
@@ -15,8 +15,8 @@ pub read-arm-spec : {M : Type 1} → statement M
 unfolding readArm counted
 read-arm-spec =
     let begun = fact (λ (k : tie.Start). let a = k .args in let w = tables (words (a .s .now)) (a .names) (a .rows) (a .k) in
-    begin-bare (readArm w) (step any λ x. step (wordIn x 4294967296) λ y. step any λ n. step (many (readClause w) n) λ cs. last (ok (arm x y cs)))
-    (λ r. bind-each (any r) _ _ λ x r2. bind-each (wordIn x 4294967296 r2) _ _ λ y r3. bind-bind (any r3) _ _)
+    begin-bare (readArm w) (step anyWord λ x. step (wordIn x 4294967296) λ y. step anyWord λ n. step (many (readClause w) n) λ cs. last (ok (arm x y cs)))
+    (λ r. bind-each (anyWord r) _ _ λ x r2. bind-each (wordIn x 4294967296 r2) _ _ λ y r3. bind-bind (anyWord r3) _ _)
     (a .s .now) (a .at) (k .pre) (k .good .0 .0)) in
     let one = fact (λ (k : tie.After-known-told). past-word (begun (k .before .before .before .before .before)) (k .before .a .given .1) (k .before .before .before .word-in .ensures)) in
     let two = fact (λ (k : tie.After-known-told2). past-word (one (k .before .before .before .before)) (k .before .-b .given .1) (k .before .before .before .word-in2 .ensures)) in

@@ -2,7 +2,7 @@
 -- (`body-bare`) and is the callee's answer.
 use borrow.Author.Needs.{needs}
 use Rattle.words.specs.Words.{words}
-use Rattle.heads.specs.Got.{bare, wordIn, any}
+use Rattle.heads.specs.Got.{bare, wordIn, anyWord}
 use Rattle.heads.specs.Answer.{tables}
 use Rattle.heads.proofs.Shapes.{bare-head}
 use Rattle.heads.proofs.Chain.{step, last, fact, begin, fits}
@@ -16,8 +16,8 @@ pub read-clause-spec : {M : Type 1} → statement M
 unfolding readClause
 read-clause-spec =
     let begun = fact (λ (k : tie.Start). let a = k .args in let w = tables (words (a .s .now)) (a .names) (a .rows) (a .k) in
-    begin (λ r. bare (readClause w r)) (step any λ kind. step any λ x. step (wordIn x 4294967296) λ y. last (λ r. bare (readBody w 0 0 kind r)))
-    (λ r. bare-head (any r) _ _ λ kind r2. bare-head (any r2) _ _ λ x r3. bare-head (wordIn x 4294967296 r3) _ _ λ y r4. body-bare w x y r4 kind)
+    begin (λ r. bare (readClause w r)) (step anyWord λ kind. step anyWord λ x. step (wordIn x 4294967296) λ y. last (λ r. bare (readBody w 0 0 kind r)))
+    (λ r. bare-head (anyWord r) _ _ λ kind r2. bare-head (anyWord r2) _ _ λ x r3. bare-head (wordIn x 4294967296 r3) _ _ λ y r4. body-bare w x y r4 kind)
     (a .s .now) (a .at) (k .pre) (k .good .0 .0)) in
     let one = fact (λ (k : tie.After-known-told). past-word (begun (k .before .before .before .before .before)) (k .before .kind .given .1) (k .before .before .before .word-in .ensures)) in
     let two = fact (λ (k : tie.After-known-told2). past-word (one (k .before .before .before .before)) (k .before .a .given .1) (k .before .before .before .word-in2 .ensures)) in

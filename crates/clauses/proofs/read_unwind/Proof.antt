@@ -2,7 +2,7 @@
 use borrow.Author.Needs.{needs}
 use mathlib.Core.Path.{refl}
 use Rattle.words.specs.Words.{words}
-use Rattle.heads.specs.Got.{ok, any}
+use Rattle.heads.specs.Got.{ok, anyWord}
 use Rattle.heads.specs.Answer.{tables}
 use Rattle.heads.proofs.Chain.{step, test, last, fact, begin-bare, fits, passed, failed}
 use Rattle.heads.proofs.Opened.{past-word, stop-word, last-bare}
@@ -15,7 +15,7 @@ pub read-unwind-spec : {M : Type 1} → statement M
 unfolding readUnwind
 read-unwind-spec =
     let begun = fact (λ (k : tie.Start). let a = k .args in let w = tables (words (a .s .now)) (a .names) (a .rows) (a .k) in
-    begin-bare (readUnwind w 0 0) (step any λ v. test (w .known v) 7 (step (clauseExpr w) λ e. last (ok (unwind 0 0 v e)))) (λ r. refl) (a .s .now) (a .at) (k .pre) (k .good .0 .0)) in
+    begin-bare (readUnwind w 0 0) (step anyWord λ v. test (w .known v) 7 (step (clauseExpr w) λ e. last (ok (unwind 0 0 v e)))) (λ r. refl) (a .s .now) (a .at) (k .pre) (k .good .0 .0)) in
     let one = fact (λ (k : tie.After-known-told). past-word (begun (k .before .before .before .before .before)) (k .before .v .given .1) (k .before .before .before .word-in .ensures)) in
     let two = fact (λ (k : tie.Then1). passed (one (k .before .before)) (k .before .known .ensures) (k .if1 .taken)) in
     tie.close

@@ -4,7 +4,7 @@ use Prim.Native.Nat.{_+_}
 use native.Mathlib.Numerals.{add-one}
 use borrow.Author.Needs.{needs}
 use Rattle.words.specs.Words.{words}
-use Rattle.heads.specs.Got.{ok, wordIn, any}
+use Rattle.heads.specs.Got.{ok, wordIn, anyWord}
 use Rattle.heads.specs.Answer.{tables}
 use Rattle.heads.proofs.Chain.{step, last, fact, begin-bare, fits, done}
 use Rattle.heads.proofs.Opened.{past-word, stop-word}
@@ -17,7 +17,7 @@ pub read-yield-spec : {M : Type 1} → statement M
 unfolding readYield
 read-yield-spec =
     let begun = fact (λ (k : tie.Start). let a = k .args in let w = tables (words (a .s .now)) (a .names) (a .rows) (a .k) in
-    begin-bare (readYield w) (step (wordIn 0 (a .names)) λ x. step (wordIn 0 (a .names + 1)) λ y. step any λ v. last (ok (yield x (aliasOf y) v))) (λ r. rw add-one) (a .s .now) (a .at) (k .pre) (k .good .0 .0)) in
+    begin-bare (readYield w) (step (wordIn 0 (a .names)) λ x. step (wordIn 0 (a .names + 1)) λ y. step anyWord λ v. last (ok (yield x (aliasOf y) v))) (λ r. rw add-one) (a .s .now) (a .at) (k .pre) (k .good .0 .0)) in
     let one = fact (λ (k : tie.After-known-told). past-word (begun (k .before .before .before .before .before)) (k .before .-x .given .1) (k .before .before .before .word-in .ensures)) in
     let two = fact (λ (k : tie.After-known-told2). past-word (one (k .before .before .before .before)) (k .before .-a .given .1) (k .before .before .before .word-in2 .ensures)) in
     let three = fact (λ (k : tie.After-known-told3). past-word (two (k .before .before .before .before)) (k .before .-v .given .1) (k .before .before .before .word-in3 .ensures)) in

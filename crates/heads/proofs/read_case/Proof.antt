@@ -2,7 +2,7 @@
 -- one that is not is its refusal.
 use borrow.Author.Needs.{needs}
 use mathlib.Core.Path.{refl}
-use Rattle.heads.specs.Got.{ok, wordIn, any}
+use Rattle.heads.specs.Got.{ok, wordIn, anyWord}
 use Rattle.heads.specs.Form.{caseRest}
 use Rattle.heads.specs.declared.Form.the-variants.{Case}
 use Rattle.heads.proofs.Chain.{step, last, fact, begin, fits, done}
@@ -13,7 +13,7 @@ use Rattle.heads.proofs.read_case.Tie as tie
 pub read-case-spec : {M : Type 1} → statement M
 unfolding caseRest
 read-case-spec =
-    let begun = fact (λ (k : tie.Start). begin caseRest (step (wordIn 0 4) λ b. step any λ n. last (ok (Case b n))) (λ r. refl) (k .args .s .now) (k .args .at) (k .pre) (k .good .0 .0)) in
+    let begun = fact (λ (k : tie.Start). begin caseRest (step (wordIn 0 4) λ b. step anyWord λ n. last (ok (Case b n))) (λ r. refl) (k .args .s .now) (k .args .at) (k .pre) (k .good .0 .0)) in
     let one = fact (λ (k : tie.After-known-told). past-word (begun (k .before .before .before .before .before)) (k .before .b .given .1) (k .before .before .before .word-in .ensures)) in
     let two = fact (λ (k : tie.After-known-told2). past-word (one (k .before .before .before .before)) (k .before .n .given .1) (k .before .before .before .word-in2 .ensures)) in
     tie.close

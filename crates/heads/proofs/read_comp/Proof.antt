@@ -2,7 +2,7 @@
 -- `one`, `two` and `three` say; one that is not is its refusal.
 use borrow.Author.Needs.{needs}
 use mathlib.Core.Path.{refl}
-use Rattle.heads.specs.Got.{ok, wordIn, any, flag}
+use Rattle.heads.specs.Got.{ok, wordIn, anyWord, flag}
 use Rattle.heads.specs.Form.{compRest}
 use Rattle.heads.specs.declared.Form.the-variants.{PatternComprehension}
 use Rattle.heads.proofs.Chain.{step, last, fact, begin, fits, done}
@@ -13,7 +13,7 @@ use Rattle.heads.proofs.read_comp.Tie as tie
 pub read-comp-spec : {M : Type 1} → statement M
 unfolding compRest
 read-comp-spec =
-    let begun = fact (λ (k : tie.Start). begin compRest (step any λ a. step (wordIn a 4294967296) λ b. step flag λ g. last (ok (PatternComprehension a b g))) (λ r. refl) (k .args .s .now) (k .args .at) (k .pre) (k .good .0 .0)) in
+    let begun = fact (λ (k : tie.Start). begin compRest (step anyWord λ a. step (wordIn a 4294967296) λ b. step flag λ g. last (ok (PatternComprehension a b g))) (λ r. refl) (k .args .s .now) (k .args .at) (k .pre) (k .good .0 .0)) in
     let one = fact (λ (k : tie.After-known-told). past-word (begun (k .before .before .before .before .before)) (k .before .a .given .1) (k .before .before .before .word-in .ensures)) in
     let two = fact (λ (k : tie.After-known-told2). past-word (one (k .before .before .before .before)) (k .before .b .given .1) (k .before .before .before .word-in2 .ensures)) in
     let three = fact (λ (k : tie.After-known-told3). past-word (two (k .before .before .before .before)) (k .before .g .given .1) (k .before .before .before .word-in3 .ensures)) in

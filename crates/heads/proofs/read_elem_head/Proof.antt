@@ -2,7 +2,7 @@
 -- `five` say; what is not is its refusal.
 use borrow.Author.Needs.{needs}
 use mathlib.Core.Path.{refl}
-use Rattle.heads.specs.Got.{ok, wordIn, any, flag}
+use Rattle.heads.specs.Got.{ok, wordIn, anyWord, flag}
 use Rattle.heads.specs.Head.{readMaybe, readElem}
 use Rattle.heads.proofs.Chain.{step, last, fact, begin, fits, done}
 use Rattle.heads.proofs.Opened.{past-maybe, stop-maybe, past-word, stop-word}
@@ -14,7 +14,7 @@ unfolding readElem
 read-elem-head-spec =
     let begun = fact (λ (k : tie.Start).
     begin readElem
-    (step (wordIn 1 3) λ t. step any λ a. step (wordIn a 4294967296) λ b. step readMaybe λ m. step flag λ g. last (ok (record { kind = t; start = a; end = b; variable = m; property = g })))
+    (step (wordIn 1 3) λ t. step anyWord λ a. step (wordIn a 4294967296) λ b. step readMaybe λ m. step flag λ g. last (ok (record { kind = t; start = a; end = b; variable = m; property = g })))
     (λ r. refl) (k .args .s .now) (k .args .at) (k .pre) (k .good .0 .0)) in
     let one = fact (λ (k : tie.After-known-told). past-word (begun (k .before .before .before .before .before)) (k .before .kind .given .1) (k .before .before .before .word-in .ensures)) in
     let two = fact (λ (k : tie.After-known-told2). past-word (one (k .before .before .before .before)) (k .before .start .given .1) (k .before .before .before .word-in2 .ensures)) in

@@ -2,7 +2,7 @@
 use native.Mathlib.Omega.{arith}
 use borrow.Author.Needs.{needs}
 use mathlib.Core.Path.{refl}
-use Rattle.heads.specs.Got.{any}
+use Rattle.heads.specs.Got.{anyWord}
 use Rattle.heads.specs.Form.{readForm, restOf}
 use Rattle.heads.proofs.Later.{formLater, formLongerBy}
 use Rattle.heads.proofs.Chain.{step, last, fact, begin, fits}
@@ -13,7 +13,7 @@ use Rattle.heads.proofs.read_form.Tie as tie
 pub read-form-spec : {M : Type 1} → statement M
 unfolding readForm
 read-form-spec =
-    let begun = fact (λ (k : tie.Start). begin (readForm (k .args .names)) (step any λ code. last (restOf (k .args .names) code)) (λ r. refl) (k .args .s .now) (k .args .at) (k .pre) (k .good .0 .0)) in
+    let begun = fact (λ (k : tie.Start). begin (readForm (k .args .names)) (step anyWord λ code. last (restOf (k .args .names) code)) (λ r. refl) (k .args .s .now) (k .args .at) (k .pre) (k .good .0 .0)) in
     let one = fact (λ (k : tie.After-known-told). past-word (begun (k .before .before .before .before .before)) (k .before .code .given .1) (k .before .before .before .word-in .ensures)) in
     tie.close
     (tie.spec

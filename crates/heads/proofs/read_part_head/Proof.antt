@@ -2,7 +2,7 @@
 -- and `two` say; what is not is its refusal.
 use borrow.Author.Needs.{needs}
 use mathlib.Core.Path.{refl}
-use Rattle.heads.specs.Got.{ok, any}
+use Rattle.heads.specs.Got.{ok, anyWord}
 use Rattle.heads.specs.Head.{readMaybe, readPart}
 use Rattle.heads.proofs.Chain.{step, last, fact, begin, fits, done}
 use Rattle.heads.proofs.Opened.{past-maybe, stop-maybe, past-word, stop-word}
@@ -12,7 +12,7 @@ use Rattle.heads.proofs.read_part_head.Tie as tie
 pub read-part-head-spec : {M : Type 1} → statement M
 unfolding readPart
 read-part-head-spec =
-    let begun = fact (λ (k : tie.Start). begin readPart (step readMaybe λ m. step any λ n. last (ok (record { path = m; count = n }))) (λ r. refl) (k .args .s .now) (k .args .at) (k .pre) (k .good .0 .0)) in
+    let begun = fact (λ (k : tie.Start). begin readPart (step readMaybe λ m. step anyWord λ n. last (ok (record { path = m; count = n }))) (λ r. refl) (k .args .s .now) (k .args .at) (k .pre) (k .good .0 .0)) in
     let one = fact (λ (k : tie.After-known-told). past-maybe (begun (k .before .before .before .before .before)) (k .before .path .given .1) (k .before .before .before .read-maybe .ensures)) in
     let two = fact (λ (k : tie.After-known-told2). past-word (one (k .before .before .before .before)) (k .before .count .given .1) (k .before .before .before .word-in .ensures)) in
     tie.close

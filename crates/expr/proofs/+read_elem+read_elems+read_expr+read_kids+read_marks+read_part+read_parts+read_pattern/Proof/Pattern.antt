@@ -4,7 +4,7 @@ use borrow.Author.Needs.{needs}
 use native.Mathlib.Omega.{arith}
 use borrow.Fn.Kinds.{In}
 use Rattle.words.specs.Words.{words}
-use Rattle.heads.specs.Got.{any}
+use Rattle.heads.specs.Got.{anyWord}
 use Rattle.heads.specs.Answer.{tables}
 use Rattle.heads.proofs.Chain.{step, last, fact, begin-bare, fits}
 use Rattle.heads.proofs.Opened.{past-word, stop-word, last-read}
@@ -27,7 +27,7 @@ holds t =
     let begun = fact (λ (k : Then1 (calls t) (asks t) read-pattern.Post). let b = k .before .before in let a = b .args in
     let w = tables (words (a .s .now)) (a .names) (a .rows) (a .k) in
     let P = reader (words (a .s .now)) (a .names) (a .rows) (a .k) (a .room) in
-    begin-bare (maybePattern (a .has) w P) (step any λ n. last (parts n w P)) (λ r. rw (k .if1 .taken)) (a .s .now) (a .at) (b .pre .1) (b .good .0 .0)) in
+    begin-bare (maybePattern (a .has) w P) (step anyWord λ n. last (parts n w P)) (λ r. rw (k .if1 .taken)) (a .s .now) (a .at) (b .pre .1) (b .good .0 .0)) in
     let one = fact (λ (k : After-known-told (calls t) (asks t) read-pattern.Post). past-word (begun (k .before .before .before .before)) (k .before .n .given .1) (k .before .before .before .word-in .ensures)) in
     spec (calls t) (asks t) read-pattern.Post
     (λ c κs. begun c .within) (λ c. search needs) (λ c. search needs)  -- word-in-requires, enum-known-n, enum-told

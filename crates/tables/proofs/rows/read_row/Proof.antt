@@ -2,7 +2,7 @@
 -- is its refusal.
 use borrow.Author.Needs.{needs}
 use mathlib.Core.Path.{refl}
-use Rattle.heads.specs.Got.{ok, wordIn, any}
+use Rattle.heads.specs.Got.{ok, wordIn, anyWord}
 use Rattle.heads.proofs.Chain.{step, last, fact, begin-bare, fits, done}
 use Rattle.heads.proofs.Opened.{past-word, stop-word}
 use Rattle.tables.specs.Row.{row, readRow}
@@ -14,7 +14,7 @@ unfolding readRow
 read-row-spec =
     let begun = fact (λ (k : tie.Start).
     begin-bare (readRow (k .args .names))
-    (step any λ i. step (wordIn 0 (k .args .names)) λ x. step (wordIn 1 5) λ t. step any λ a. step (wordIn a 4294967296) λ b. last (ok (row i x t a b)))
+    (step anyWord λ i. step (wordIn 0 (k .args .names)) λ x. step (wordIn 1 5) λ t. step anyWord λ a. step (wordIn a 4294967296) λ b. last (ok (row i x t a b)))
     (λ r. refl) (k .args .s .now) (k .args .at) (k .pre) (k .good .0 .0)) in
     let one = fact (λ (k : tie.After-known-told). past-word (begun (k .before .before .before .before .before)) (k .before .id .given .1) (k .before .before .before .word-in .ensures)) in
     let two = fact (λ (k : tie.After-known-told2). past-word (one (k .before .before .before .before)) (k .before .name .given .1) (k .before .before .before .word-in2 .ensures)) in

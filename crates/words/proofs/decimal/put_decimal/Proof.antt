@@ -5,14 +5,14 @@ use native.Mathlib.Omega.{arith}
 use mathlib.Core.Path.{_≡_, refl, sym, _∙_}
 use mathlib.Core.List.{_++_}
 use lib.ListN.{length, drop, length-set}
-use Rattle.words.specs.Decimal.{digits, decimal}
+use Rattle.words.specs.Decimal.{lowDigits, decimal}
 use Rattle.words.proofs.Digits.{length-decimal, digits-put}
 use Rattle.words.proofs.Front.{put-fits, put-none}
 use Rattle.words.proofs.decimal.put_decimal.Statement.{statement}
 use Rattle.words.proofs.decimal.put_decimal.Tie as tie
 
 abbrev Inv-loop : tie.InvT-loop
-Inv-loop n out₀ k m₀ i₀ out m i = (i ≤ length out) × (length out ≡ length out₀) × (decimal n ++ drop k out₀ ≡ digits i m ++ drop i out)
+Inv-loop n out₀ k m₀ i₀ out m i = (i ≤ length out) × (length out ≡ length out₀) × (decimal n ++ drop k out₀ ≡ lowDigits i m ++ drop i out)
 
 abbrev μ-loop : tie.MeasureT-loop
 μ-loop n out₀ k m₀ i₀ out m i = i
@@ -29,7 +29,7 @@ loop-again c =
     simp length-set (omega arith, l .inv .1, l .inv .2 ∙ digits-put (l .i) (l .m) (l .out) (omega arith) (l .inv .0))
 
 returns-2 : tie.Need-returns-2 Inv-loop μ-loop
-unfolding digits
+unfolding lowDigits
 returns-2 c =
     let a = c .before .before .before .before .before .args in
     let w = c .before .before .before .decimal-width in
