@@ -1,0 +1,5 @@
+pub mod Over
+pub mod Conditions
+pub mod Skip
+pub mod Measure
+pub mod Write

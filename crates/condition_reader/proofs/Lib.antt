@@ -1,0 +1,11 @@
+pub mod Back
+pub mod Signs
+pub mod Numbers
+pub mod Window
+pub mod Passes
+pub mod JudgeTurns
+pub mod Stacked
+pub mod Unwinding
+pub mod Turning
+pub mod FillTurns
+pub mod Whole
