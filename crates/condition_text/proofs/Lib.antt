@@ -1,0 +1,5 @@
+pub mod Laying
+pub mod Table
+pub mod OperandsAt
+pub mod Stages
+pub mod Operators
