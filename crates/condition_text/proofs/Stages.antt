@@ -80,6 +80,10 @@ module _ {ws old t new : List ℕ} {at k p spare j : ℕ} (s : Stage ws at k old
   pub part : {A : Type 0} {g : Got A} {write text : A → List ℕ} {new' : List ℕ} {next end : ℕ} → Put g write text ws p j new new' next end → (x : A) (r : List ℕ) → g ≡ ok x r → Stage ws at k old (t ++ text x) next spare new' end
   part q x r e = record { wrote = then-wrote (s .wrote) (q .is x r e .1 .1); short = omega (arith, s .short, s .from, q .short, q .from); from = omega (arith, s .from, q .from); within = q .within; room = s .room }
 
+  -- words that have no text
+  pub further : (p' : ℕ) → p ≤ p' → p' ≤ length ws → Stage ws at k old t p' spare new j
+  further p' f w = record { wrote = s .wrote; short = omega (arith, s .short, s .from); from = omega (arith, s .from); within = w; room = s .room }
+
   -- what was read ends here, and this is its text
   pub put : {A : Type 0} {g : Got A} {write text : A → List ℕ} (x : A) {r : List ℕ} → g ≡ ok x r → r ≡ drop p ws → drop at ws ≡ write x ++ r → at ≤ length ws → t ≡ text x → Put g write text ws at k old new p j
   put {A} {g} {write} {text} x {r} e d w i u =

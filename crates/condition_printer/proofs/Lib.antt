@@ -1,0 +1,4 @@
+pub mod Rows
+pub mod RowKinds
+pub mod Clauses
+pub mod ClauseLines
