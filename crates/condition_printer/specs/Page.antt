@@ -42,6 +42,11 @@ unfoldable pub pageAs : Sheet (List Cond) → List ℕ → List ℕ
 pageAs (accepted cs) page = putFront (pageOf cs) page
 pageAs (refused c) page = page
 
+-- the conditions of a sheet that was accepted
+abbrev pub condsIn : Sheet (List Cond) → List Cond
+condsIn (accepted cs) = cs
+condsIn (refused c) = []
+
 -- where the sections of a sheet stand that was accepted
 abbrev pub openedFor : {A : Type 0} → Sheet A → List ℕ → Opened
 openedFor (accepted a) s = opened.At (placesOf (words s))

@@ -3,6 +3,7 @@ mod operands;
 mod pieces;
 mod writing;
 
+pub use pieces::put;
 pub use writing::Printed;
 pub use writing::byte_at;
 pub use writing::print;
