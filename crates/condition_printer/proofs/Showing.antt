@@ -5,7 +5,9 @@ use mathlib.Core.Path.{_≡_, refl, sym, ap, _∙_}
 use mathlib.Core.List.{List, _++_}
 use lib.ListN.{length, take, drop, length-take}
 use lib.Seq.{take-at}
-use borrow.Author.Tests.{le-leb, lt-leb}
+use mathlib.Core.Bool.{Bool, true, false, cond}
+use lib.Dec.{leb}
+use borrow.Author.Tests.{le-leb, lt-leb, leb-true}
 use Rattle.words.specs.Front.{putFront}
 use Rattle.expr.proofs.Inverse.{never}
 use Rattle.sheet.specs.Read.{Sheet, accepted, refused}
@@ -47,3 +49,13 @@ module _ (s page : List ℕ) {p : Places} {old text : List ℕ} {n : ℕ} where
       let t = front-text w in
       (rw l (ap answer.Bytes (rw t at (u .long))), rw l (rw t at (u .wrote)))
   shown-fits (refused c) e w h u = never (cc)
+
+-- what was printed ends within the page
+pub shown-within : (x : Sheet (List Cond)) {n room : ℕ} → answer.Bytes n ≡ conditionsAs x room → n ≤ room
+unfolding conditionsAs
+shown-within (accepted cs) {n} {room} e = go (leb (length (pageOf cs)) room) refl e
+  where
+    go : (b : Bool) → leb (length (pageOf cs)) room ≡ b → answer.Bytes n ≡ cond b (answer.Bytes (length (pageOf cs))) (answer.Refused 12) → n ≤ room
+    go true h e = let l : n ≡ length (pageOf cs) = cc in omega (arith, leb-true (length (pageOf cs)) room h)
+    go false h e = never (cc)
+shown-within (refused c) e = never (cc)
