@@ -1,13 +1,12 @@
 -- Judging, a token a turn: what is left to be judged is the same, and the array has the flag of every open level that is in the window.
-use Prim.Native.Nat.{ℕ, zero, suc, pred, max, _+_, _-_, _<_, _≤_}
+use Prim.Native.Nat.{ℕ, zero, suc, pred, max, _+_, _-_, _/_, _<_, _≤_}
 use native.Mathlib.Omega.{arith}
 use native.Mathlib.Numerals.{add-one, sub-one}
 use mathlib.Core.Path.{_≡_, refl, sym, ap, _∙_}
 use mathlib.Core.Bool.{Bool, true, false, not, cond, _&&_}
 use mathlib.Core.List.{List, [], _∷_}
 use lib.Dec.{eqb, leb, ltb}
-use lib.ListN.{length, getD, set, length-set}
-use lib.Seq.{getD-set-same, getD-set-other}
+use lib.ListN.{length}
 use borrow.Author.Tests.{le-leb, lt-ltb, eqb-true, eqb-false}
 use Rattle.condition.specs.Cond.{binaryLevel}
 use Rattle.condition.specs.Tokens.{Tok, open', close', bad, number, un, bin, pick, Last, found, nothing, last, back, tokens, lex}
@@ -18,6 +17,8 @@ use Rattle.condition.specs.declared.Mode.the-variants as mode
 use Rattle.condition.proofs.Lexing.{last-found, lex-found, lex-none}
 use Rattle.condition.proofs.Sound.{WellTok}
 use Rattle.condition_reader.proofs.Back.{back-one, back-none, length-back}
+use Rattle.condition_reader.specs.Bits.{bitAt, putBit}
+use Rattle.condition_reader.proofs.Turned.{put-same, put-other, length-put}
 use Rattle.condition_reader.specs.Pass.{window, markOf, afterOf, judgeIn, peak, toksOf}
 use Rattle.condition_reader.proofs.Window.{has-place}
 
@@ -25,9 +26,13 @@ abbrev pub bit : Bool → ℕ
 bit true = 1
 bit false = 0
 
+bit-small : (f : Bool) → bit f < 2
+bit-small true = omega arith
+bit-small false = omega arith
+
 -- the array has a level's flag, where the level is in the window
 abbrev pub Level : ℕ → List ℕ → ℕ → Bool → Type 0
-Level low l d f = window low d ≡ true → getD l (d - low) 0 ≡ bit f
+Level low l d f = window low d ≡ true → bitAt l (d - low) ≡ bit f
 
 -- and those of all levels, the deepest first
 unfoldable pub Levels : ℕ → List ℕ → Bool → List Bool → Type 0
@@ -39,22 +44,22 @@ unfolding Levels
 levels-top low l f [] h = h
 levels-top low l f (g ∷ fs) h = h .0
 
-level-other : (low : ℕ) (l : List ℕ) (d e v : ℕ) (f : Bool) → low ≤ e → d < e → Level low l d f → Level low (set l (e - low) v) d f
-level-other low l d e v f le lt h w = let p = has-place low d w in rw (getD-set-other l (e - low) (d - low) v 0 (λ x. omega (arith, p .0))) (h w)
+level-other : (low : ℕ) (l : List ℕ) (d e v : ℕ) (f : Bool) → (e - low) / 8 < length l → low ≤ e → d < e → Level low l d f → Level low (putBit l (e - low) v) d f
+level-other low l d e v f fit le lt h w = let p = has-place low d w in rw (put-other l (e - low) fit (d - low) v (λ x. omega (arith, p .0))) (h w)
 
-levels-other : (low : ℕ) (l : List ℕ) (e v : ℕ) (f : Bool) (fs : List Bool) → low ≤ e → length fs < e → Levels low l f fs → Levels low (set l (e - low) v) f fs
+levels-other : (low : ℕ) (l : List ℕ) (e v : ℕ) (f : Bool) (fs : List Bool) → (e - low) / 8 < length l → low ≤ e → length fs < e → Levels low l f fs → Levels low (putBit l (e - low) v) f fs
 unfolding Levels
-levels-other low l e v f [] le lt h = level-other low l 0 e v f le lt h
-levels-other low l e v f (g ∷ fs) le lt h = (level-other low l (suc (length fs)) e v f le lt (h .0), levels-other low l e v g fs le (omega arith) (h .1))
+levels-other low l e v f [] fit le lt h = level-other low l 0 e v f fit le lt h
+levels-other low l e v f (g ∷ fs) fit le lt h = (level-other low l (suc (length fs)) e v f fit le lt (h .0), levels-other low l e v g fs fit le (omega arith) (h .1))
 
 -- a store at the deepest level, which the outer ones don't see
-level-same : (low : ℕ) (l : List ℕ) (d v : ℕ) (f : Bool) → length l ≡ 1024 → v ≡ bit f → Level low (set l (d - low) v) d f
-level-same low l d v f n e w = let p = has-place low d w in rw (getD-set-same l (d - low) v 0 (omega (arith, p .1))) e
+level-same : (low : ℕ) (l : List ℕ) (d v : ℕ) (f : Bool) → length l ≡ 65536 → v ≡ bit f → Level low (putBit l (d - low) v) d f
+level-same low l d v f n e w = let p = has-place low d w in rw (put-same l (d - low) (omega (arith, p .1)) v (rw e (bit-small f))) e
 
-levels-set : (low : ℕ) (l : List ℕ) (v : ℕ) (f g : Bool) (fs : List Bool) → length l ≡ 1024 → low ≤ length fs → v ≡ bit g → Levels low l f fs → Levels low (set l (length fs - low) v) g fs
+levels-set : (low : ℕ) (l : List ℕ) (v : ℕ) (f g : Bool) (fs : List Bool) → length l ≡ 65536 → length fs - low < 524288 → low ≤ length fs → v ≡ bit g → Levels low l f fs → Levels low (putBit l (length fs - low) v) g fs
 unfolding Levels
-levels-set low l v f g [] n le e h = level-same low l 0 v g n e
-levels-set low l v f g (k ∷ fs) n le e h = (level-same low l (suc (length fs)) v g n e, levels-other low l (suc (length fs)) v k fs le (omega arith) (h .1))
+levels-set low l v f g [] n fit le e h = level-same low l 0 v g n e
+levels-set low l v f g (k ∷ fs) n fit le e h = (level-same low l (suc (length fs)) v g n e, levels-other low l (suc (length fs)) v k fs (omega arith) le (omega arith) (h .1))
 
 -- outside the window nothing is kept
 levels-out : (low : ℕ) (l : List ℕ) (f g : Bool) (fs : List Bool) → window low (length fs) ≡ false → Levels low l f fs → Levels low l g fs
@@ -68,14 +73,14 @@ levels-out low l f g (k ∷ fs) o h = (λ w. absurd (clash (sym o ∙ w)), h .1)
     clash : false ≡ true → ⊥
     clash z = let n : _≡_ {A = ℕ} 0 1 = cc in omega arith
 
-levels-mark : (low : ℕ) (l : List ℕ) (v : ℕ) (f g : Bool) (fs : List Bool) → length l ≡ 1024 → v ≡ bit g → Levels low l f fs → Levels low (markOf low (length fs) v l) g fs
+levels-mark : (low : ℕ) (l : List ℕ) (v : ℕ) (f g : Bool) (fs : List Bool) → length l ≡ 65536 → v ≡ bit g → Levels low l f fs → Levels low (markOf low (length fs) v l) g fs
 levels-mark low l v f g fs n e h = go (window low (length fs)) refl
   where
-    go : (b : Bool) → window low (length fs) ≡ b → Levels low (cond b (set l (length fs - low) v) l) g fs
-    go true w = levels-set low l v f g fs n (has-place low (length fs) w .0) e h
+    go : (b : Bool) → window low (length fs) ≡ b → Levels low (cond b (putBit l (length fs - low) v) l) g fs
+    go true w = let p = has-place low (length fs) w in levels-set low l v f g fs n (p .1) (p .0) e h
     go false w = levels-out low l f g fs w h
 
-levels-after : (low level : ℕ) (l : List ℕ) (f : Bool) (fs : List Bool) → length l ≡ 1024 → Levels low l f fs → Levels low (afterOf low (length fs) level l) (flagAfter level f) fs
+levels-after : (low level : ℕ) (l : List ℕ) (f : Bool) (fs : List Bool) → length l ≡ 65536 → Levels low l f fs → Levels low (afterOf low (length fs) level l) (flagAfter level f) fs
 levels-after low level l f fs n h = go (ltb level 3) (eqb level 4)
   where
     go : (a b : Bool) → Levels low (cond a (markOf low (length fs) 0 l) (cond b (markOf low (length fs) 1 l) l)) (pick a false (pick b true f)) fs
@@ -83,21 +88,21 @@ levels-after low level l f fs n h = go (ltb level 3) (eqb level 4)
     go false true = levels-mark low l 1 f true fs n refl h
     go false false = h
 
-levels-close : (low : ℕ) (l : List ℕ) (f : Bool) (fs : List Bool) → length l ≡ 1024 → Levels low l f fs → Levels low (markOf low (suc (length fs)) 0 l) false (f ∷ fs)
+levels-close : (low : ℕ) (l : List ℕ) (f : Bool) (fs : List Bool) → length l ≡ 65536 → Levels low l f fs → Levels low (markOf low (suc (length fs)) 0 l) false (f ∷ fs)
 unfolding Levels
 levels-close low l f fs n h = go (window low (suc (length fs))) refl
   where
     clash : false ≡ true → ⊥
     clash z = let x : _≡_ {A = ℕ} 0 1 = cc in omega arith
-    go : (b : Bool) → window low (suc (length fs)) ≡ b → Levels low (cond b (set l (suc (length fs) - low) 0) l) false (f ∷ fs)
-    go true w = (level-same low l (suc (length fs)) 0 false n refl, levels-other low l (suc (length fs)) 0 f fs (has-place low (suc (length fs)) w .0) (omega arith) h)
+    go : (b : Bool) → window low (suc (length fs)) ≡ b → Levels low (cond b (putBit l (suc (length fs) - low) 0) l) false (f ∷ fs)
+    go true w = (level-same low l (suc (length fs)) 0 false n refl, (let p = has-place low (suc (length fs)) w in levels-other low l (suc (length fs)) 0 f fs (omega (arith, p .1)) (p .0) (omega arith) h))
     go false w = (λ x. absurd (clash (sym w ∙ x)), h)
 
 length-mark : (low d v : ℕ) (l : List ℕ) → length (markOf low d v l) ≡ length l
 length-mark low d v l = go (window low d)
   where
-    go : (b : Bool) → length (cond b (set l (d - low) v) l) ≡ length l
-    go true = length-set l (d - low) v
+    go : (b : Bool) → length (cond b (putBit l (d - low) v) l) ≡ length l
+    go true = length-put l (d - low) v
     go false = refl
 
 length-after : (low d level : ℕ) (l : List ℕ) → length (afterOf low d level l) ≡ length l
@@ -109,13 +114,13 @@ length-after low d level l = go (ltb level 3) (eqb level 4)
     go false false = refl
 
 -- what the array tells of the deepest level is its flag
-flag-read : (low : ℕ) (l : List ℕ) (d : ℕ) (f : Bool) → Level low l d f → (window low d && eqb (getD l (d - low) 0) 1) ≡ (window low d && f)
+flag-read : (low : ℕ) (l : List ℕ) (d : ℕ) (f : Bool) → Level low l d f → (window low d && eqb (bitAt l (d - low)) 1) ≡ (window low d && f)
 flag-read low l d f h = go (window low d) refl
   where
     is : (f : Bool) → eqb (bit f) 1 ≡ f
     is true = refl
     is false = refl
-    go : (b : Bool) → window low d ≡ b → (b && eqb (getD l (d - low) 0) 1) ≡ (b && f)
+    go : (b : Bool) → window low d ≡ b → (b && eqb (bitAt l (d - low)) 1) ≡ (b && f)
     go true w = rw (h w) (is f)
     go false w = refl
 
@@ -127,10 +132,10 @@ pub record Judging (text : List ℕ) (low : ℕ) (flags : List ℕ) (p : ℕ) (m
   pub deep : peak (toksOf text) 0 low ≡ peak (lex (back text p)) depth deepest
   pub level : depth ≡ length around
   pub levels : Levels low flags flag around
-  pub size : length flags ≡ 1024
+  pub size : length flags ≡ 65536
   pub room : (depth + p ≤ length text) × (n + p ≤ length text)
 
-pub begins : (text : List ℕ) (low : ℕ) (flags : List ℕ) → length flags ≡ 1024 → getD flags 0 0 ≡ 0 → Judging text low flags (length text) mode.Wanted 0 low 0
+pub begins : (text : List ℕ) (low : ℕ) (flags : List ℕ) → length flags ≡ 65536 → bitAt flags 0 ≡ 0 → Judging text low flags (length text) mode.Wanted 0 low 0
 unfolding Levels
 begins text low flags n z =
     record { flag = false; around = []; same = refl; count = omega arith; deep = refl; level = refl; levels = λ w. let e : 0 - low ≡ 0 = omega arith in rw e z; size = n; room = (omega arith, omega arith) }
@@ -320,19 +325,19 @@ module _ {text : List ℕ} {low : ℕ} {flags : List ℕ} {p : ℕ} {m : Mode} {
         }
 
   -- what the code tells of a second comparison
-  read-flag : (l : ℕ) → (eqb l 4 && (window low depth && eqb (getD flags (depth - low) 0) 1)) ≡ (eqb l 4 && (window low (length (j .around)) && j .flag))
+  read-flag : (l : ℕ) → (eqb l 4 && (window low depth && eqb (bitAt flags (depth - low)) 1)) ≡ (eqb l 4 && (window low (length (j .around)) && j .flag))
   read-flag l = rw (j .level) (ap (_&&_ (eqb l 4)) (flag-read low flags (length (j .around)) (j .flag) (levels-top low flags (j .flag) (j .around) (j .levels))))
 
   pub binary-mode : {q o l : ℕ} → Tells text (bin o) p q → l ≡ binaryLevel o → mayJoin m l ≡ false → Whole false
   binary-mode {q} {o} x g e = first x ∙ judge-binary (window low) (lex (back text q)) m (j .flag) (j .around) o false (eqb (binaryLevel o) 4 && (window low (length (j .around)) && j .flag)) (rw g at e) refl
 
-  pub binary-chain : {q o l : ℕ} {b : Bool} → Tells text (bin o) p q → l ≡ binaryLevel o → b ≡ (eqb l 4 && (window low depth && eqb (getD flags (depth - low) 0) 1)) → b ≡ true → Whole false
+  pub binary-chain : {q o l : ℕ} {b : Bool} → Tells text (bin o) p q → l ≡ binaryLevel o → b ≡ (eqb l 4 && (window low depth && eqb (bitAt flags (depth - low)) 1)) → b ≡ true → Whole false
   binary-chain {q} {o} {l} x g r e =
       first x
       ∙ (judge-binary (window low) (lex (back text q)) m (j .flag) (j .around) o (mayJoin m (binaryLevel o)) true refl (rw g at (sym (read-flag l) ∙ (sym r ∙ e)))
       ∙ and-false (mayJoin m (binaryLevel o)) false refl)
 
-  pub binary-turn : {q o l : ℕ} {b : Bool} {flags' : List ℕ} → Tells text (bin o) p q → l ≡ binaryLevel o → mayJoin m l ≡ true → b ≡ (eqb l 4 && (window low depth && eqb (getD flags (depth - low) 0) 1)) → b ≡ false → flags' ≡ afterOf low depth l flags → Judging text low flags' q mode.Wanted depth deepest (n + 1)
+  pub binary-turn : {q o l : ℕ} {b : Bool} {flags' : List ℕ} → Tells text (bin o) p q → l ≡ binaryLevel o → mayJoin m l ≡ true → b ≡ (eqb l 4 && (window low depth && eqb (bitAt flags (depth - low)) 1)) → b ≡ false → flags' ≡ afterOf low depth l flags → Judging text low flags' q mode.Wanted depth deepest (n + 1)
   unfolding peak
   binary-turn {q} {o} {l} x g a r e k =
       record

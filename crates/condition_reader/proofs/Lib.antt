@@ -1,6 +1,7 @@
 pub mod Back
 pub mod Signs
 pub mod Numbers
+pub mod Turned
 pub mod Window
 pub mod Passes
 pub mod JudgeTurns

@@ -99,18 +99,18 @@ reject W ts m f fs e = go (judge ts m f fs) refl
     go true x = let t = judge-every ts m f fs ∙ x in absurd (clash (sym e ∙ cover every every W (λ d h. inl refl) ts m f fs t t))
 
 -- one window more
-pub widen : (low : ℕ) (ts : List Tok) (m : Mode) (f : Bool) (fs : List Bool) → judgeIn (below low) ts m f fs ≡ true → judgeIn (window low) ts m f fs ≡ true → judgeIn (below (low + 1024)) ts m f fs ≡ true
-widen low ts m f fs a b = cover (below low) (window low) (below (low + 1024)) side ts m f fs a b
+pub widen : (low : ℕ) (ts : List Tok) (m : Mode) (f : Bool) (fs : List Bool) → judgeIn (below low) ts m f fs ≡ true → judgeIn (window low) ts m f fs ≡ true → judgeIn (below (low + 524288)) ts m f fs ≡ true
+widen low ts m f fs a b = cover (below low) (window low) (below (low + 524288)) side ts m f fs a b
   where
-    side : (d : ℕ) → ltb d (low + 1024) ≡ true → (ltb d low ≡ true) ⊎ (window low d ≡ true)
+    side : (d : ℕ) → ltb d (low + 524288) ≡ true → (ltb d low ≡ true) ⊎ (window low d ≡ true)
     side d e = go (ltb d low) refl
       where
         go : (c : Bool) → ltb d low ≡ c → (c ≡ true) ⊎ (window low d ≡ true)
         go true x = inl refl
         go false x =
-            let u = ltb-true d (low + 1024) e in
+            let u = ltb-true d (low + 524288) e in
             let v = ltb-false d low x in
-            inr (rw (le-leb low d v, lt-ltb (d - low) 1024 (omega arith)))
+            inr (rw (le-leb low d v, lt-ltb (d - low) 524288 (omega arith)))
 
 pub begin : (ts : List Tok) (m : Mode) (f : Bool) (fs : List Bool) → judgeIn (window 0) ts m f fs ≡ true → judgeIn (below 0) ts m f fs ≡ true
 begin ts m f fs a = cover (window 0) (window 0) (below 0) (λ d e. absurd (omega (arith, ltb-true d 0 e))) ts m f fs a a

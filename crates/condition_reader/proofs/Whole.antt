@@ -22,7 +22,7 @@ pub data Passed (s : List ℕ) : ℕ → Type 0 where
   none-yet : Passed s 0
   up-to : {low : ℕ} → judgeIn (below low) (toksOf s) mode.Wanted false [] ≡ true → Passed s low
 
-pub next : {s : List ℕ} {low : ℕ} → Passed s low → judgeIn (window low) (toksOf s) mode.Wanted false [] ≡ true → Passed s (low + 1024)
+pub next : {s : List ℕ} {low : ℕ} → Passed s low → judgeIn (window low) (toksOf s) mode.Wanted false [] ≡ true → Passed s (low + 524288)
 next {s} none-yet a = up-to (widen 0 (toksOf s) mode.Wanted false [] (begin (toksOf s) mode.Wanted false [] a) a)
 next {s} (up-to {low = low} b) a = up-to (widen low (toksOf s) mode.Wanted false [] b a)
 

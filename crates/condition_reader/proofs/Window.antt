@@ -7,5 +7,5 @@ use borrow.Author.Tests.{leb-true, ltb-true}
 use Rattle.condition.proofs.Tables.{both}
 use Rattle.condition_reader.specs.Pass.{window}
 
-pub has-place : (low d : ℕ) → window low d ≡ true → (low ≤ d) × (d - low < 1024)
-has-place low d e = let t = both (leb low d) (ltb (d - low) 1024) e in (leb-true low d (t .0), ltb-true (d - low) 1024 (t .1))
+pub has-place : (low d : ℕ) → window low d ≡ true → (low ≤ d) × (d - low < 524288)
+has-place low d e = let t = both (leb low d) (ltb (d - low) 524288) e in (leb-true low d (t .0), ltb-true (d - low) 524288 (t .1))

@@ -1,4 +1,5 @@
 pub mod Seen
+pub mod Bits
 pub mod Pass
 pub mod Fill
 pub mod Read

@@ -4,22 +4,23 @@ use mathlib.Core.Path.{_≡_}
 use mathlib.Core.Bool.{Bool, true, false, not, cond, _&&_}
 use mathlib.Core.List.{List, [], _∷_}
 use lib.Dec.{eqb, leb, ltb}
-use lib.ListN.{length, set}
+use lib.ListN.{length}
 use Rattle.condition.specs.Cond.{binaryLevel}
 use Rattle.condition.specs.Tokens.{Tok, open', close', bad, number, un, bin, back, lex}
 use Rattle.condition.specs.Machine.{countOf}
 use Rattle.condition.specs.Judge.{isWanted, isThere, unaryMode, mayJoin, flagAfter}
 use Rattle.condition.specs.declared.Mode.{Mode}
 use Rattle.condition.specs.declared.Mode.the-variants as mode
+use Rattle.condition_reader.specs.Bits.{putBit}
 use Rattle.condition_reader.specs.declared.judging.Verdict.{Verdict}
 use Rattle.condition_reader.specs.declared.judging.Verdict.the-variants as verdict
 
 abbrev pub window : ℕ → ℕ → Bool
-window low d = leb low d && ltb (d - low) 1024
+window low d = leb low d && ltb (d - low) 524288
 
 -- what is kept of a level
 abbrev pub markOf : ℕ → ℕ → ℕ → List ℕ → List ℕ
-markOf low d v l = cond (window low d) (set l (d - low) v) l
+markOf low d v l = cond (window low d) (putBit l (d - low) v) l
 
 abbrev pub afterOf : ℕ → ℕ → ℕ → List ℕ → List ℕ
 afterOf low d level l = cond (ltb level 3) (markOf low d 0 l) (cond (eqb level 4) (markOf low d 1 l) l)

@@ -13,7 +13,8 @@ ghost use mathlib.Core.Path.{_≡_};
 ghost use mathlib.Core.Bool.{_&&_, cond};
 ghost use Prim.Native.Nat.{max, _-_, _≤_, _<_};
 ghost use lib.Dec.{eqb, ltb};
-ghost use lib.ListN.{length, getD, set};
+ghost use lib.ListN.{length};
+ghost use Rattle.condition_reader.specs.Bits.{bitAt, putBit};
 ghost use Rattle.condition_reader.specs.Pass.{window, markOf, afterOf, Judges};
 
 // The number of entries and the deepest level of brackets, or a text that doesn't read.
@@ -36,32 +37,56 @@ fn in_window(low: usize, depth: usize) -> bool
     ensures { λ r. ⌜ r ≡ window low depth ⌝ }
 {
     if low <= depth {
-        return depth - low < 1024;
+        return depth - low < 524288;
     }
     false
 }
 
-// Keeps whether a level has a comparison, where it is in the window.
-fn mark(flags: &mut [u8; 1024], low: usize, depth: usize, v: u8)
-    ensures { λ r. ⌜ now (flags .exit) ≡ markOf low depth v (now (flags .entry)) ⌝ }
+const POWERS: [u8; 8] = [1, 2, 4, 8, 16, 32, 64, 128];
+
+// A flag of the window, eight to a byte.
+fn bit_at(flags: &[u8; 65536], i: usize) -> u8
+    requires { ⌜ i < 524288 ⌝ }
+    ensures { λ r. ⌜ r ≡ bitAt (now (flags .entry)) i ⌝ }
 {
-    if in_window(low, depth) {
-        flags[depth - low] = v;
+    let w = flags[i / 8];
+    let k = (i % 8) as u32;
+    (w >> k) % 2
+}
+
+// Sets it to v; where it is another, it is turned over.
+fn put_bit(flags: &mut [u8; 65536], i: usize, v: u8)
+    requires { ⌜ i < 524288 ⌝ }
+    ensures { λ r. ⌜ now (flags .exit) ≡ putBit (now (flags .entry)) i v ⌝ }
+{
+    let b = bit_at(flags, i);
+    if b != v {
+        let w = flags[i / 8];
+        flags[i / 8] = w ^ POWERS[i % 8];
     }
 }
 
-fn marked(flags: &[u8; 1024], low: usize, depth: usize) -> bool
-    ensures { λ r. ⌜ r ≡ (window low depth && eqb (getD (now (flags .entry)) (depth - low) 0) 1) ⌝ }
+// Keeps whether a level has a comparison, where it is in the window.
+fn mark(flags: &mut [u8; 65536], low: usize, depth: usize, v: u8)
+    ensures { λ r. ⌜ now (flags .exit) ≡ markOf low depth v (now (flags .entry)) ⌝ }
 {
     if in_window(low, depth) {
-        return flags[depth - low] == 1;
+        put_bit(flags, depth - low, v);
+    }
+}
+
+fn marked(flags: &[u8; 65536], low: usize, depth: usize) -> bool
+    ensures { λ r. ⌜ r ≡ (window low depth && eqb (bitAt (now (flags .entry)) (depth - low)) 1) ⌝ }
+{
+    if in_window(low, depth) {
+        return bit_at(flags, depth - low) == 1;
     }
     false
 }
 
 // Whether a second comparison would stand in a row.
-fn chains(flags: &[u8; 1024], low: usize, depth: usize, level: usize) -> bool
-    ensures { λ r. ⌜ r ≡ (eqb level 4 && (window low depth && eqb (getD (now (flags .entry)) (depth - low) 0) 1)) ⌝ }
+fn chains(flags: &[u8; 65536], low: usize, depth: usize, level: usize) -> bool
+    ensures { λ r. ⌜ r ≡ (eqb level 4 && (window low depth && eqb (bitAt (now (flags .entry)) (depth - low)) 1)) ⌝ }
 {
     if level == 4 {
         return marked(flags, low, depth);
@@ -70,7 +95,7 @@ fn chains(flags: &[u8; 1024], low: usize, depth: usize, level: usize) -> bool
 }
 
 // What is kept after an operator.
-fn keep(flags: &mut [u8; 1024], low: usize, depth: usize, level: usize)
+fn keep(flags: &mut [u8; 65536], low: usize, depth: usize, level: usize)
     ensures { λ r. ⌜ now (flags .exit) ≡ afterOf low depth level (now (flags .entry)) ⌝ }
 {
     if level < 3 {
@@ -86,7 +111,7 @@ fn keep(flags: &mut [u8; 1024], low: usize, depth: usize, level: usize)
 pub fn judge(text: &[u8], low: usize) -> Verdict
     ensures { λ r. ⌜ Judges (now (text .entry)) low r ⌝ }
 {
-    let mut flags = [0u8; 1024];
+    let mut flags = [0u8; 65536];
     let mut p = text.len();
     let mut mode = Mode::Wanted;
     let mut depth: usize = 0;

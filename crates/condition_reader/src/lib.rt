@@ -34,10 +34,10 @@ fn check(text: &[u8]) -> Counted
         let Verdict::Reads(n, deepest) = v else {
             return Counted::No;
         };
-        if deepest - low < 1024 {
+        if deepest - low < 524288 {
             return Counted::Entries(n);
         }
-        low += 1024;
+        low += 524288;
     }
 }
 

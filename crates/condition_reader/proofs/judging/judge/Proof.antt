@@ -5,6 +5,7 @@ use borrow.Author.Needs.{needs}
 use borrow.Author.Tests.{not-true, not-false}
 use mathlib.Core.Path.{_≡_, refl, sym, _∙_}
 use lib.ListN.{length, length-replicate}
+use Rattle.condition_reader.proofs.Turned.{first-zero}
 use Rattle.condition_reader.proofs.JudgeTurns.{Judging, begins, tells, open-mode, open-depth, open-turn, close-mode, close-turn, number-mode, number-turn, unary-mode, unary-turn, binary-mode, binary-chain, binary-turn, bad-token, end-mode, end-depth, end-reads}
 use Rattle.condition_reader.proofs.judging.judge.Statement.{statement}
 use Rattle.condition_reader.proofs.judging.judge.Tie as tie
@@ -33,7 +34,7 @@ judge-spec =
     (tie.spec
     Inv-loop
     μ-loop
-    (λ c. begins _ _ _ (length-replicate {A = ℕ} 1024 0) refl)  -- loop-holds
+    (λ c. begins _ _ _ (length-replicate {A = ℕ} 65536 0) (first-zero 65535))  -- loop-holds
     (λ c κs. let r = room (c .before) in (omega arith, omega arith))  -- token-before-requires
     (λ c. search needs) (λ c κs. search needs)  -- enum-known-t, is-there-requires
     (λ c. let k = c .before .before in open-mode (k .before .before .before .before .before .loop .inv) (opened k) (sym (c .before .is-there .ensures) ∙ not-true _ (c .if1 .taken)))  -- returns

@@ -11,7 +11,7 @@ mark-spec =
     tie.close
     (tie.spec
     (λ c κs. search needs)  -- in-window-requires
-    (λ c. has-place _ _ (sym (c .before .in-window .ensures) ∙ c .if1 .taken) .0)  -- sub-flags
-    (λ c. has-place _ _ (sym (c .before .in-window .ensures) ∙ c .if1 .taken) .1)  -- element-write-flags
-    (λ c. rw (sym (c .before .in-window .ensures) ∙ c .if1 .taken))  -- returns
+    (λ c. has-place _ _ (sym (c .before .before .in-window .ensures) ∙ c .before .if1 .taken) .0)  -- sub-put-bit
+    (λ c κs. has-place _ _ (sym (c .before .before .in-window .ensures) ∙ c .before .if1 .taken) .1)  -- put-bit-requires
+    (λ c. rw (sym (c .before .before .before .in-window .ensures) ∙ c .before .before .if1 .taken) (c .put-bit .ensures))  -- returns
     (λ c. rw (sym (c .before .in-window .ensures) ∙ c .if1 .left)))  -- returns-2

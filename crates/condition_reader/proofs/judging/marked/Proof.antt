@@ -11,7 +11,7 @@ marked-spec =
     tie.close
     (tie.spec
     (λ c κs. search needs)  -- in-window-requires
-    (λ c. has-place _ _ (sym (c .before .in-window .ensures) ∙ c .if1 .taken) .0)  -- sub-result
-    (λ c. has-place _ _ (sym (c .before .in-window .ensures) ∙ c .if1 .taken) .1)  -- element-copy-out-result
-    (λ c. rw (sym (c .before .before .in-window .ensures) ∙ c .before .if1 .taken))  -- returns
+    (λ c. has-place _ _ (sym (c .before .in-window .ensures) ∙ c .if1 .taken) .0)  -- sub-bit-at
+    (λ c κs. has-place _ _ (sym (c .before .in-window .ensures) ∙ c .if1 .taken) .1)  -- bit-at-requires
+    (λ c. rw (sym (c .before .before .in-window .ensures) ∙ c .before .if1 .taken, c .bit-at .ensures))  -- returns
     (λ c. rw (sym (c .before .in-window .ensures) ∙ c .if1 .left)))  -- returns-2
