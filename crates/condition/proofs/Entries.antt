@@ -115,13 +115,13 @@ module _ {m : ℕ} {ts rest : List Tok} {d : ℕ} {st : Stack} {out : List ℕ} 
       let n = rankOf d (binaryLevel o) in
       let u = unwind-all n (i .waiting) st (i .made) (ranked-above n d (suc (binaryLevel o)) (i .waiting) (omega arith) (i .ranked)) (below-more (d * 10 + m + 1) n st (omega arith) b) in
       let j = k (waits n o st) (entries r ++ out) (omega (arith, left-low o h)) in
-      record
-        { waiting = under (j .waiting) n o
-        ; made = j .made
-        ; same = i .same ∙ (rw (u, i .done) (j .same ∙ rw (onto-under (j .waiting) st n o)))
-        ; ranked = ranked-under d m (j .waiting) o h le (ranked-less d (leftLevel o) m (j .waiting) (omega (arith, left-low o h)) (j .ranked))
-        ; done = rw (pops-under, j .done, append-assoc)
-        }
+      record {
+        waiting = under (j .waiting) n o;
+        made = j .made;
+        same = i .same ∙ (rw (u, i .done) (j .same ∙ rw (onto-under (j .waiting) st n o)));
+        ranked = ranked-under d m (j .waiting) o h le (ranked-less d (leftLevel o) m (j .waiting) (omega (arith, left-low o h)) (j .ranked));
+        done = rw (pops-under, j .done, append-assoc);
+      }
 
   leads-bracket : {t : Cond} → m ≤ 9 → Leads 0 t ts (open' ∷ rest) (suc d) st out → Leads m t (close' ∷ ts) rest d st out
   unfolding run onto pops Ranked

@@ -2,7 +2,7 @@
 use Prim.Native.Nat.{ℕ, zero, suc, _+_, _<_, _≤_}
 use native.Mathlib.Omega.{arith}
 use mathlib.Core.Path.{_≡_, refl, sym, ap, _∙_}
-use mathlib.Core.Bool.{Bool, true, false, not, _&&_}
+use mathlib.Core.Bool.{Bool, true, false, not, _&&_, false≢true}
 use mathlib.Core.List.{List, [], _∷_, _++_, append-assoc}
 use lib.Dec.{eqb, ltb, leb}
 use borrow.Author.Tests.{leb-true, leb-false, lt-ltb, le-ltb, ltb-true, ltb-false, eqb-true, eqb-false, ne-eqb}
@@ -41,9 +41,6 @@ unfolding at chained
 at-chained (p-atom n h) m = refl
 at-chained (p-bracket w) m = refl
 
-false-true : false ≡ true → ⊥
-false-true e = let z : _≡_ {A = ℕ} 0 1 = cc in omega arith
-
 -- a text whose tree begins in this mode, with a comparison in its first row only where f is up
 pub record Have (m : ℕ) (x : Mode) (f : Bool) (s : List ℕ) : Type 0 where
   pub tree : Cond
@@ -60,39 +57,40 @@ top-chain level f g e h = go (eqb level 4) (ltb level 3) refl refl h
     go : (b a : Bool) → eqb level 4 ≡ b → ltb level 3 ≡ a → pick a false (pick b true g) ≡ false → pick b true f ≡ false
     go false a x y h = e
     go true true x y h = absurd (omega (arith, eqb-true level 4 x, ltb-true level 3 y))
-    go true false x y h = absurd (false-true (sym h))
+    go true false x y h = absurd (false≢true (sym h))
 
 module _ {u : List ℕ} {x : Cond} (p : Primary u x) (o : ℕ) (h : o < 20) where
   -- the operator at the top
   on-top : {m : ℕ} {s : List ℕ} {t : Cond} (g : Bool) → m ≤ binaryLevel o → Written (suc (binaryLevel o)) s t → Have m mode.There (flagAfter (binaryLevel o) g) (u ++ (binarySign o ++ s))
   unfolding modeOf chained
   on-top {s = s} {t = t} g le w =
-      record
-        { tree = binary o x t
-        ; made = u ++ (binarySign o ++ s)
-        ; written = a-binary o h le (at p (leftLevel o)) w
-        ; text = refl
-        ; mode = at-mode p (leftLevel o)
-        ; chain = λ e. top-chain (binaryLevel o) (chained (at p (leftLevel o))) g (at-chained p (leftLevel o)) e
-        }
+      record {
+        tree = binary o x t;
+        made = u ++ (binarySign o ++ s);
+        written = a-binary o h le (at p (leftLevel o)) w;
+        text = refl;
+        mode = at-mode p (leftLevel o);
+        chain = λ e. top-chain (binaryLevel o) (chained (at p (leftLevel o))) g (at-chained p (leftLevel o)) e;
+      }
 
   -- further left
   further : {m : ℕ} (s : List ℕ) {s' : List ℕ} {r : Cond} (q : ℕ) → q < 20 → m ≤ binaryLevel q → (f : Bool) → Written (suc (binaryLevel q)) s' r → binaryLevel q ≤ binaryLevel o → Have (leftLevel q) mode.There (flagAfter (binaryLevel o) f) (u ++ (binarySign o ++ s)) → Have m mode.There (flagAfter (binaryLevel o) (pick (eqb (binaryLevel q) 4) true f)) (u ++ (binarySign o ++ (s ++ (binarySign q ++ s'))))
   unfolding modeOf chained
   further s {s' = s'} {r = r} q hq le f w low j =
-      record
-        { tree = binary q (j .tree) r
-        ; made = j .made ++ (binarySign q ++ s')
-        ; written = a-binary q hq le (j .written) w
-        ; text = rw (j .text) (simp append-assoc)
-        ; mode = j .mode
-        ; chain = λ e. go (eqb (binaryLevel q) 4) refl e
-        }
+      record {
+        tree = binary q (j .tree) r;
+        made = j .made ++ (binarySign q ++ s');
+        written = a-binary q hq le (j .written) w;
+        text = rw (j .text) (simp append-assoc);
+        mode = j .mode;
+        chain = λ e. go (eqb (binaryLevel q) 4) refl e;
+      }
     where
       no-loose : binaryLevel q ≡ 4 → (c d : Bool) → ltb (binaryLevel o) 3 ≡ c → pick c false (pick d true true) ≡ false → ⊥
       no-loose four true d lt e = omega (arith, ltb-true (binaryLevel o) 3 lt)
-      no-loose four false true lt e = false-true (sym e)
-      no-loose four false false lt e = false-true (sym e)
+      no-loose four false true lt e = false≢true (sym e)
+      no-loose four false false lt e = false≢true (sym e)
+
       go : (b : Bool) → eqb (binaryLevel q) 4 ≡ b → flagAfter (binaryLevel o) (pick b true f) ≡ false → pick b true (chained (j .written)) ≡ false
       go false a e = j .chain e
       go true a e = absurd (no-loose (eqb-true (binaryLevel q) 4 a) (ltb (binaryLevel o) 3) (eqb (binaryLevel o) 4) refl e)
@@ -102,12 +100,12 @@ module _ {u : List ℕ} {x : Cond} (p : Primary u x) (o : ℕ) (h : o < 20) wher
     where
       go : (b a : Bool) → eqb (binaryLevel q) 4 ≡ b → eqb (binaryLevel o) 4 ≡ a → leftLevel q ≡ pick b 5 (binaryLevel q) → (a && pick b true f) ≡ false → leftLevel q ≤ binaryLevel o
       go false a x y l e = omega arith
-      go true true x y l e = absurd (false-true (sym e))
+      go true true x y l e = absurd (false≢true (sym e))
       go true false x y l e = omega (arith, eqb-true (binaryLevel q) 4 x, eqb-false (binaryLevel o) 4 y)
 
   quiet : (a b f : Bool) → (a && pick b true f) ≡ false → (a && f) ≡ false
   quiet false b f e = refl
-  quiet true true f e = absurd (false-true (sym e))
+  quiet true true f e = absurd (false≢true (sym e))
   quiet true false f e = e
 
   side : {m : ℕ} {s s' : List ℕ} {l r : Cond} (q : ℕ) (f : Bool) → q < 20 → m ≤ binaryLevel q → Written (leftLevel q) s l → Written (suc (binaryLevel q)) s' r → m ≤ binaryLevel o → (eqb (binaryLevel o) 4 && pick (eqb (binaryLevel q) 4) true f) ≡ false → (leftLevel q ≤ binaryLevel o → (eqb (binaryLevel o) 4 && f) ≡ false → Have (leftLevel q) mode.There (flagAfter (binaryLevel o) f) (u ++ (binarySign o ++ s))) → Have m mode.There (flagAfter (binaryLevel o) (pick (eqb (binaryLevel q) 4) true f)) (u ++ (binarySign o ++ (s ++ (binarySign q ++ s'))))
@@ -132,7 +130,7 @@ module _ {u : List ℕ} {x : Cond} (p : Primary u x) (o : ℕ) (h : o < 20) wher
 -- before another: NOT before any, a minus before a minus
 before-unary : (u q : ℕ) → u < 2 → q < 2 → isThere (unaryMode (pick (eqb q 1) mode.Negated mode.There) u) ≡ true → (unaryLevel u ≤ unaryLevel q) × (pick (eqb u 1) mode.Negated mode.There ≡ unaryMode (pick (eqb q 1) mode.Negated mode.There) u)
 before-unary zero zero hu hq a = (omega arith, refl)
-before-unary zero (suc zero) hu hq a = absurd (false-true a)
+before-unary zero (suc zero) hu hq a = absurd (false≢true a)
 before-unary (suc zero) zero hu hq a = (omega arith, refl)
 before-unary (suc zero) (suc zero) hu hq a = (omega arith, refl)
 before-unary zero (suc (suc q)) hu hq a = absurd (omega arith)
@@ -154,24 +152,24 @@ module _ (u : ℕ) (h : u < 2) where
   deeper : {m : ℕ} (s : List ℕ) {s' : List ℕ} {r : Cond} {x : Mode} (q : ℕ) (f : Bool) → q < 20 → m ≤ binaryLevel q → Written (suc (binaryLevel q)) s' r → Have (leftLevel q) x f (unarySign u ++ s) → Have m x (pick (eqb (binaryLevel q) 4) true f) (unarySign u ++ (s ++ (binarySign q ++ s')))
   unfolding modeOf chained
   deeper s {s'} {r} q f hq le w j =
-      record
-        { tree = binary q (j .tree) r
-        ; made = j .made ++ (binarySign q ++ s')
-        ; written = a-binary q hq le (j .written) w
-        ; text = rw (j .text) (simp append-assoc)
-        ; mode = j .mode
-        ; chain = λ e. go (eqb (binaryLevel q) 4) e
-        }
+      record {
+        tree = binary q (j .tree) r;
+        made = j .made ++ (binarySign q ++ s');
+        written = a-binary q hq le (j .written) w;
+        text = rw (j .text) (simp append-assoc);
+        mode = j .mode;
+        chain = λ e. go (eqb (binaryLevel q) 4) e;
+      }
     where
       go : (b : Bool) → pick b true f ≡ false → pick b true (chained (j .written)) ≡ false
       go true e = e
       go false e = j .chain e
 
   unary-mode : (x : Mode) → isThere (unaryMode x u) ≡ true → eqb u 1 ≡ true → pick (eqb u 1) mode.Negated mode.There ≡ unaryMode x u
-  unary-mode mode.Wanted a e = absurd (false-true a)
+  unary-mode mode.Wanted a e = absurd (false≢true a)
   unary-mode mode.There a e = refl
   unary-mode mode.Negated a e = rw e
-  unary-mode mode.Wrong a e = absurd (false-true a)
+  unary-mode mode.Wrong a e = absurd (false≢true a)
 
   beside : {m : ℕ} {s s' : List ℕ} {l r : Cond} (x : Mode) (q : ℕ) (f : Bool) → q < 20 → m ≤ binaryLevel q → (v : Written (leftLevel q) s l) → Written (suc (binaryLevel q)) s' r → m ≤ unaryLevel u → isThere (unaryMode x u) ≡ true → (f ≡ chained v) → (leftLevel q ≤ unaryLevel u → Have (leftLevel q) (unaryMode x u) f (unarySign u ++ s)) → Have m (unaryMode x u) (pick (eqb (binaryLevel q) 4) true f) (unarySign u ++ (s ++ (binarySign q ++ s')))
   unfolding chained

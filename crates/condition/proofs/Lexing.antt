@@ -175,6 +175,7 @@ signs r t r' e = go (strip (reverse (unarySign 1)) r) (strip (reverse (unarySign
     minused : (q : List ℕ) (b : Bool) → strip (reverse (unarySign 0)) r ≡ some q → pick b (firstSign 20 0 r) (found (un 0) q) ≡ found t r' → Found r t r'
     minused q true y e = firsts 20 0 r t r' refl e
     minused q false y e = carry e (unary-found 0 r q (omega arith) y)
+
     go : (a b : Option (List ℕ)) → strip (reverse (unarySign 1)) r ≡ a → strip (reverse (unarySign 0)) r ≡ b → orElse a (un 1) (minus b (firstSign 20 0 r)) ≡ found t r' → Found r t r'
     go (some q) b x y e = carry e (unary-found 1 r q (omega arith) x)
     go none (some q) x y e = minused q (afterOperand q) y e
@@ -218,6 +219,7 @@ read (suc f) v scale k (c ∷ r) t r' e = go (leb 48 c) (leb c 57) refl refl e (
         let d : 48 + m % 10 ≡ c = omega arith in
         let q : m / 10 ≡ i .rest = omega arith in
         record { rest = m; count = suc (i .count); text = rw (d, q) (ap (_∷_ c) (i .text)); tok = rw s at (i .tok); size = rw s at (i .size) ∙ omega arith; low = rw s at (i .low) }
+
     go : (a b : Bool) → leb 48 c ≡ a → leb c 57 ≡ b → pick (a && b) (numberLast f (v + (c - 48) * scale) (scale * 10) (suc k) r) (numberEnd v k (c ∷ r)) ≡ found t r' → (numberLast f (v + (c - 48) * scale) (scale * 10) (suc k) r ≡ found t r' → Digits (v + (c - 48) * scale) (scale * 10) (suc k) r t r') → Digits v scale k (c ∷ r) t r'
     go true true x y e i = digit (leb-true 48 c x) (leb-true c 57 y) (i e)
     go true false x y e i = ended v scale k (c ∷ r) t r' e
@@ -351,4 +353,3 @@ lexed (a-binary {s = s} {u = u} o h le v w) r f =
 lexed (in-brackets {s = s} w) r f =
     rw (reverseAux-append s (41 ∷ []) (40 ∷ r))
     (lex-found (41 ∷ reverseAux s (40 ∷ r)) closes ∙ ap (_∷_ close') (lexed w (40 ∷ r) (free-open r) ∙ ap (toks w) (lex-found (40 ∷ r) opened)))
-

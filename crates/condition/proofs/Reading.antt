@@ -2,7 +2,7 @@
 use Prim.Native.Nat.{ℕ, zero, suc, _*_, _<_, _≤_}
 use native.Mathlib.Omega.{arith}
 use mathlib.Core.Path.{_≡_, refl, sym, ap, ap₂, _∙_}
-use mathlib.Core.Bool.{Bool, true, false, not, _&&_}
+use mathlib.Core.Bool.{Bool, true, false, not, _&&_, false≢true}
 use mathlib.Core.List.{List, [], _∷_, _++_, reverse, reverseAux, reverseAux-reverseAux-nil, append-assoc}
 use lib.Dec.{eqb}
 use lib.ListN.{length}
@@ -21,9 +21,6 @@ use Rattle.condition.proofs.Complete.{taken}
 use Rattle.condition.proofs.Sound.{WellTok, Wells, spell, Some, judged}
 use Rattle.condition.proofs.Lexing.{Found, last-found, lex-found, lex-none, lexed}
 
-false-true : {A : Type 0} → false ≡ true → A
-false-true e = let z : _≡_ {A = ℕ} 0 1 = cc in absurd (omega arith)
-
 -- no token is bad
 unfoldable pub Clean : List Tok → Type 0
 Clean [] = Unit {0}
@@ -37,10 +34,10 @@ Clean (bin o ∷ ts) = Clean ts
 pub clean : (ts : List Tok) (x : Mode) (f : Bool) (fs : List Bool) → judge ts x f fs ≡ true → Clean ts
 unfolding judge Clean
 clean [] x f fs e = tt
-clean (open' ∷ ts) x f [] e = false-true e
+clean (open' ∷ ts) x f [] e = absurd (false≢true e)
 clean (open' ∷ ts) x f (g ∷ fs) e = clean ts mode.There g fs (both (isThere x) _ e .1)
 clean (close' ∷ ts) x f fs e = clean ts mode.Wanted false (f ∷ fs) (both (isWanted x) _ e .1)
-clean (bad ∷ ts) x f fs e = false-true e
+clean (bad ∷ ts) x f fs e = absurd (false≢true e)
 clean (number n ∷ ts) x f fs e = clean ts mode.There f fs (both (isWanted x) _ e .1)
 clean (un o ∷ ts) x f fs e = clean ts (unaryMode x o) f fs (both (isThere (unaryMode x o)) _ e .1)
 clean (bin o ∷ ts) x f fs e = clean ts mode.Wanted _ fs (both (not (eqb (binaryLevel o) 4 && f)) _ (both (mayJoin x (binaryLevel o)) _ e .1) .1)

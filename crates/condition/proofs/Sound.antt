@@ -3,7 +3,7 @@
 use Prim.Native.Nat.{ℕ, zero, suc, _<_, _≤_}
 use native.Mathlib.Omega.{arith}
 use mathlib.Core.Path.{_≡_, refl, sym, subst, _∙_}
-use mathlib.Core.Bool.{Bool, true, false, not, _&&_}
+use mathlib.Core.Bool.{Bool, true, false, not, _&&_, false≢true}
 use mathlib.Core.List.{List, [], _∷_, _++_, append-assoc, append-nil}
 use lib.Dec.{eqb, ltb}
 use borrow.Author.Tests.{not-true}
@@ -72,53 +72,50 @@ plug {u} {x} p none-yet =
     record { tree = x; made = u; written = at p 0; text = sym (append-nil u); mode = at-mode p 0; chain = λ e. at-chained p 0 }
 plug {u} {x} p (after o {f = f} h v a b) =
     let j = join p o h (v .written) (omega arith) (rw (v .mode) a) (quiet (eqb (binaryLevel o) 4) f (chained (v .written)) (v .chain) b) in
-    record
-      { tree = j .tree
-      ; made = j .made
-      ; written = j .written
-      ; text = j .text ∙ rw (v .text)
-      ; mode = j .mode
-      ; chain = λ e. j .chain (flag-less (binaryLevel o) f (chained (v .written)) (v .chain) e)
-      }
+    record {
+      tree = j .tree;
+      made = j .made;
+      written = j .written;
+      text = j .text ∙ rw (v .text);
+      mode = j .mode;
+      chain = λ e. j .chain (flag-less (binaryLevel o) f (chained (v .written)) (v .chain) e);
+    }
 
 prefixed : {x : Mode} {f : Bool} {s : List ℕ} (u : ℕ) → u < 2 → Have 0 x f s → isThere (unaryMode x u) ≡ true → Have 0 (unaryMode x u) f (unarySign u ++ s)
 prefixed {x} {f} {s} u h v a =
     let j = prefix u h (v .written) (omega arith) (rw (v .mode) a) in
-    record
-      { tree = j .tree
-      ; made = j .made
-      ; written = j .written
-      ; text = j .text ∙ rw (v .text)
-      ; mode = j .mode ∙ rw (v .mode)
-      ; chain = λ e. j .chain (v .chain e)
-      }
+    record {
+      tree = j .tree;
+      made = j .made;
+      written = j .written;
+      text = j .text ∙ rw (v .text);
+      mode = j .mode ∙ rw (v .mode);
+      chain = λ e. j .chain (v .chain e);
+    }
 
 bracket : {x : Mode} {f : Bool} {s : List ℕ} (v : Have 0 x f s) → Primary (bracketed s) (v .tree)
 bracket v = rw (v .text) at (p-bracket (v .written))
 
-false-true : false ≡ true → ⊥
-false-true e = let z : _≡_ {A = ℕ} 0 1 = cc in omega arith
-
 want-of : {f : Bool} {s : List ℕ} (x : Mode) → isWanted x ≡ true → State x f s → Want f s
 unfolding State
 want-of mode.Wanted e st = st
-want-of mode.There e st = absurd (false-true e)
-want-of mode.Negated e st = absurd (false-true e)
+want-of mode.There e st = absurd (false≢true e)
+want-of mode.Negated e st = absurd (false≢true e)
 want-of mode.Wrong e st = absurd st
 
 have-of : {f : Bool} {s : List ℕ} (x : Mode) → isThere x ≡ true → State x f s → Have 0 x f s
 unfolding State
-have-of mode.Wanted e st = absurd (false-true e)
+have-of mode.Wanted e st = absurd (false≢true e)
 have-of mode.There e st = st
 have-of mode.Negated e st = st
 have-of mode.Wrong e st = absurd st
 
 state-of : {f : Bool} {s : List ℕ} (x : Mode) → isThere x ≡ true → Have 0 x f s → State x f s
 unfolding State
-state-of mode.Wanted e v = absurd (false-true e)
+state-of mode.Wanted e v = absurd (false≢true e)
 state-of mode.There e v = v
 state-of mode.Negated e v = v
-state-of mode.Wrong e v = absurd (false-true e)
+state-of mode.Wrong e v = absurd (false≢true e)
 
 unary-there : (x : Mode) (o : ℕ) → isThere (unaryMode x o) ≡ true → isThere x ≡ true
 unary-there mode.Wanted o e = e
@@ -141,8 +138,8 @@ moved ts a b e x = subst (λ (l : List ℕ). Some (spell ts l)) e x
 sound : (ts : List Tok) (x : Mode) (f : Bool) (fs : List Bool) (s : List ℕ) {k : List ℕ} → Wells ts → judge ts x f fs ≡ true → State x f s → Outer fs k → Some (spell ts (s ++ k))
 unfolding judge spell Wells State
 sound [] x f [] s w e st whole = let v = have-of x e st in recast (v .text ∙ sym (append-nil s)) (v .written)
-sound [] x f (g ∷ fs) s w e st k = absurd (false-true e)
-sound (open' ∷ ts) x f [] s w e st k = absurd (false-true e)
+sound [] x f (g ∷ fs) s w e st k = absurd (false≢true e)
+sound (open' ∷ ts) x f [] s w e st k = absurd (false≢true e)
 sound (open' ∷ ts) x f (g ∷ fs) s w e st (within {s = u} {k = k} want out) =
     let b = both (isThere x) _ e in
     let v = plug (bracket (have-of x (b .0) st)) want in
@@ -150,7 +147,7 @@ sound (open' ∷ ts) x f (g ∷ fs) s w e st (within {s = u} {k = k} want out) =
 sound (close' ∷ ts) x f fs s {k} w e st out =
     let b = both (isWanted x) _ e in
     sound ts mode.Wanted false (f ∷ fs) [] (w .1) (b .1) none-yet (within (want-of x (b .0) st) out)
-sound (bad ∷ ts) x f fs s w e st k = absurd (false-true e)
+sound (bad ∷ ts) x f fs s w e st k = absurd (false≢true e)
 sound (number n ∷ ts) x f fs s {k} w e st out =
     let b = both (isWanted x) _ e in
     let v = plug (p-atom n (w .0)) (want-of x (b .0) st) in

@@ -7,6 +7,7 @@ use lib.ListN.{getD}
 use Rattle.words.specs.Decimal.{decimal}
 use Rattle.condition.specs.Bytes.{bytes}
 
+-- "its tree of operators and atoms"
 pub data Cond : Type 0 where
   atom : (place : ℕ) → Cond  -- "every other expression", by its word position in the sheet
   unary : (op : ℕ) → Cond → Cond  -- 0 Neg, 1 Not
@@ -16,6 +17,7 @@ pub data Cond : Type 0 where
 abbrev pub binaryLevel : ℕ → ℕ
 binaryLevel o = getD (6 ∷ 6 ∷ 7 ∷ 7 ∷ 7 ∷ 8 ∷ 4 ∷ 4 ∷ 4 ∷ 4 ∷ 4 ∷ 4 ∷ 2 ∷ 0 ∷ 1 ∷ 5 ∷ 5 ∷ 5 ∷ 5 ∷ 6 ∷ []) o 0
 
+-- the same of unary `-` and NOT
 abbrev pub unaryLevel : ℕ → ℕ
 unaryLevel o = getD (9 ∷ 3 ∷ []) o 0
 
@@ -48,19 +50,21 @@ binarySigns =
     ∷ bytes " || "
     ∷ [])
 
+-- the sign of a BinOp, by its number
 abbrev pub binarySign : ℕ → List ℕ
 binarySign o = getD binarySigns o []
 
+-- "a sign ... before its operands"
 abbrev pub unarySigns : List (List ℕ)
 unarySigns = bytes "- " ∷ bytes "NOT " ∷ []
 
+-- the sign of a UnaryOp, by its number
 abbrev pub unarySign : ℕ → List ℕ
 unarySign o = getD unarySigns o []
 
 -- "`e` and its word position in the sheet, in decimal without leading zeros"
 abbrev pub atomText : ℕ → List ℕ
 atomText n = 101 ∷ decimal n
-
 
 -- "none stands just inside a bracket"
 abbrev pub bracketed : List ℕ → List ℕ

@@ -8,24 +8,28 @@ use Rattle.condition.specs.Tokens.{Tok, open', close', bad, number, un, 
 use Rattle.condition.specs.declared.Mode.{Mode}
 use Rattle.condition.specs.declared.Mode.the-variants as mode
 
+-- an operand is wanted, or there is one
 abbrev pub isWanted : Mode → Bool
 isWanted mode.Wanted = true
 isWanted mode.There = false
 isWanted mode.Negated = false
 isWanted mode.Wrong = false
 
+-- there is an operand
 abbrev pub isThere : Mode → Bool
 isThere mode.Wanted = false
 isThere mode.There = true
 isThere mode.Negated = true
 isThere mode.Wrong = false
 
+-- before a unary operator: unary `-` can't stand before NOT
 abbrev pub unaryMode : Mode → ℕ → Mode
 unaryMode mode.Wanted o = mode.Wrong
 unaryMode mode.There o = pick (eqb o 1) mode.Negated mode.There
 unaryMode mode.Negated o = pick (eqb o 1) mode.Negated mode.Wrong
 unaryMode mode.Wrong o = mode.Wrong
 
+-- whether a binary operator of this level can stand before an operand
 abbrev pub mayJoin : Mode → ℕ → Bool
 mayJoin mode.Wanted level = false
 mayJoin mode.There level = true

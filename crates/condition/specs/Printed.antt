@@ -1,10 +1,11 @@
--- A condition's text: brackets stand around an operand whose level is looser than its place allows.
+-- A condition's text, "printed with the fewest brackets": they stand around an operand whose level is looser than its place allows.
 use Prim.Native.Nat.{ℕ, suc}
 use mathlib.Core.Bool.{Bool, true, false}
 use mathlib.Core.List.{List, _++_}
 use lib.Dec.{ltb}
 use Rattle.condition.specs.Cond.{Cond, atom, unary, binary, binaryLevel, unaryLevel, leftLevel, binarySign, unarySign, atomText, bracketed}
 
+-- a pair of brackets where one is wanted
 abbrev pub wrap : Bool → List ℕ → List ℕ
 wrap true s = bracketed s
 wrap false s = s

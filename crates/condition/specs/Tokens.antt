@@ -9,6 +9,7 @@ use Rattle.words.specs.Decimal.{width}
 use Rattle.condition.specs.Bytes.{bytes}
 use Rattle.condition.specs.Cond.{binarySign, unarySign, atomText}
 
+-- brackets, atoms by their number, signs by their operator's, and what is none
 pub data Tok : Type 0 where
   open' close' bad : Tok
   number un bin : ℕ → Tok
@@ -27,6 +28,7 @@ pub data Last : Type 0 where
   found : Tok → List ℕ → Last
   nothing : Last
 
+-- a choice by a test
 abbrev pub pick : {A : Type 0} → Bool → A → A → A
 pick true a b = a
 pick false a b = b
@@ -37,6 +39,7 @@ strip [] r = some r
 strip (c ∷ s) [] = none
 strip (c ∷ s) (d ∷ r) = pick (eqb d c) (strip s r) none
 
+-- the token, where its sign stands here
 abbrev pub orElse : Option (List ℕ) → Tok → Last → Last
 orElse (some r) t l = found t r
 orElse none t l = l
@@ -50,6 +53,7 @@ firstSign (suc k) o r = orElse (strip (reverse (binarySign o)) r) (bin o) (first
 abbrev pub isDigit : ℕ → Bool
 isDigit b = leb 48 b && leb b 57
 
+-- the same of a bracket too
 abbrev pub isEnd : ℕ → Bool
 isEnd b = eqb b 41 || isDigit b
 
@@ -64,6 +68,7 @@ abbrev pub minus : Option (List ℕ) → Last → Last
 minus (some r) l = pick (afterOperand r) l (found (un 0) r)
 minus none l = l
 
+-- a sign
 unfoldable pub signLast : List ℕ → Last
 signLast r = orElse (strip (reverse (unarySign 1)) r) (un 1) (minus (strip (reverse (unarySign 0)) r) (firstSign 20 0 r))
 
@@ -78,6 +83,7 @@ numberLast zero v scale k r = numberEnd v k r
 numberLast (suc f) v scale k [] = nothing
 numberLast (suc f) v scale k (c ∷ r) = pick (isDigit c) (numberLast f (v + (c - 48) * scale) (scale * 10) (suc k) r) (numberEnd v k (c ∷ r))
 
+-- by the last byte
 unfoldable pub last : List ℕ → Last
 last [] = nothing
 last (c ∷ r) = pick (eqb c 40) (found open' r) (pick (eqb c 41) (found close' r) (pick (eqb c 32) (signLast (c ∷ r)) (numberLast 4 0 1 0 (c ∷ r))))
@@ -87,6 +93,7 @@ abbrev pub more : Last → (List ℕ → List Tok) → List Tok
 more (found t r) k = t ∷ k r
 more nothing k = bad ∷ []
 
+-- the tokens of a text of no more than f bytes
 unfoldable pub tokens : ℕ → List ℕ → List Tok
 tokens zero r = []
 tokens (suc f) [] = []

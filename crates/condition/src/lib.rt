@@ -99,4 +99,3 @@ pub fn may_join(m: Mode, level: usize) -> bool
         Mode::Wrong => false,
     }
 }
-

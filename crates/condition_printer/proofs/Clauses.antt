@@ -91,16 +91,16 @@ module _ (ws : List ℕ) (names at : ℕ) (o : isOk (readClause (tables ws names
   unfolding readWhere ofClause condE
   where-stands k =
       let s = where-is k in
-      record
-        { fine = one-fine P (drop (at + 3) ws) (ok-left (times 1 P noMore (drop (at + 3) ws)) _ (rw s at o))
-        ; from = omega arith
-        ; within = opens t ws at o .inside
-        ; is = λ c r e q h g. (
+      record {
+        fine = one-fine P (drop (at + 3) ws) (ok-left (times 1 P noMore (drop (at + 3) ws)) _ (rw s at o));
+        from = omega arith;
+        within = opens t ws at o .inside;
+        is = λ c r e q h g. (
             let w : ok (reading where' (getD ws (at + 1) 0) (getD ws (at + 2) 0) (more e done)) q ≡ ok c r = rw (s, one-row P (drop (at + 3) ws) g) at h in
             let x : reading where' (getD ws (at + 1) 0) (getD ws (at + 2) 0) (more e done) ≡ c = cc in
             let y : q ≡ r = cc in
-            (ap (λ (z : Clause). ofClause z at) (sym x), rw y (omega arith)))
-        }
+            (ap (λ (z : Clause). ofClause z at) (sym x), rw y (omega arith)));
+      }
 
   -- a WITH, its projections read up to the word q
   module _ (k : getD ws at 0 ≡ 3) where
@@ -140,17 +140,17 @@ module _ (ws : List ℕ) (names at : ℕ) (o : isOk (readClause (tables ws names
       unfolding ofClause condE
       filter-stands f g =
           let s : readClause t (drop at ws) ≡ filtered 1 (drop (q + 1) ws) = rw g at (flag-is .1 .1) in
-          record
-            { fine = one-fine P (drop (q + 1) ws) (ok-left (times 1 P noMore (drop (q + 1) ws)) _ (rw s at o))
-            ; from = omega arith
-            ; within = omega (arith, flag-is .0)
-            ; is = λ c r e u x y. (
+          record {
+            fine = one-fine P (drop (q + 1) ws) (ok-left (times 1 P noMore (drop (q + 1) ws)) _ (rw s at o));
+            from = omega arith;
+            within = omega (arith, flag-is .0);
+            is = λ c r e u x y. (
                 let w : ok (with' (getD ws (at + 1) 0) (getD ws (at + 2) 0) ps (more e done)) u ≡ ok c r = rw (s, one-row P (drop (q + 1) ws) y) at x in
                 let a : with' (getD ws (at + 1) 0) (getD ws (at + 2) 0) ps (more e done) ≡ c = cc in
                 let b : u ≡ r = cc in
                 let n = filter-begins ws at q (getD ws (at + 1) 0) (getD ws (at + 2) 0) ps e r (omega (arith, projections-begin)) (flag-is .0) (clause-written t (drop at ws) _ r (rw (← a) at x) .0) (written t 48 (drop (q + 1) ws) e r (rw b at y) .0) in
-                (ap (λ (z : Clause). ofClause z at) (sym a) ∙ ap (λ (i : ℕ). condE e i ∷ []) n, rw b (omega arith)))
-            }
+                (ap (λ (z : Clause). ofClause z at) (sym a) ∙ ap (λ (i : ℕ). condE e i ∷ []) n, rw b (omega arith)));
+          }
 
       pub no-filter : (getD ws q 0 ≡ 1 → ⊥) → (c : Clause) (r : List ℕ) → readClause t (drop at ws) ≡ ok c r → ofClause c at ≡ []
       unfolding ofClause times condE

@@ -54,6 +54,7 @@ first-of {A} T (suc n) l all last h e = go (T .one l) refl e
         let s : suc n - 1 ≡ n = omega arith in
         record { item = x; after = r; others = xs; first = f; rest = rw s (rw b at g); is = sym a }
     second x r f (no c) g e = never (cc)
+
     go : (y : Got A) → T .one l ≡ y → bind y (λ x r. bind (many (T .one) n r) (λ xs r2. ok (x ∷ xs) r2)) ≡ ok all last → First T (suc n) l all last
     go (ok x r) f e = second x r f (many (T .one) n r) refl e
     go (no c) f e = never (cc)
@@ -87,18 +88,18 @@ module _ {A : Type 0} (T : Things A) where
         let x = u .is (f .item) (f .after) (f .first) in
         let a = T .of (f .item) p in
         let t = turn-text T (r .others) (f .item) (f .others) p q (f .is) (x .1 .0) in
-        record
-          { all = r .all
-          ; last = r .last
-          ; whole = r .whole
-          ; others = f .others
-          ; reads = rw (x .0) at (f .rest)
-          ; text = r .text ++ pageOf a
-          ; so = r .so ∙ (rw t (sym (append-assoc (r .text) (pageOf a) (pageOf (inRow (T .write) (T .of) (f .others) q)))))
-          ; stage = part (r .stage) u (f .item) (f .after) (f .first)
-          ; inside = r .inside
-          ; few = r .few
-          }
+        record {
+          all = r .all;
+          last = r .last;
+          whole = r .whole;
+          others = f .others;
+          reads = rw (x .0) at (f .rest);
+          text = r .text ++ pageOf a;
+          so = r .so ∙ (rw t (sym (append-assoc (r .text) (pageOf a) (pageOf (inRow (T .write) (T .of) (f .others) q)))));
+          stage = part (r .stage) u (f .item) (f .after) (f .first);
+          inside = r .inside;
+          few = r .few;
+        }
 
     pub row-put : left ≡ 0 → Put (many (T .one) n (drop at ws)) (rowWords (T .write)) (textOf (inRow (T .write) (T .of)) at) ws at k old new p j
     unfolding many inRow pageOf flatMap

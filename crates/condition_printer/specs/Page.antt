@@ -26,9 +26,11 @@ use Rattle.condition_printer.specs.declared.Shown.the-variants as answer
 use Rattle.condition_printer.specs.declared.lines.Place.{Place}
 use Rattle.condition_printer.specs.declared.lines.Place.the-variants as place
 
+-- a line
 abbrev pub line : Cond → List ℕ
 line c = printed 0 c ++ (10 ∷ [])
 
+-- "printed one a line in sheet order"
 unfoldable pub pageOf : List Cond → List ℕ
 pageOf cs = flatMap line cs
 

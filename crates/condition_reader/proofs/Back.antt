@@ -42,15 +42,6 @@ module _ (sign s : List ℕ) (i q : ℕ) where
   unfolding strip
   strip-done h = rw (drop-of-length-le sign h)
 
--- k is none of the first n numbers, as the last arm of a `match` knows it
-abbrev pub NoneBelow : ℕ → ℕ → Type 0
-NoneBelow zero k = Unit {0}
-NoneBelow (suc n) k = NoneBelow n k × (k ≡ n → ⊥)
-
-pub none-below : (n k : ℕ) → NoneBelow n k → n ≤ k
-none-below zero k h = omega arith
-none-below (suc n) k h = omega (arith, none-below n k (h .0), h .1)
-
 -- an operand and a blank
 pub after-none : (s : List ℕ) (p : ℕ) → p < 2 → afterOperand (back s p) ≡ false
 unfolding back afterOperand

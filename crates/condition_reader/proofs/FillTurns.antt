@@ -53,24 +53,24 @@ module _ {text : List ℕ} {n : ℕ} {old list : List ℕ} {p depth s w : ℕ} (
   tells {t} {q} e =
       let l = lex-found (back text p) e in
       let g = last-found (back text p) t (back text q) e in
-      record
-        { lexed = l
-        ; earlier = omega (arith, g .shorter, length-back text p, length-back text q)
-        ; well = g .well
-        ; room = omega (arith, f .room, count-cons t (lex (back text q)) (lex (back text p)) l)
-        }
+      record {
+        lexed = l;
+        earlier = omega (arith, g .shorter, length-back text p, length-back text q);
+        well = g .well;
+        room = omega (arith, f .room, count-cons t (lex (back text q)) (lex (back text p)) l);
+      }
 
   pub turns : {t : Tok} {q s' w' : ℕ} {list' : List ℕ} → Tells text list t p q s w → Turned t depth list s w list' s' w' → Filling text n old list' q (depthAt t depth) s' w'
   turns {t} {q} x u =
       let c = count-cons t (lex (back text q)) (lex (back text p)) (x .lexed) in
-      record
-        { same = f .same ∙ (run-cons t (lex (back text q)) (lex (back text p)) depth (workOf list s w) (x .lexed) ∙ rw (u .same))
-        ; room = omega (arith, f .room, u .room)
-        ; within = omega (arith, f .within, f .room, u .room, u .most, u .size)
-        ; size = u .size ∙ f .size
-        ; deep = deeper t depth p q (length text) (x .earlier) (f .deep)
-        ; clean = clean-tail t (lex (back text q)) (rw (x .lexed) at (f .clean))
-        }
+      record {
+        same = f .same ∙ (run-cons t (lex (back text q)) (lex (back text p)) depth (workOf list s w) (x .lexed) ∙ rw (u .same));
+        room = omega (arith, f .room, u .room);
+        within = omega (arith, f .within, f .room, u .room, u .most, u .size);
+        size = u .size ∙ f .size;
+        deep = deeper t depth p q (length text) (x .earlier) (f .deep);
+        clean = clean-tail t (lex (back text q)) (rw (x .lexed) at (f .clean));
+      }
 
   pub closes : {q : ℕ} → Tells text list close' p q s w → Filling text n old list q (suc depth) s w
   closes x = turns x (record { same = refl; room = omega arith; most = omega arith; low = omega (arith, x .room); size = refl })
@@ -82,9 +82,9 @@ module _ {text : List ℕ} {n : ℕ} {old list : List ℕ} {p depth s w : ℕ} (
   pub done : {new : List ℕ} {s' w' : ℕ} → p ≡ 0 → Unwound 0 list s w new s' w' → Filled text n old new
   unfolding run lex tokens
   done {new} {s'} {w'} e u =
-      record
-        { at = w'
-        ; same = sym (f .same ∙ (rw (back-none text p e) (ap (λ (v : Work). v .out) (u .same))))
-        ; size = u .size ∙ f .size
-        ; within = omega (arith, u .room, u .less, u .size, f .within)
-        }
+      record {
+        at = w';
+        same = sym (f .same ∙ (rw (back-none text p e) (ap (λ (v : Work). v .out) (u .same))));
+        size = u .size ∙ f .size;
+        within = omega (arith, u .room, u .less, u .size, f .within);
+      }

@@ -3,7 +3,7 @@ use Prim.Native.Nat.{ℕ, zero, suc, pred, max, _+_, _-_, _/_, _<_, _≤_}
 use native.Mathlib.Omega.{arith}
 use native.Mathlib.Numerals.{add-one, sub-one}
 use mathlib.Core.Path.{_≡_, refl, sym, ap, _∙_}
-use mathlib.Core.Bool.{Bool, true, false, not, cond, _&&_}
+use mathlib.Core.Bool.{Bool, true, false, not, cond, _&&_, false≢true}
 use mathlib.Core.List.{List, [], _∷_}
 use lib.Dec.{eqb, leb, ltb}
 use lib.ListN.{length}
@@ -64,14 +64,8 @@ levels-set low l v f g (k ∷ fs) n fit le e h = (level-same low l (suc (length 
 -- outside the window nothing is kept
 levels-out : (low : ℕ) (l : List ℕ) (f g : Bool) (fs : List Bool) → window low (length fs) ≡ false → Levels low l f fs → Levels low l g fs
 unfolding Levels
-levels-out low l f g [] o h = λ w. absurd (clash (sym o ∙ w))
-  where
-    clash : false ≡ true → ⊥
-    clash z = let n : _≡_ {A = ℕ} 0 1 = cc in omega arith
-levels-out low l f g (k ∷ fs) o h = (λ w. absurd (clash (sym o ∙ w)), h .1)
-  where
-    clash : false ≡ true → ⊥
-    clash z = let n : _≡_ {A = ℕ} 0 1 = cc in omega arith
+levels-out low l f g [] o h = λ w. absurd (false≢true (sym o ∙ w))
+levels-out low l f g (k ∷ fs) o h = (λ w. absurd (false≢true (sym o ∙ w)), h .1)
 
 levels-mark : (low : ℕ) (l : List ℕ) (v : ℕ) (f g : Bool) (fs : List Bool) → length l ≡ 65536 → v ≡ bit g → Levels low l f fs → Levels low (markOf low (length fs) v l) g fs
 levels-mark low l v f g fs n e h = go (window low (length fs)) refl
@@ -92,11 +86,9 @@ levels-close : (low : ℕ) (l : List ℕ) (f : Bool) (fs : List Bool) → length
 unfolding Levels
 levels-close low l f fs n h = go (window low (suc (length fs))) refl
   where
-    clash : false ≡ true → ⊥
-    clash z = let x : _≡_ {A = ℕ} 0 1 = cc in omega arith
     go : (b : Bool) → window low (suc (length fs)) ≡ b → Levels low (cond b (putBit l (suc (length fs) - low) 0) l) false (f ∷ fs)
     go true w = (level-same low l (suc (length fs)) 0 false n refl, (let p = has-place low (suc (length fs)) w in levels-other low l (suc (length fs)) 0 f fs (omega (arith, p .1)) (p .0) (omega arith) h))
-    go false w = (λ x. absurd (clash (sym w ∙ x)), h)
+    go false w = (λ x. absurd (false≢true (sym w ∙ x)), h)
 
 length-mark : (low d v : ℕ) (l : List ℕ) → length (markOf low d v l) ≡ length l
 length-mark low d v l = go (window low d)
@@ -120,6 +112,7 @@ flag-read low l d f h = go (window low d) refl
     is : (f : Bool) → eqb (bit f) 1 ≡ f
     is true = refl
     is false = refl
+
     go : (b : Bool) → window low d ≡ b → (b && eqb (bitAt l (d - low)) 1) ≡ (b && f)
     go true w = rw (h w) (is f)
     go false w = refl
@@ -257,17 +250,17 @@ module _ {text : List ℕ} {low : ℕ} {flags : List ℕ} {p : ℕ} {m : Mode} {
   open-turn {q} x e h =
       let o = opens (window low) low flags (lex (back text q)) m (j .flag) (j .around) (omega (arith, j .level)) e (j .levels) in
       let s : pred depth ≡ depth - 1 = omega arith in
-      record
-        { flag = o .flag
-        ; around = o .around
-        ; same = first x ∙ o .same
-        ; count = j .count ∙ rw (count-cons open' (lex (back text q)) (lex (back text p)) (x .lexed)) (omega arith)
-        ; deep = j .deep ∙ (peak-cons open' (lex (back text q)) (lex (back text p)) depth deepest (x .lexed) ∙ ap (λ (d : ℕ). peak (lex (back text q)) d deepest) s)
-        ; level = omega (arith, j .level, o .level)
-        ; levels = o .levels
-        ; size = j .size
-        ; room = omega (arith, j .room, x .earlier)
-        }
+      record {
+        flag = o .flag;
+        around = o .around;
+        same = first x ∙ o .same;
+        count = j .count ∙ rw (count-cons open' (lex (back text q)) (lex (back text p)) (x .lexed)) (omega arith);
+        deep = j .deep ∙ (peak-cons open' (lex (back text q)) (lex (back text p)) depth deepest (x .lexed) ∙ ap (λ (d : ℕ). peak (lex (back text q)) d deepest) s);
+        level = omega (arith, j .level, o .level);
+        levels = o .levels;
+        size = j .size;
+        room = omega (arith, j .room, x .earlier);
+      }
 
   pub close-mode : {q : ℕ} → Tells text close' p q → isWanted m ≡ false → Whole false
   close-mode {q} x e = first x ∙ judge-close (window low) (lex (back text q)) m (j .flag) (j .around) false e
@@ -276,17 +269,17 @@ module _ {text : List ℕ} {low : ℕ} {flags : List ℕ} {p : ℕ} {m : Mode} {
   unfolding peak
   close-turn {q} {flags'} x e g k =
       let s : depth + 1 ≡ suc (length (j .around)) = omega (arith, j .level) in
-      record
-        { flag = false
-        ; around = j .flag ∷ j .around
-        ; same = first x ∙ (judge-close (window low) (lex (back text q)) m (j .flag) (j .around) true e ∙ rw (is-wanted m e))
-        ; count = j .count ∙ rw (count-cons close' (lex (back text q)) (lex (back text p)) (x .lexed)) (omega arith)
-        ; deep = j .deep ∙ (peak-cons close' (lex (back text q)) (lex (back text p)) depth deepest (x .lexed) ∙ rw (k, add-one depth))
-        ; level = s
-        ; levels = rw (g, s) (levels-close low flags (j .flag) (j .around) (j .size) (j .levels))
-        ; size = rw g (length-mark low (depth + 1) 0 flags ∙ j .size)
-        ; room = omega (arith, j .room, x .earlier)
-        }
+      record {
+        flag = false;
+        around = j .flag ∷ j .around;
+        same = first x ∙ (judge-close (window low) (lex (back text q)) m (j .flag) (j .around) true e ∙ rw (is-wanted m e));
+        count = j .count ∙ rw (count-cons close' (lex (back text q)) (lex (back text p)) (x .lexed)) (omega arith);
+        deep = j .deep ∙ (peak-cons close' (lex (back text q)) (lex (back text p)) depth deepest (x .lexed) ∙ rw (k, add-one depth));
+        level = s;
+        levels = rw (g, s) (levels-close low flags (j .flag) (j .around) (j .size) (j .levels));
+        size = rw g (length-mark low (depth + 1) 0 flags ∙ j .size);
+        room = omega (arith, j .room, x .earlier);
+      }
 
   pub number-mode : {q v : ℕ} → Tells text (number v) p q → isWanted m ≡ false → Whole false
   number-mode {q} {v} x e = first x ∙ judge-number (window low) (lex (back text q)) m (j .flag) (j .around) v false e
@@ -294,17 +287,17 @@ module _ {text : List ℕ} {low : ℕ} {flags : List ℕ} {p : ℕ} {m : Mode} {
   pub number-turn : {q v : ℕ} → Tells text (number v) p q → isWanted m ≡ true → Judging text low flags q mode.There depth deepest (n + 1)
   unfolding peak
   number-turn {q} {v} x e =
-      record
-        { flag = j .flag
-        ; around = j .around
-        ; same = first x ∙ judge-number (window low) (lex (back text q)) m (j .flag) (j .around) v true e
-        ; count = j .count ∙ rw (count-cons (number v) (lex (back text q)) (lex (back text p)) (x .lexed)) (omega arith)
-        ; deep = j .deep ∙ peak-cons (number v) (lex (back text q)) (lex (back text p)) depth deepest (x .lexed)
-        ; level = j .level
-        ; levels = j .levels
-        ; size = j .size
-        ; room = omega (arith, j .room, x .earlier)
-        }
+      record {
+        flag = j .flag;
+        around = j .around;
+        same = first x ∙ judge-number (window low) (lex (back text q)) m (j .flag) (j .around) v true e;
+        count = j .count ∙ rw (count-cons (number v) (lex (back text q)) (lex (back text p)) (x .lexed)) (omega arith);
+        deep = j .deep ∙ peak-cons (number v) (lex (back text q)) (lex (back text p)) depth deepest (x .lexed);
+        level = j .level;
+        levels = j .levels;
+        size = j .size;
+        room = omega (arith, j .room, x .earlier);
+      }
 
   pub unary-mode : {q o : ℕ} {m' : Mode} → Tells text (un o) p q → m' ≡ unaryMode m o → isThere m' ≡ false → Whole false
   unary-mode {q} {o} x g e = first x ∙ judge-unary (window low) (lex (back text q)) m (j .flag) (j .around) o false (rw g at e)
@@ -312,17 +305,17 @@ module _ {text : List ℕ} {low : ℕ} {flags : List ℕ} {p : ℕ} {m : Mode} {
   pub unary-turn : {q o : ℕ} {m' : Mode} → Tells text (un o) p q → m' ≡ unaryMode m o → isThere m' ≡ true → Judging text low flags q m' depth deepest (n + 1)
   unfolding peak
   unary-turn {q} {o} x g e =
-      record
-        { flag = j .flag
-        ; around = j .around
-        ; same = first x ∙ (judge-unary (window low) (lex (back text q)) m (j .flag) (j .around) o true (rw g at e) ∙ rw g)
-        ; count = j .count ∙ rw (count-cons (un o) (lex (back text q)) (lex (back text p)) (x .lexed)) (omega arith)
-        ; deep = j .deep ∙ peak-cons (un o) (lex (back text q)) (lex (back text p)) depth deepest (x .lexed)
-        ; level = j .level
-        ; levels = j .levels
-        ; size = j .size
-        ; room = omega (arith, j .room, x .earlier)
-        }
+      record {
+        flag = j .flag;
+        around = j .around;
+        same = first x ∙ (judge-unary (window low) (lex (back text q)) m (j .flag) (j .around) o true (rw g at e) ∙ rw g);
+        count = j .count ∙ rw (count-cons (un o) (lex (back text q)) (lex (back text p)) (x .lexed)) (omega arith);
+        deep = j .deep ∙ peak-cons (un o) (lex (back text q)) (lex (back text p)) depth deepest (x .lexed);
+        level = j .level;
+        levels = j .levels;
+        size = j .size;
+        room = omega (arith, j .room, x .earlier);
+      }
 
   -- what the code tells of a second comparison
   read-flag : (l : ℕ) → (eqb l 4 && (window low depth && eqb (bitAt flags (depth - low)) 1)) ≡ (eqb l 4 && (window low (length (j .around)) && j .flag))
@@ -340,17 +333,17 @@ module _ {text : List ℕ} {low : ℕ} {flags : List ℕ} {p : ℕ} {m : Mode} {
   pub binary-turn : {q o l : ℕ} {b : Bool} {flags' : List ℕ} → Tells text (bin o) p q → l ≡ binaryLevel o → mayJoin m l ≡ true → b ≡ (eqb l 4 && (window low depth && eqb (bitAt flags (depth - low)) 1)) → b ≡ false → flags' ≡ afterOf low depth l flags → Judging text low flags' q mode.Wanted depth deepest (n + 1)
   unfolding peak
   binary-turn {q} {o} {l} x g a r e k =
-      record
-        { flag = flagAfter (binaryLevel o) (j .flag)
-        ; around = j .around
-        ; same = first x ∙ judge-binary (window low) (lex (back text q)) m (j .flag) (j .around) o true false (rw g at a) (rw g at (sym (read-flag l) ∙ (sym r ∙ e)))
-        ; count = j .count ∙ rw (count-cons (bin o) (lex (back text q)) (lex (back text p)) (x .lexed)) (omega arith)
-        ; deep = j .deep ∙ peak-cons (bin o) (lex (back text q)) (lex (back text p)) depth deepest (x .lexed)
-        ; level = j .level
-        ; levels = rw (k, g, j .level) (levels-after low (binaryLevel o) flags (j .flag) (j .around) (j .size) (j .levels))
-        ; size = rw k (length-after low depth l flags ∙ j .size)
-        ; room = omega (arith, j .room, x .earlier)
-        }
+      record {
+        flag = flagAfter (binaryLevel o) (j .flag);
+        around = j .around;
+        same = first x ∙ judge-binary (window low) (lex (back text q)) m (j .flag) (j .around) o true false (rw g at a) (rw g at (sym (read-flag l) ∙ (sym r ∙ e)));
+        count = j .count ∙ rw (count-cons (bin o) (lex (back text q)) (lex (back text p)) (x .lexed)) (omega arith);
+        deep = j .deep ∙ peak-cons (bin o) (lex (back text q)) (lex (back text p)) depth deepest (x .lexed);
+        level = j .level;
+        levels = rw (k, g, j .level) (levels-after low (binaryLevel o) flags (j .flag) (j .around) (j .size) (j .levels));
+        size = rw k (length-after low depth l flags ∙ j .size);
+        room = omega (arith, j .room, x .earlier);
+      }
 
   pub bad-token : 0 < p → last (back text p) ≡ nothing → Whole false
   unfolding judgeIn
@@ -368,6 +361,7 @@ module _ {text : List ℕ} {low : ℕ} {flags : List ℕ} {p : ℕ} {m : Mode} {
 
   pub end-reads : p ≡ 0 → isThere m ≡ true → depth ≡ 0 → Whole true × ((n ≡ countOf (toksOf text)) × ((deepest ≡ peak (toksOf text) 0 low) × (n ≤ length text)))
   unfolding countOf peak
-  end-reads e g h =
-      (j .same ∙ rw (ended e) (judge-none (window low) [] m (j .flag) (j .around) (omega (arith, j .level)) ∙ g)
-      , (let c = rw (ended e) at (j .count) in omega arith, (sym (rw (ended e) at (j .deep)), omega (arith, j .room))))
+  end-reads e g h = (
+    j .same ∙ rw (ended e) (judge-none (window low) [] m (j .flag) (j .around) (omega (arith, j .level)) ∙ g),
+    (let c = rw (ended e) at (j .count) in omega arith, (sym (rw (ended e) at (j .deep)), omega (arith, j .room))),
+  )

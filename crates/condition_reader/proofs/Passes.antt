@@ -3,7 +3,7 @@ use Prim.Native.Nat.{ℕ, suc, pred, max, _+_, _-_, _<_, _≤_}
 use native.Mathlib.Omega.{arith}
 use mathlib.Core.Path.{_≡_, refl, sym, _∙_}
 use mathlib.Core.Logic.{_⊎_, inl, inr}
-use mathlib.Core.Bool.{Bool, true, false, not, _&&_}
+use mathlib.Core.Bool.{Bool, true, false, not, _&&_, false≢true}
 use mathlib.Core.List.{List, [], _∷_}
 use lib.Dec.{eqb, leb, ltb}
 use lib.ListN.{length}
@@ -30,14 +30,9 @@ split W X U d true false h a b = go (U d)
 split W X U d true true h a b = go (U d) refl
   where
     up : (w v : Bool) → W d ≡ w → X d ≡ v → not (W d && true) ≡ true → not (X d && true) ≡ true → (W d ≡ true) ⊎ (X d ≡ true) → ⊥
-    up w v x y a b (inl e) = let z : _≡_ {A = Bool} false true = rw e at a in clash z
-      where
-        clash : false ≡ true → ⊥
-        clash z = let n : _≡_ {A = ℕ} 0 1 = cc in omega arith
-    up w v x y a b (inr e) = let z : _≡_ {A = Bool} false true = rw e at b in clash z
-      where
-        clash : false ≡ true → ⊥
-        clash z = let n : _≡_ {A = ℕ} 0 1 = cc in omega arith
+    up w v x y a b (inl e) = let z : _≡_ {A = Bool} false true = rw e at a in false≢true z
+    up w v x y a b (inr e) = let z : _≡_ {A = Bool} false true = rw e at b in false≢true z
+
     go : (u : Bool) → U d ≡ u → not (u && true) ≡ true
     go false e = refl
     go true e = absurd (up (W d) (X d) refl refl a b (h e))
@@ -92,11 +87,9 @@ below n d = ltb d n
 pub reject : (W : ℕ → Bool) (ts : List Tok) (m : Mode) (f : Bool) (fs : List Bool) → judgeIn W ts m f fs ≡ false → judge ts m f fs ≡ false
 reject W ts m f fs e = go (judge ts m f fs) refl
   where
-    clash : false ≡ true → ⊥
-    clash z = let n : _≡_ {A = ℕ} 0 1 = cc in omega arith
     go : (b : Bool) → judge ts m f fs ≡ b → b ≡ false
     go false x = refl
-    go true x = let t = judge-every ts m f fs ∙ x in absurd (clash (sym e ∙ cover every every W (λ d h. inl refl) ts m f fs t t))
+    go true x = let t = judge-every ts m f fs ∙ x in absurd (false≢true (sym e ∙ cover every every W (λ d h. inl refl) ts m f fs t t))
 
 -- one window more
 pub widen : (low : ℕ) (ts : List Tok) (m : Mode) (f : Bool) (fs : List Bool) → judgeIn (below low) ts m f fs ≡ true → judgeIn (window low) ts m f fs ≡ true → judgeIn (below (low + 524288)) ts m f fs ≡ true

@@ -23,11 +23,12 @@ stack-two k l i a b h = rw (stack-above k (set l i a) (i + 1) b (omega arith)) (
 pub stack-push : (k : ℕ) (l : List ℕ) (a b : ℕ) → k * 2 + 2 ≤ length l → stackOf (suc k) (set (set l (k * 2) a) (k * 2 + 1) b) ≡ waits a b (stackOf k l)
 unfolding stackOf
 stack-push k l a b h =
-    rw
-    (stack-two k l (k * 2) a b (omega arith)
-    , getD-set-same (set l (k * 2) a) (k * 2 + 1) b 0 (simp length-set (omega arith))
-    , getD-set-other (set l (k * 2) a) (k * 2 + 1) (k * 2) b 0 (λ e. omega arith)
-    , getD-set-same l (k * 2) a 0 (omega arith))
+    rw (
+      stack-two k l (k * 2) a b (omega arith),
+      getD-set-same (set l (k * 2) a) (k * 2 + 1) b 0 (simp length-set (omega arith)),
+      getD-set-other (set l (k * 2) a) (k * 2 + 1) (k * 2) b 0 (λ e. omega arith),
+      getD-set-same l (k * 2) a 0 (omega arith),
+    )
 
 two-sucs : (l : List ℕ) (w a b : ℕ) → suc (suc w) ≤ length l → drop w (set (set l w a) (suc w) b) ≡ a ∷ (b ∷ drop (suc (suc w)) l)
 two-sucs [] w a b h = absurd (omega arith)

@@ -28,23 +28,23 @@ pub turn-unary : {l m l' : List ℕ} {o depth s w s' w' : ℕ} → s * 2 + 2 ≤
 turn-unary {l} {m} {o = o} {s' = s'} {w' = w'} h g u e =
     let a : s' * 2 + 2 ≤ w' = omega (arith, u .room, u .less) in
     let b : w' ≤ length m = omega (arith, u .room, u .less, u .size) in
-    record
-      { same = rw (u .same, e) (sym (entry m s' w' 16 o a b))
-      ; room = omega (arith, u .room)
-      ; most = omega (arith, u .less)
-      ; low = omega arith
-      ; size = rw e (simp length-set (u .size))
-      }
+    record {
+      same = rw (u .same, e) (sym (entry m s' w' 16 o a b));
+      room = omega (arith, u .room);
+      most = omega (arith, u .less);
+      low = omega arith;
+      size = rw e (simp length-set (u .size));
+    }
 
 pub turn-binary : {l m l' : List ℕ} {o depth s w s' w' : ℕ} → s * 2 + 2 ≤ w → w ≤ length l → Unwound (rankOf depth (binaryLevel o)) l s w m s' w' → l' ≡ set (set m (s' * 2) (rankOf depth (binaryLevel o))) (s' * 2 + 1) o → Turned (bin o) depth l s w l' (s' + 1) w'
 turn-binary {l} {m} {o = o} {depth = depth} {s' = s'} {w' = w'} h g u e =
     let k = rankOf depth (binaryLevel o) in
     let a : s' * 2 + 2 ≤ w' = omega (arith, u .room, u .less) in
     let b : w' ≤ length m = omega (arith, u .room, u .less, u .size) in
-    record
-      { same = rw (u .same, e, add-one s', stack-push s' m k o (omega arith), drop-below m w' (s' * 2) k o (omega arith))
-      ; room = omega (arith, u .room)
-      ; most = omega (arith, u .less)
-      ; low = omega arith
-      ; size = rw e (simp length-set (u .size))
-      }
+    record {
+      same = rw (u .same, e, add-one s', stack-push s' m k o (omega arith), drop-below m w' (s' * 2) k o (omega arith));
+      room = omega (arith, u .room);
+      most = omega (arith, u .less);
+      low = omega arith;
+      size = rw e (simp length-set (u .size));
+    }

@@ -40,14 +40,14 @@ module _ {limit : ℕ} {old : List ℕ} {top first : ℕ} {l : List ℕ} {s w : 
       let d = drop-two l (w - 2) 15 o (omega arith) in
       let st = stack-two (s - 1) l (w - 2) 15 o (omega arith) in
       let n : length (set (set l (w - 2) 15) (w - 2 + 1) o) ≡ length l = simp length-set in
-      record
-        { same = i .same ∙ (pops limit s (s - 1) l (drop w l) (omega arith) g ∙ rw (e, st, d, back))
-        ; room = omega (arith, i .room)
-        ; less = omega (arith, i .less)
-        ; size = rw e (n ∙ i .size)
-        ; low = omega arith
-        ; within = rw (e, n) (omega arith)
-        }
+      record {
+        same = i .same ∙ (pops limit s (s - 1) l (drop w l) (omega arith) g ∙ rw (e, st, d, back));
+        room = omega (arith, i .room);
+        less = omega (arith, i .less);
+        size = rw e (n ∙ i .size);
+        low = omega arith;
+        within = rw (e, n) (omega arith);
+      }
 
   pub stops : 0 < s → getD l ((s - 1) * 2) 0 ≤ limit → Unwound limit old top first l s w
   stops h g = record { same = i .same ∙ stays limit s (s - 1) l (drop w l) (omega arith) g; room = i .room; less = i .less; size = i .size }

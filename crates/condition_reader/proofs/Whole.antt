@@ -2,7 +2,7 @@
 use Prim.Native.Nat.{ℕ, zero, suc, max, _+_, _*_, _/_, _-_, _<_, _≤_}
 use native.Mathlib.Omega.{arith}
 use mathlib.Core.Path.{_≡_, refl, sym, ap, _∙_}
-use mathlib.Core.Bool.{Bool, true, false}
+use mathlib.Core.Bool.{Bool, true, false, false≢true}
 use mathlib.Core.List.{List, [], _∷_, _++_, reverse, reverseAux, reverseAux-append, append-nil}
 use lib.ListN.{length, getD, take, drop, length-append, length-drop}
 use lib.Seq.{take-suc, take-length}
@@ -48,10 +48,7 @@ pub reads : (s : List ℕ) → judge (toksOf s) mode.Wanted false [] ≡ true �
 reads s e = judged-reads s (rw (toks-reverse s) at e)
 
 pub unread : (s : List ℕ) → judge (toksOf s) mode.Wanted false [] ≡ false → (t : Cond) → Reads s t → ⊥
-unread s e t w = let x : _≡_ {A = Bool} false true = sym (rw (toks-reverse s) at e) ∙ reads-judged w in clash x
-  where
-    clash : false ≡ true → ⊥
-    clash z = let n : _≡_ {A = ℕ} 0 1 = cc in omega arith
+unread s e t w = let x : _≡_ {A = Bool} false true = sym (rw (toks-reverse s) at e) ∙ reads-judged w in false≢true x
 
 pub fillable : (s : List ℕ) (n : ℕ) (list : List ℕ) → judge (toksOf s) mode.Wanted false [] ≡ true → n ≡ countOf (toksOf s) → n * 2 ≤ length list → length s * 10 + 20 < 18446744073709551616 → Fillable s n list
 fillable s n list e c f k = record { clean = clean (toksOf s) mode.Wanted false [] e; count = c; fits = f; short = k }

@@ -6,9 +6,11 @@ use lib.Bits.{bitXor}
 use lib.Dec.{eqb}
 use lib.ListN.{getD, set}
 
+-- the flag i
 unfoldable pub bitAt : List ℕ → ℕ → ℕ
 bitAt l i = getD l (i / 8) 0 / 2 ^ (i % 8) % 2
 
+-- the bytes with one bit
 abbrev pub powers : List ℕ
 powers = 1 ∷ 2 ∷ 4 ∷ 8 ∷ 16 ∷ 32 ∷ 64 ∷ 128 ∷ []
 

@@ -15,6 +15,7 @@ use Rattle.condition_reader.specs.Bits.{putBit}
 use Rattle.condition_reader.specs.declared.judging.Verdict.{Verdict}
 use Rattle.condition_reader.specs.declared.judging.Verdict.the-variants as verdict
 
+-- the levels that a pass looks at
 abbrev pub window : ℕ → ℕ → Bool
 window low d = leb low d && ltb (d - low) 524288
 
@@ -22,6 +23,7 @@ window low d = leb low d && ltb (d - low) 524288
 abbrev pub markOf : ℕ → ℕ → ℕ → List ℕ → List ℕ
 markOf low d v l = cond (window low d) (putBit l (d - low) v) l
 
+-- the same after an operator
 abbrev pub afterOf : ℕ → ℕ → ℕ → List ℕ → List ℕ
 afterOf low d level l = cond (ltb level 3) (markOf low d 0 l) (cond (eqb level 4) (markOf low d 1 l) l)
 
@@ -48,6 +50,7 @@ peak (number n ∷ ts) d b = peak ts d b
 peak (un o ∷ ts) d b = peak ts d b
 peak (bin o ∷ ts) d b = peak ts d b
 
+-- the tokens of a text
 abbrev pub toksOf : List ℕ → List Tok
 toksOf s = lex (back s (length s))
 

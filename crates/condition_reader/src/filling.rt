@@ -1,9 +1,9 @@
 // The entries of a text that reads, from the last to the first. Operators that wait for their left operand stand at the front of the list,
 // each as its rank and its number: a rank is ten for each level of brackets, and the operator's level + 1.
-use condition::binary_level;
-use condition::unary_level;
 use crate::lexer::Token;
 use crate::lexer::token_before;
+use condition::binary_level;
+use condition::unary_level;
 ghost use mathlib.Core.Path.{_≡_};
 ghost use Prim.Native.Nat.{pred, _+_, _*_, _<_, _≤_};
 ghost use lib.ListN.{length, set};
@@ -85,7 +85,10 @@ fn take_binary(list: &mut [u64], top: usize, first: usize, depth: u64, o: usize)
     let s = e.top;
     let w = e.first;
     put(list, s * 2, rank, o as u64);
-    Ends { top: s + 1, first: w }
+    Ends {
+        top: s + 1,
+        first: w,
+    }
 }
 
 // One level of brackets less.

@@ -3,3 +3,4 @@ pub mod Table
 pub mod OperandsAt
 pub mod Stages
 pub mod Operators
+pub mod ReadsBack

@@ -72,6 +72,7 @@ two t P o r e rest h = go (P r) refl h
         let w : q ≡ rest = cc in
         record { left = l; right = x; mid = mid; is = sym z; first = p; second = rw w at y }
     after l mid p (no c) y h = no-ok h
+
     go : (x : Got Expr) → P r ≡ x → bind (bind x (λ l mid. bind (bind (P mid) (λ x r2. ok (more x done) r2)) (λ es r2. ok (more l es) r2))) (λ es r3. ok (node (BinOp o) es) r3) ≡ ok e rest → Two P o r e rest
     go (ok l mid) p h = after l mid p (P mid) refl h
     go (no c) p h = no-ok h

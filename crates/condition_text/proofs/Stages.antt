@@ -33,11 +33,11 @@ then-wrote {t} {u} {old} {mid} {new} {k} {r} {q} a b =
     let y : drop r mid ≡ drop (k + length t) old = rw m (drop-at (take k old ++ t) (drop (k + length t) old) r e) in
     let i : k + length t + length u ≡ k + length (t ++ u) = omega (arith, length-append t u) in
     let z : drop (r + length u) mid ≡ drop (k + length (t ++ u)) old = sym (drop-drop (length u) r mid) ∙ (ap (drop (length u)) y ∙ (drop-drop (length u) (k + length t) old ∙ ap (λ (j : ℕ). drop j old) i)) in
-    record
-      { ends = omega (arith, a .ends, b .ends, length-append t u)
-      ; fits = omega (arith, b .fits, keeps a)
-      ; wrote = b .wrote ∙ (rw (x, z) (simp append-assoc))
-      }
+    record {
+      ends = omega (arith, a .ends, b .ends, length-append t u);
+      fits = omega (arith, b .fits, keeps a);
+      wrote = b .wrote ∙ (rw (x, z) (simp append-assoc));
+    }
 
 -- a piece written into the rest of the bytes
 pub from-rest : {t old after : List ℕ} {k q : ℕ} → Puts t (rest k old) after q → k + length t ≤ length old → Wrote t k old (back k old after) (k + q)

@@ -5,6 +5,7 @@ use mathlib.Core.Bool.{Bool, true, false}
 use mathlib.Core.List.{List, [], _∷_, _++_}
 use lib.ListN.{length, drop}
 
+-- the text before what is left of the page
 unfoldable pub over : List ℕ → List ℕ → List ℕ
 over text page = text ++ drop (length text) page
 

@@ -16,6 +16,7 @@ unaryOf at o [] = atom at
 unaryOf at o (x ∷ []) = unary o x
 unaryOf at o (x ∷ (y ∷ xs)) = atom at
 
+-- the same of a BinOp
 abbrev pub binaryOf : ℕ → ℕ → List Cond → Cond
 binaryOf at o [] = atom at
 binaryOf at o (x ∷ []) = atom at

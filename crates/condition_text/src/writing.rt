@@ -1,12 +1,12 @@
 // A condition printed over the sheet's words in place. It calls itself on each operand with its level, and the expression's length falls.
-use condition::binary_level;
-use condition::left_level;
-use condition::unary_level;
 use crate::operands::skip;
 use crate::pieces::put_atom;
 use crate::pieces::put_binary;
 use crate::pieces::put_byte;
 use crate::pieces::put_unary;
+use condition::binary_level;
+use condition::left_level;
+use condition::unary_level;
 use words::word;
 ghost use Prim.Native.Nat.{_+_, _≤_};
 ghost use lib.ListN.{length, drop};
@@ -54,7 +54,15 @@ fn atom_at(at: u32, out: &mut [u8], k: usize) -> usize
 }
 
 // The expression at `at` in a place whose bare operands have at least level m, from byte k of out on.
-pub fn print(s: &[u8], names: u32, at: usize, room: u32, m: usize, out: &mut [u8], k: usize) -> Printed
+pub fn print(
+    s: &[u8],
+    names: u32,
+    at: usize,
+    room: u32,
+    m: usize,
+    out: &mut [u8],
+    k: usize,
+) -> Printed
     requires { ⌜ Ready (reader (words (now s)) names 0 0 room (drop at (words (now s)))) (words (now s)) at k (length (now out)) ⌝ }
     ensures { λ r. ⌜ Put (reader (words (now (s .entry))) names 0 0 room (drop at (words (now (s .entry))))) writeE (printedAt m at) (words (now (s .entry))) at k (now (out .entry)) (now (out .exit)) (r .next) (r .end) ⌝ }
 {
@@ -67,7 +75,10 @@ pub fn print(s: &[u8], names: u32, at: usize, room: u32, m: usize, out: &mut [u8
         let b = binary_at(o, out, l.end);
         let r = print(s, names, l.next, room - 1, level + 1, out, b);
         let e = byte_at(level < m, 41, out, r.end);
-        return Printed { next: r.next, end: e };
+        return Printed {
+            next: r.next,
+            end: e,
+        };
     }
     if code == 16 {
         let o = word(s, at + 1) as usize;
@@ -76,7 +87,13 @@ pub fn print(s: &[u8], names: u32, at: usize, room: u32, m: usize, out: &mut [u8
         let b = unary_at(o, out, a);
         let x = print(s, names, at + 2, room - 1, level, out, b);
         let e = byte_at(level < m, 41, out, x.end);
-        return Printed { next: x.next, end: e };
+        return Printed {
+            next: x.next,
+            end: e,
+        };
     }
-    Printed { next: skip(s, names, at, room), end: atom_at(at as u32, out, k) }
+    Printed {
+        next: skip(s, names, at, room),
+        end: atom_at(at as u32, out, k),
+    }
 }

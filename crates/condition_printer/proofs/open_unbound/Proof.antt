@@ -2,7 +2,7 @@
 use native.Mathlib.Omega.{arith}
 use borrow.Author.Needs.{needs}
 use mathlib.Core.Path.{refl, sym, _∙_}
-use Rattle.heads.proofs.Chain.{fact}
+use Rattle.condition.proofs.Basics.{fact}
 use Rattle.sheet.proofs.Placing.{opened-at, opened-no}
 use Rattle.condition_printer.proofs.Unbound.{open-at, open-no, places-refused, gave-seven, loose-no, loose-at}
 use Rattle.condition_printer.proofs.open_unbound.Statement.{statement}

@@ -1,7 +1,7 @@
 -- The head's lines, and the arms' after them, each within its part of the sheet; 15 bytes a word are room enough (`Laid`).
 use native.Mathlib.Omega.{arith}
 use borrow.Author.Needs.{needs}
-use Rattle.heads.proofs.Chain.{fact}
+use Rattle.condition.proofs.Basics.{fact}
 use Rattle.condition_printer.proofs.Laid.{laid, head-ready, arms-ready, all-put}
 use Rattle.condition_printer.proofs.print_all.Statement.{statement}
 use Rattle.condition_printer.proofs.print_all.Tie as tie

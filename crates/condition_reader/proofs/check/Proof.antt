@@ -5,6 +5,7 @@ use borrow.Author.Needs.{needs}
 use mathlib.Core.Path.{_≡_, sym, _∙_}
 use Rattle.condition.specs.Tokens.{Tok}
 use Rattle.condition_reader.specs.Pass.{peak, toksOf}
+use Rattle.condition.proofs.Basics.{fact}
 use Rattle.condition_reader.proofs.Passes.{reject}
 use Rattle.condition_reader.proofs.Whole.{Passed, none-yet, next, deepest-is, all-passed}
 use Rattle.condition_reader.proofs.check.Statement.{statement}
@@ -15,10 +16,6 @@ Inv-loop text low₀ low = Passed text low
 
 abbrev μ-loop : tie.MeasureT-loop
 μ-loop text low₀ low = peak (toksOf text) 0 0 - low
-
--- a law with its type left to be told
-fact : {A : Type 0} {B : A → Type 0} → ((a : A) → B a) → (a : A) → B a
-fact f = f
 
 pub check-spec : {M : Type 1} → statement M
 check-spec =

@@ -3,13 +3,10 @@ use Prim.Native.Nat.{_*_, _≤_}
 use native.Mathlib.Omega.{arith}
 use borrow.Author.Needs.{needs}
 use mathlib.Core.Path.{refl}
+use Rattle.condition.proofs.Basics.{fact}
 use Rattle.condition_reader.proofs.Whole.{unread, fillable, filled}
 use Rattle.condition_reader.proofs.read_condition.Statement.{statement}
 use Rattle.condition_reader.proofs.read_condition.Tie as tie
-
--- a law with its type left to be told
-fact : {A : Type 0} {B : A → Type 0} → ((a : A) → B a) → (a : A) → B a
-fact f = f
 
 pub read-condition-spec : {M : Type 1} → statement M
 read-condition-spec =

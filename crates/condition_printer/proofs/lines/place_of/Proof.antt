@@ -4,7 +4,7 @@ use borrow.Author.Needs.{needs}
 use mathlib.Core.Path.{sym, _∙_}
 use Rattle.words.specs.Words.{words}
 use Rattle.words.proofs.Words.{length-words}
-use Rattle.heads.proofs.Chain.{fact}
+use Rattle.condition.proofs.Basics.{fact}
 use Rattle.condition_printer.proofs.Clauses.{where-stands, other-kind}
 use Rattle.condition_printer.proofs.lines.place_of.Statement.{statement}
 use Rattle.condition_printer.proofs.lines.place_of.Tie as tie

@@ -2,7 +2,7 @@
 use native.Mathlib.Omega.{arith}
 use borrow.Author.Needs.{needs}
 use Rattle.words.specs.Words.{words}
-use Rattle.heads.proofs.Chain.{fact}
+use Rattle.condition.proofs.Basics.{fact}
 use Rattle.condition_printer.proofs.ClauseLines.{arm-ready, arm-inside, arm-put}
 use Rattle.condition_printer.proofs.lines.print_arm.Statement.{statement}
 use Rattle.condition_printer.proofs.lines.print_arm.Tie as tie

@@ -2,7 +2,7 @@
 use native.Mathlib.Omega.{arith}
 use borrow.Author.Needs.{needs}
 use Rattle.words.specs.Words.{words}
-use Rattle.heads.proofs.Chain.{fact}
+use Rattle.condition.proofs.Basics.{fact}
 use Rattle.condition_printer.proofs.ClauseLines.{clause-never, line-none, line-ready, line-fits, line-put}
 use Rattle.condition_printer.proofs.lines.print_clause.Statement.{statement}
 use Rattle.condition_printer.proofs.lines.print_clause.Tie as tie

@@ -6,6 +6,7 @@ use mathlib.Core.Path.{_≡_}
 use native.Mathlib.Numerals.{add-one}
 use lib.ListN.{length}
 use Rattle.condition.specs.Tokens.{open', close', number, un, bin}
+use Rattle.condition.proofs.Basics.{fact}
 use Rattle.condition_reader.proofs.FillTurns.{Filling, Tells, begins, tells, turns, closes, never, done}
 use Rattle.condition_reader.proofs.filling.fill.Statement.{statement}
 use Rattle.condition_reader.proofs.filling.fill.Tie as tie
@@ -19,10 +20,6 @@ abbrev μ-loop : tie.MeasureT-loop
 -- ranks fit
 ranks : (a : tie.At-loop Inv-loop μ-loop) → (a .loop .w ≤ length (a .loop .list)) × (a .loop .depth * 10 + 10 < 18446744073709551616) × (a .loop .depth + a .loop .p ≤ length (a .before .before .before .args .text .now))
 ranks a = let i = a .loop .inv in (i .within, omega (arith, i .deep, a .before .before .before .pre .short), i .deep)
-
--- a law with its type left to be told
-fact : {A : Type 0} {B : A → Type 0} → ((a : A) → B a) → (a : A) → B a
-fact f = f
 
 pub fill-spec : {M : Type 1} → statement M
 fill-spec =

@@ -5,6 +5,7 @@ use borrow.Author.Needs.{needs}
 use borrow.Author.Tests.{not-true, not-false}
 use mathlib.Core.Path.{_≡_, refl, sym, _∙_}
 use lib.ListN.{length, length-replicate}
+use Rattle.condition.proofs.Basics.{fact}
 use Rattle.condition_reader.proofs.Turned.{first-zero}
 use Rattle.condition_reader.proofs.JudgeTurns.{Judging, begins, tells, open-mode, open-depth, open-turn, close-mode, close-turn, number-mode, number-turn, unary-mode, unary-turn, binary-mode, binary-chain, binary-turn, bad-token, end-mode, end-depth, end-reads}
 use Rattle.condition_reader.proofs.judging.judge.Statement.{statement}
@@ -15,10 +16,6 @@ Inv-loop text low flags₀ p₀ mode₀ depth₀ deepest₀ n₀ flags p mode de
 
 abbrev μ-loop : tie.MeasureT-loop
 μ-loop text low flags₀ p₀ mode₀ depth₀ deepest₀ n₀ flags p mode depth deepest n = p
-
--- a law with its type left to be told
-fact : {A : Type 0} {B : A → Type 0} → ((a : A) → B a) → (a : A) → B a
-fact f = f
 
 room : (a : tie.At-loop Inv-loop μ-loop) → (a .loop .depth + a .loop .p ≤ length (a .before .before .args .text .now)) × (a .loop .n + a .loop .p ≤ length (a .before .before .args .text .now))
 room a = a .loop .inv .room

@@ -1,7 +1,7 @@
 -- Each arm is the table's sign, from its last byte to its first.
 use native.Mathlib.Omega.{arith}
 use borrow.Author.Needs.{needs}
-use Rattle.condition_reader.proofs.Back.{none-below}
+use Rattle.condition.proofs.Basics.{none-below}
 use Rattle.condition_reader.proofs.lexer.sign_ends.Statement.{statement}
 use Rattle.condition_reader.proofs.lexer.sign_ends.Tie as tie
 

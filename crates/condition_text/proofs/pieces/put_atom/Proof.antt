@@ -5,13 +5,10 @@ use borrow.Author.Needs.{needs}
 use mathlib.Core.List.{[], _∷_}
 use lib.ListN.{length, length-set, length-take, length-drop}
 use Rattle.words.specs.Decimal.{decimal}
+use Rattle.condition.proofs.Basics.{fact}
 use Rattle.condition_text.proofs.Laying.{puts-none, then-byte, then-puts, has-room, puts-front, keeps-length}
 use Rattle.condition_text.proofs.pieces.put_atom.Statement.{statement}
 use Rattle.condition_text.proofs.pieces.put_atom.Tie as tie
-
--- a law with its type left to be told
-fact : {A : Type 0} {B : A → Type 0} → ((a : A) → B a) → (a : A) → B a
-fact f = f
 
 pub put-atom-spec : {M : Type 1} → statement M
 put-atom-spec =

@@ -10,7 +10,7 @@ use borrow.Fn.Kinds.{In}
 use borrow.Fn.PlainCycle.{Measures, is, falls, and}
 use Rattle.words.specs.Words.{words}
 use Rattle.heads.specs.Got.{isOk}
-use Rattle.heads.proofs.Chain.{fact}
+use Rattle.condition.proofs.Basics.{fact}
 use Rattle.expr.specs.Read.{reader}
 use Rattle.condition.specs.Cond.{binarySign, unarySign}
 use Rattle.condition.proofs.Levels.{binary-high}
