@@ -10,7 +10,7 @@ use Rattle.condition.specs.Machine.{Stack, empty, Work, work, unwind, depthAt, 
 use Rattle.condition.proofs.Lexing.{last-found, lex-found, lex-none}
 use Rattle.condition.proofs.Reading.{Clean, clean-tail}
 use Rattle.condition.proofs.Sound.{WellTok}
-use Rattle.condition_reader.proofs.Back.{back-one, back-none, length-back}
+use Rattle.condition_lexer.proofs.Back.{back-one, back-none, length-back}
 use Rattle.condition_reader.specs.Fill.{stackOf, workOf, Unwound, Turned, Fillable, Filled}
 
 pub record Filling (text : List ℕ) (n : ℕ) (old list : List ℕ) (p depth s w : ℕ) : Type 0 where

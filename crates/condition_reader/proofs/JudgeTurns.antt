@@ -16,7 +16,7 @@ use Rattle.condition.specs.declared.Mode.{Mode}
 use Rattle.condition.specs.declared.Mode.the-variants as mode
 use Rattle.condition.proofs.Lexing.{last-found, lex-found, lex-none}
 use Rattle.condition.proofs.Sound.{WellTok}
-use Rattle.condition_reader.proofs.Back.{back-one, back-none, length-back}
+use Rattle.condition_lexer.proofs.Back.{back-one, back-none, length-back}
 use Rattle.condition_reader.specs.Bits.{bitAt, putBit}
 use Rattle.condition_reader.proofs.Turned.{put-same, put-other, length-put}
 use Rattle.condition_reader.specs.Pass.{window, markOf, afterOf, judgeIn, peak, toksOf}

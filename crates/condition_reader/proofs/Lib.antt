@@ -1,6 +1,3 @@
-pub mod Back
-pub mod Signs
-pub mod Numbers
 pub mod Turned
 pub mod Window
 pub mod Passes

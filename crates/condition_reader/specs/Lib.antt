@@ -1,4 +1,3 @@
-pub mod Seen
 pub mod Bits
 pub mod Pass
 pub mod Fill

@@ -1,9 +1,9 @@
 // The entries of a text that reads, from the last to the first. Operators that wait for their left operand stand at the front of the list,
 // each as its rank and its number: a rank is ten for each level of brackets, and the operator's level + 1.
-use crate::lexer::Token;
-use crate::lexer::token_before;
 use condition::binary_level;
 use condition::unary_level;
+use condition_lexer::Token;
+use condition_lexer::token_before;
 ghost use mathlib.Core.Path.{_≡_};
 ghost use Prim.Native.Nat.{pred, _+_, _*_, _<_, _≤_};
 ghost use lib.ListN.{length, set};

@@ -1,14 +1,14 @@
 // Whether a text reads, without a stack: operands and operators alternate, brackets match, NOT stands where its level may, and no two
 // comparisons stand in one row of brackets without OR, XOR or AND between them. The last is kept by level of brackets, for a window of
 // levels in one pass.
-use crate::lexer::Token;
-use crate::lexer::token_before;
 use condition::Mode;
 use condition::binary_level;
 use condition::is_there;
 use condition::is_wanted;
 use condition::may_join;
 use condition::unary_mode;
+use condition_lexer::Token;
+use condition_lexer::token_before;
 ghost use mathlib.Core.Path.{_≡_};
 ghost use mathlib.Core.Bool.{_&&_, cond};
 ghost use Prim.Native.Nat.{max, _-_, _≤_, _<_};

@@ -4,7 +4,6 @@
 // order are written from the last to the first.
 mod filling;
 mod judging;
-mod lexer;
 
 use filling::fill;
 use judging::Verdict;

@@ -5,9 +5,9 @@ use native.Mathlib.Numerals.{add-one}
 use mathlib.Core.Path.{_≡_, refl, sym, _∙_}
 use lib.ListN.{length, drop, getD}
 use Rattle.condition.specs.Tokens.{back, strip}
-use Rattle.condition_reader.proofs.Back.{strip-none, strip-same, strip-other, strip-done}
-use Rattle.condition_reader.proofs.lexer.ends.Statement.{statement}
-use Rattle.condition_reader.proofs.lexer.ends.Tie as tie
+use Rattle.condition_lexer.proofs.Back.{strip-none, strip-same, strip-other, strip-done}
+use Rattle.condition_lexer.proofs.ends.Statement.{statement}
+use Rattle.condition_lexer.proofs.ends.Tie as tie
 
 abbrev Inv-loop : tie.InvT-loop
 Inv-loop text p sign q₀ i₀ q i = (q ≤ p) × (i ≤ length sign) × (strip sign (back text p) ≡ strip (drop i sign) (back text q))

@@ -6,7 +6,7 @@ ghost use Prim.Native.Nat.{_<_, _≤_};
 ghost use lib.ListN.{length};
 ghost use Rattle.condition.specs.Cond.{binarySign, unarySign};
 ghost use Rattle.condition.specs.Tokens.{back, strip, isDigit, isEnd, afterOperand, firstSign, minus, signLast, numberEnd, numberLast, last};
-ghost use Rattle.condition_reader.specs.Seen.{beforeOf, lastOf};
+ghost use Rattle.condition_lexer.specs.Seen.{beforeOf, lastOf};
 
 // A token and where it begins.
 pub enum Token {

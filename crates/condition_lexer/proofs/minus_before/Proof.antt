@@ -5,10 +5,10 @@ use borrow.Author.Needs.{needs}
 use mathlib.Core.Path.{sym, _∙_}
 use mathlib.Core.List.{reverse}
 use Rattle.condition.specs.Cond.{unarySign}
-use Rattle.condition_reader.proofs.Back.{strip-le}
-use Rattle.condition_reader.proofs.Signs.{minus-none, minus-after, minus-unary}
-use Rattle.condition_reader.proofs.lexer.minus_before.Statement.{statement}
-use Rattle.condition_reader.proofs.lexer.minus_before.Tie as tie
+use Rattle.condition_lexer.proofs.Back.{strip-le}
+use Rattle.condition_lexer.proofs.Signs.{minus-none, minus-after, minus-unary}
+use Rattle.condition_lexer.proofs.minus_before.Statement.{statement}
+use Rattle.condition_lexer.proofs.minus_before.Tie as tie
 
 pub minus-before-spec : {M : Type 1} → statement M
 minus-before-spec =

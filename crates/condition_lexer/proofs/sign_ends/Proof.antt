@@ -2,8 +2,8 @@
 use native.Mathlib.Omega.{arith}
 use borrow.Author.Needs.{needs}
 use Rattle.condition.proofs.Basics.{none-below}
-use Rattle.condition_reader.proofs.lexer.sign_ends.Statement.{statement}
-use Rattle.condition_reader.proofs.lexer.sign_ends.Tie as tie
+use Rattle.condition_lexer.proofs.sign_ends.Statement.{statement}
+use Rattle.condition_lexer.proofs.sign_ends.Tie as tie
 
 pub sign-ends-spec : {M : Type 1} → statement M
 sign-ends-spec =

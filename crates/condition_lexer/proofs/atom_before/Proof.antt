@@ -7,9 +7,9 @@ use mathlib.Core.Path.{_≡_, refl, sym, _∙_}
 use Rattle.condition.specs.Tokens.{back, isDigit, numberLast}
 use mathlib.Core.Bool.{true}
 use lib.ListN.{getD}
-use Rattle.condition_reader.proofs.Numbers.{scaleOf, scale-low, scale-next, digit-range, digit-product, number-none, number-stop, number-digit, number-done}
-use Rattle.condition_reader.proofs.lexer.atom_before.Statement.{statement}
-use Rattle.condition_reader.proofs.lexer.atom_before.Tie as tie
+use Rattle.condition_lexer.proofs.Numbers.{scaleOf, scale-low, scale-next, digit-range, digit-product, number-none, number-stop, number-digit, number-done}
+use Rattle.condition_lexer.proofs.atom_before.Statement.{statement}
+use Rattle.condition_lexer.proofs.atom_before.Tie as tie
 
 abbrev Inv-loop : tie.InvT-loop
 Inv-loop text p v₀ scale₀ k₀ q₀ v scale k q =

@@ -2,9 +2,9 @@
 use native.Mathlib.Omega.{arith}
 use borrow.Author.Needs.{needs}
 use mathlib.Core.Path.{_∙_}
-use Rattle.condition_reader.proofs.Signs.{last-open, last-close, last-sign, last-number}
-use Rattle.condition_reader.proofs.lexer.token_before.Statement.{statement}
-use Rattle.condition_reader.proofs.lexer.token_before.Tie as tie
+use Rattle.condition_lexer.proofs.Signs.{last-open, last-close, last-sign, last-number}
+use Rattle.condition_lexer.proofs.token_before.Statement.{statement}
+use Rattle.condition_lexer.proofs.token_before.Tie as tie
 
 pub token-before-spec : {M : Type 1} → statement M
 token-before-spec =

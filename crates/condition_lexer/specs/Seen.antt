@@ -3,10 +3,10 @@ use Prim.Native.Nat.{ℕ}
 use mathlib.Core.List.{List}
 use mathlib.Core.Option.{Option, none, some}
 use Rattle.condition.specs.Tokens.{Last, found, nothing, open', close', number, un, bin, back}
-use Rattle.condition_reader.specs.declared.lexer.Before.{Before}
-use Rattle.condition_reader.specs.declared.lexer.Before.the-variants as before
-use Rattle.condition_reader.specs.declared.lexer.Token.{Token}
-use Rattle.condition_reader.specs.declared.lexer.Token.the-variants as token
+use Rattle.condition_lexer.specs.declared.Before.{Before}
+use Rattle.condition_lexer.specs.declared.Before.the-variants as before
+use Rattle.condition_lexer.specs.declared.Token.{Token}
+use Rattle.condition_lexer.specs.declared.Token.the-variants as token
 
 abbrev pub beforeOf : List ℕ → Before → Option (List ℕ)
 beforeOf s (before.At q) = some (back s q)

@@ -10,7 +10,7 @@ use lib.ListN.{getD}
 use borrow.Author.Tests.{eq-eqb, ne-eqb}
 use Rattle.condition.specs.Cond.{binarySign, unarySign}
 use Rattle.condition.specs.Tokens.{Last, found, nothing, open', close', un, bin, back, strip, orElse, firstSign, minus, afterOperand, signLast, numberLast, last}
-use Rattle.condition_reader.proofs.Back.{back-one}
+use Rattle.condition_lexer.proofs.Back.{back-one}
 
 module _ (r : List ℕ) (o : ℕ) where
   one-more : o < 20 → 20 - o ≡ suc (20 - (o + 1))

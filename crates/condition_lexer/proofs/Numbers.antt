@@ -11,7 +11,7 @@ use lib.ListN.{getD}
 use borrow.Author.Tests.{eqb-true, leb-true}
 use Rattle.condition.specs.Tokens.{Last, nothing, back, isDigit, numberEnd, numberLast}
 use Rattle.condition.proofs.Tables.{both, all-below}
-use Rattle.condition_reader.proofs.Back.{back-one, back-none}
+use Rattle.condition_lexer.proofs.Back.{back-one, back-none}
 
 -- what a digit counts
 abbrev pub scaleOf : ℕ → ℕ

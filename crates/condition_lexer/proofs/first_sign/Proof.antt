@@ -4,9 +4,9 @@ use native.Mathlib.Omega.{arith}
 use borrow.Author.Needs.{needs}
 use mathlib.Core.Path.{_≡_, refl, _∙_}
 use Rattle.condition.specs.Tokens.{back, firstSign}
-use Rattle.condition_reader.proofs.Signs.{first-found, first-next, first-none}
-use Rattle.condition_reader.proofs.lexer.first_sign.Statement.{statement}
-use Rattle.condition_reader.proofs.lexer.first_sign.Tie as tie
+use Rattle.condition_lexer.proofs.Signs.{first-found, first-next, first-none}
+use Rattle.condition_lexer.proofs.first_sign.Statement.{statement}
+use Rattle.condition_lexer.proofs.first_sign.Tie as tie
 
 abbrev Inv-loop : tie.InvT-loop
 Inv-loop text p o₀ o = (o ≤ 20) × (firstSign 20 0 (back text p) ≡ firstSign (20 - o) o (back text p))

@@ -2,9 +2,9 @@
 use native.Mathlib.Omega.{arith}
 use borrow.Author.Needs.{needs}
 use mathlib.Core.Path.{sym}
-use Rattle.condition_reader.proofs.Back.{after-none, after-two}
-use Rattle.condition_reader.proofs.lexer.after_operand.Statement.{statement}
-use Rattle.condition_reader.proofs.lexer.after_operand.Tie as tie
+use Rattle.condition_lexer.proofs.Back.{after-none, after-two}
+use Rattle.condition_lexer.proofs.after_operand.Statement.{statement}
+use Rattle.condition_lexer.proofs.after_operand.Tie as tie
 
 pub after-operand-spec : {M : Type 1} → statement M
 after-operand-spec =

@@ -1,9 +1,9 @@
 -- NOT, or another.
 use borrow.Author.Needs.{needs}
 use mathlib.Core.Path.{_∙_}
-use Rattle.condition_reader.proofs.Signs.{sign-not, sign-other}
-use Rattle.condition_reader.proofs.lexer.sign_before.Statement.{statement}
-use Rattle.condition_reader.proofs.lexer.sign_before.Tie as tie
+use Rattle.condition_lexer.proofs.Signs.{sign-not, sign-other}
+use Rattle.condition_lexer.proofs.sign_before.Statement.{statement}
+use Rattle.condition_lexer.proofs.sign_before.Tie as tie
 
 pub sign-before-spec : {M : Type 1} → statement M
 sign-before-spec =

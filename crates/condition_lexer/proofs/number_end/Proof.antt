@@ -2,9 +2,9 @@
 use native.Mathlib.Omega.{arith}
 use borrow.Author.Needs.{needs}
 use mathlib.Core.Path.{sym, _∙_}
-use Rattle.condition_reader.proofs.Back.{end-none, end-letter, end-width, end-high, end-found}
-use Rattle.condition_reader.proofs.lexer.number_end.Statement.{statement}
-use Rattle.condition_reader.proofs.lexer.number_end.Tie as tie
+use Rattle.condition_lexer.proofs.Back.{end-none, end-letter, end-width, end-high, end-found}
+use Rattle.condition_lexer.proofs.number_end.Statement.{statement}
+use Rattle.condition_lexer.proofs.number_end.Tie as tie
 
 pub number-end-spec : {M : Type 1} → statement M
 number-end-spec =
