@@ -35,7 +35,8 @@ form-word (PatternComprehension a b g) = omega arith
 form-word (ListPredicate g) = omega arith
 form-word (MapProjection n) = omega arith
 
-a-word : (e : Expr) → 1 ≤ length (writeE e)
+-- every expression has a word
+pub a-word : (e : Expr) → 1 ≤ length (writeE e)
 unfolding writeE formWords
 a-word (var v) = omega arith
 a-word (unresolved x) = omega arith

@@ -97,8 +97,8 @@ fn check_arms(s: &[u8], p: Places, k: usize) -> Verdict
     )
 }
 
-// The head, then the arms.
-fn check_both(s: &[u8], p: Places, k: usize) -> Verdict
+// The head, then the arms. Binders are sought among the k - 1 bindings, or not at all where k is 0.
+pub fn check_both(s: &[u8], p: Places, k: usize) -> Verdict
     requires { ⌜ InPlaces (now s) p ⌝ }
     ensures { λ r. ⌜ r ≡ verdict (sectionsOf (now (s .entry)) p k) ⌝ }
 {

@@ -1,0 +1,9 @@
+pub mod Turned
+pub mod Window
+pub mod Passes
+pub mod JudgeTurns
+pub mod Stacked
+pub mod Unwinding
+pub mod Turning
+pub mod FillTurns
+pub mod Whole

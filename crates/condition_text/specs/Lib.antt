@@ -1,0 +1,4 @@
+pub mod Over
+pub mod Tree
+pub mod Skip
+pub mod Write
