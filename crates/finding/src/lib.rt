@@ -44,12 +44,6 @@ pub fn get(list: &[Finding], at: usize) -> Finding
     list[at]
 }
 
-pub fn len(list: &[Finding]) -> usize
-    ensures { λ r. ⌜ r ≡ length (now (list .entry)) ⌝ }
-{
-    list.len()
-}
-
 // The first `count` entries become the flat list's records, and the rest is left as it was.
 pub fn store_all(list: &mut [Finding], flat: &[u32], count: usize)
     requires { ⌜ (count ≤ length (now list)) × (count * 6 ≤ length (now flat)) ⌝ }
@@ -57,7 +51,7 @@ pub fn store_all(list: &mut [Finding], flat: &[u32], count: usize)
 {
     let mut i = 0;
     while i < count {
-        list[i] = record_at(flat, i);
+        put(list, i, record_at(flat, i));
         i += 1;
     }
 }
