@@ -2,7 +2,7 @@
 -- The five `&mut` parameters are given on for good, so at exit the walk has only what says their last lists (`gave-slice`). All that it knows of the two callees is that they meet their contracts.
 use mathlib.Core.Path.{_≡_, refl, sym, ap, subst, _∙_}
 use Prim.Native.Nat.{ℕ, _*_, _<_, _≤_, _^_, zero-le}
-use native.Mathlib.Nat.{lt-of-le-of-lt, le-refl}
+use native.Mathlib.Nat.{lt-of-le-of-lt, le-refl, sub-zero}
 use native.Mathlib.Omega.{arith}
 use mathlib.Core.Bool.{Bool, true}
 use mathlib.Core.List.{[], _∷_, _++_, List}
@@ -59,7 +59,7 @@ use Rattle.checker.specs.declared.Checked.{Checked}
 use Rattle.checker.proofs.Checked as C
 use Rattle.checker.proofs.Checked.Laws as C′
 use Rattle.records.specs.Checked.{Lent, answerFor, leftFor}
-use Rattle.records.proofs.LocalArray.{rep-typed, Elems, made, freed, lend-shr}
+use Rattle.records.proofs.LocalArray.{big-lit, rep-typed, Elems, made, freed, lend-shr}
 use Rattle.records.proofs.check as check
 use Rattle.records.proofs.check.Symbol as check-def
 use Rattle.records.proofs.check.Symbol.{name as #records·check}
@@ -250,7 +250,7 @@ module _ {M : Type 1} (𝓤 : URA M) (H : Heap 𝓤) (A : Atoms 𝓤) (W : Given
         assigns ! (agg ! (and-then ! (load ! (from ! (stop !)) (look ! 22 refl)) (and-then ! (load ! (from ! (fld ! refl (stop !))) (look-in ! 42 (sub ! 1 refl (whole !)))) (no-more !)))) (from ! (stop !)) (init ! 20 refl (tt, (tt, (record { fits = room₄ .0 }, tt)))) $
         assigns ! (addr ! (from ! (stop !))) (from ! (stop !)) (init ! 18 refl (tt, tt)) $
         assigns ! (bin ! (load ! (from ! (stop !)) (look ! 18 refl)) (lit ! tt) tt) (from ! (stop !)) (init ! 16 refl (tt, tt)) $
-        assigns ! (bin ! (load ! (from ! (stop !)) (look ! 52 refl)) (lit ! tt) zero-le) (from ! (stop !)) (init ! 14 refl (tt, record { fits = gn })) $
+        assigns ! (bin ! (load ! (from ! (stop !)) (look ! 52 refl)) (lit ! tt) zero-le) (from ! (stop !)) (init ! 14 refl (tt, record { fits = subst (λ (m : ℕ). m < 2 ^ 64) (sym (sub-zero n)) gn })) $ rewrite ! 14 (λ (m : ℕ). ‵ (fat fullShare (tyInt w64) l₂₁ 0 (vint w64 m))) (sub-zero n) refl $
         assigns ! (addr ! (from ! (hop ! (look ! 16 refl) (stop !)))) (from ! (stop !)) (init ! 12 refl (tt, tt)) $
         assigns ! (agg ! (and-then ! (load ! (from ! (stop !)) (look ! 12 refl)) (and-then ! (load ! (from ! (stop !)) (look ! 14 refl)) (no-more !)))) (from ! (stop !)) (init ! 10 refl (tt, (tt, (record { fits = gn }, tt)))) $
         rewrite ! 10 (λ (m : ℕ). ‵ (fat fullShare (sliceTy (tyRef erased mut (pointee (T.the-row .written)))) l₂₃ 0 (sliceVal (l₉, 0) m))) (sym part-long) refl $
@@ -283,14 +283,14 @@ module _ {M : Type 1} (𝓤 : URA M) (H : Heap 𝓤) (A : Atoms 𝓤) (W : Given
         assigns ! (addr ! (from ! (fld ! refl (hop ! (look-in ! 52 (sub ! 0 refl (whole !))) (stop !))))) (from ! (stop !)) (init ! 19 refl (tt, tt)) $
         assigns ! (agg ! (and-then ! (load ! (from ! (stop !)) (look ! 19 refl)) (and-then ! (load ! (from ! (fld ! refl (stop !))) (look-in ! 52 (sub ! 1 refl (whole !)))) (no-more !)))) (from ! (stop !)) (init ! 17 refl (tt, (tt, (record { fits = room₅ .0 }, tt)))) $
         assigns ! (addr ! (from ! (stop !))) (from ! (stop !)) (init ! 15 refl (tt, tt)) $
-        assigns ! (agg ! (and-then ! (load ! (from ! (stop !)) (look ! 15 refl)) (and-then ! (lit ! tt) (no-more !)))) (from ! (stop !)) (init ! 13 refl (tt, (tt, (record { fits = lit< tt }, tt)))) $
+        assigns ! (agg ! (and-then ! (load ! (from ! (stop !)) (look ! 15 refl)) (and-then ! (big-lit ! (record { fits = lit< tt })) (no-more !)))) (from ! (stop !)) (init ! 13 refl (tt, (tt, (record { fits = lit< tt }, tt)))) $
         rewrite ! 13 (λ (m : ℕ). ‵ (fat fullShare (sliceTy (tyRef erased imm (pointee (T.the-row .written)))) l₂₈ 0 (sliceVal (l₉, 0) m))) (sym (whole-long (ws .1 .1 .1 .1 .1 .1 .0) lfd)) refl $
         -- the array is lent again, shared, and flat is given on
         lft-new ! tt (λ ν′. move ! (1 ∷ []) $
         use1 W (later (some (λ (δ′ : GName). ‵ (ListShr l₉ ν′ δ′ (whole-list (ws .1 .1 .1 .1 .1 .1 .0))) ⊛ ‵ (flent (ν′ ∷ []) (Elems 𝓤 H A W T.the-row tt l₉ (whole-list (ws .1 .1 .1 .1 .1 .1 .0))))))) (lend-shr 𝓤 H A W T.the-row tt l₉ (named 1) (ν′ ∷ []) (whole-list (ws .1 .1 .1 .1 .1 .1 .0)) (subst (Room T.the-row) (sym (whole-long (ws .1 .1 .1 .1 .1 .1 .0) lfd)) (some-room N (le-refl N)))) $ await ! tt $ pick ! (λ δ′. split ! $
         move ! (13 ∷ 2 ∷ 14 ∷ 0 ∷ []) $
         group ! 4 $ use1 W (raw (LoadC 𝓤 H A mem run .pre (to-load l₉ ν′ δ′ (whole-list (ws .1 .1 .1 .1 .1 .1 .0))))) (goes-load l₉ ν′ δ′ (whole-list (ws .1 .1 .1 .1 .1 .1 .0)) (whole-long (ws .1 .1 .1 .1 .1 .1 .0) lfd)) $
-        calls-at ! fm (LoadC 𝓤 H A mem run) known-load (to-load l₉ ν′ δ′ (whole-list (ws .1 .1 .1 .1 .1 .1 .0))) (and-then ! (load ! (from ! (stop !)) (look ! 16 refl)) (and-then ! (load ! (from ! (stop !)) (look ! 12 refl)) (and-then ! (lit ! tt) (no-more !)))) (λ v₂.
+        calls-at ! fm (LoadC 𝓤 H A mem run) known-load (to-load l₉ ν′ δ′ (whole-list (ws .1 .1 .1 .1 .1 .1 .0))) (and-then ! (load ! (from ! (stop !)) (look ! 16 refl)) (and-then ! (load ! (from ! (stop !)) (look ! 12 refl)) (and-then ! (big-lit ! (record { fits = lit< tt })) (no-more !)))) (λ v₂.
         use1 W (later (some (λ (u : Unit {0}). ((‵ (flft κ₅ q₅) ⊛ (‵ (flft (ν′ ∷ []) fullShare) ⊛ ‵ ftrue)) ⊛ ‵ (unit .own u (v₂ ∷ []))) ⊛ raw (ensured 𝓤 H A load-all.ended (load-all.clauses 𝓤 H A mem run) (κ₅, (ν′ ∷ [], tt)) (load-args l₉ δ′ (whole-list (ws .1 .1 .1 .1 .1 .1 .0))) tt u)))) (id⊢ 𝓤 _) $ await ! tt $ pick ! (λ u. split ! $
         move ! (1 ∷ []) $
         use1 W (some (λ (zs : Lasts load-all.ended (κ₅, (ν′ ∷ [], tt)) (load-args l₉ δ′ (whole-list (ws .1 .1 .1 .1 .1 .1 .0)))). ‵ (lasts load-all.ended (κ₅, (ν′ ∷ [], tt)) (load-args l₉ δ′ (whole-list (ws .1 .1 .1 .1 .1 .1 .0))) zs) ⊛ raw (fact 𝓤 (zs .0 ≡ outOf (fl .now) (whole-list (ws .1 .1 .1 .1 .1 .1 .0)) N)))) (id⊢ 𝓤 _) $ pick ! (λ zs. split ! $
