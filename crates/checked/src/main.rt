@@ -45,7 +45,6 @@ fn run(
     c
 }
 
-// Whether the entry at place i is the marker.
 fn is_marker(flat: &[u32], i: usize) -> bool {
     if flat.len() / 6 <= i {
         return false;
@@ -59,13 +58,21 @@ fn is_marker(flat: &[u32], i: usize) -> bool {
         && flat[k + 5] == 7
 }
 
+// 1 if the entry at place i is the marker, else 0.
+fn marker_at(flat: &[u32], i: usize) -> usize
+    ensures { λ r. ⌜ r ≤ 1 ⌝ }
+{
+    if is_marker(flat, i) {
+        return 1;
+    }
+    0
+}
+
 // How many of the entries from a place on are the marker.
 fn markers(flat: &[u32], from: usize) -> usize {
     let mut n = 0;
     for i in from..2048 {
-        if is_marker(flat, i) {
-            n += 1;
-        }
+        n += marker_at(flat, i);
     }
     n
 }

@@ -17,7 +17,7 @@ markers-spec =
     Inv-loop
     μ-loop
     (λ c. omega arith)  -- loop-holds
-    (λ c κs. tt)  -- is-marker-requires
+    (λ c κs. tt)  -- marker-at-requires
     (λ c. omega arith)  -- add-n
     (λ c. omega arith)  -- add-i
     (λ c. omega arith)  -- loop-less
