@@ -9,15 +9,14 @@ use libc::STDIN_FILENO;
 use libc::STDOUT_FILENO;
 use records::check;
 use show::show_records;
-ghost use mathlib.Core.Path.{_≡_};
-ghost use mathlib.Core.Bool.{true};
 ghost use Prim.Native.Nat.{_≤_};
 ghost use lib.ListN.{length};
-ghost use Rattle.finding.specs.Records.{outOf};
-ghost use Rattle.records.specs.Checked.{answerFor};
-ghost use Rattle.checked.specs.Ran.{lent, after};
+ghost use Rattle.checked.specs.Ran.{lent, Ran};
 
-// The check call with the first n records of a list of 2,048 times the marker f, and the whole list after it, as flat words.
+// A word of the marker record, which is no finding's code.
+const MARK: u32 = 7;
+
+// The check call with the first n entries of a list of 2,048 records f; then all 2,048 of them, as flat words.
 fn run(
     s: &[u8],
     n: usize,
@@ -29,7 +28,7 @@ fn run(
     flat: &mut [u32],
 ) -> Checked
     requires { ⌜ (n ≤ 2048) × (12288 ≤ length (now flat)) ⌝ }
-    ensures { λ r. ⌜ (r ≡ answerFor true (now (s .entry)) (lent (now (scopes .entry)) (now (bindings .entry)) (now (carried .entry)) (now (recorded .entry)) n f)) × (now (flat .exit) ≡ outOf (now (flat .entry)) (after (now (s .entry)) (lent (now (scopes .entry)) (now (bindings .entry)) (now (carried .entry)) (now (recorded .entry)) n f) n f) 2048) ⌝ }
+    ensures { λ r. ⌜ Ran (now (s .entry)) (lent (now (scopes .entry)) (now (bindings .entry)) (now (carried .entry)) (now (recorded .entry)) n f) n f r (now (flat .entry)) (now (flat .exit)) ⌝ }
 {
     let mut list = [f; 2048];
     let c = check(
@@ -45,17 +44,18 @@ fn run(
     c
 }
 
+// Whether the entry at place i is the marker.
 fn is_marker(flat: &[u32], i: usize) -> bool {
     if flat.len() / 6 <= i {
         return false;
     }
     let k = i * 6;
-    flat[k] == 7
-        && flat[k + 1] == 7
-        && flat[k + 2] == 7
-        && flat[k + 3] == 7
-        && flat[k + 4] == 7
-        && flat[k + 5] == 7
+    flat[k] == MARK
+        && flat[k + 1] == MARK
+        && flat[k + 2] == MARK
+        && flat[k + 3] == MARK
+        && flat[k + 4] == MARK
+        && flat[k + 5] == MARK
 }
 
 // 1 if the entry at place i is the marker, else 0.
@@ -93,12 +93,12 @@ fn report(s: &[u8], n: usize)
     let mut recorded = [0u32; 10240];
     let mut flat = [0u32; 12288];
     let marker = Finding {
-        code: 7,
-        start: 7,
-        end: 7,
-        name: 7,
-        one: 7,
-        two: 7,
+        code: MARK,
+        start: MARK,
+        end: MARK,
+        name: MARK,
+        one: MARK,
+        two: MARK,
     };
     let c = run(
         s,

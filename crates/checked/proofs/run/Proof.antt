@@ -64,7 +64,7 @@ use Rattle.records.proofs.check as check
 use Rattle.records.proofs.check.Symbol as check-def
 use Rattle.records.proofs.check.Symbol.{name as #records·check}
 use Rattle.records.proofs.check.Met as check-thm
-use Rattle.checked.specs.Ran.{marks, lent, after}
+use Rattle.checked.specs.Ran.{marks, lent, after, Ran}
 use Rattle.checked.proofs.Part.{Kept, lend-part, back-part}
 use Rattle.checked.proofs.run.Key.{name as #checked·run}
 use Rattle.checked.proofs.run as ran
@@ -208,7 +208,7 @@ module _ {M : Type 1} (𝓤 : URA M) (H : Heap 𝓤) (A : Atoms 𝓤) (W : Given
 
   -- ---- the end
   abbrev Says : Checked → List ℕ → Type 0
-  Says r zs = (r ≡ answerFor true (sh .now) lists) × (zs ≡ outOf (fl .now) (after (sh .now) lists n f) N)
+  Says r zs = Ran (sh .now) lists n f r (fl .now) zs
 
   finished : (r : Checked) (ss bs cs rs : List ℕ) (fs : List Finding) (zs : List ℕ) → Did r ss bs cs rs fs → zs ≡ outOf (fl .now) (whole-list fs) N → Says r zs
   unfolding after
