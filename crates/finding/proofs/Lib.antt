@@ -1,1 +1,3 @@
 pub mod Storing
+pub mod Again
+pub mod Turns

@@ -1,21 +1,26 @@
--- Laws of the records that `into` stores: the list keeps its length, and where the flat list begins with a list of findings, it begins with their records.
+-- Laws of the records that `into` stores: the list keeps its length (so does the flat list that `outOf` writes), and where the flat list begins with a list of findings, it begins with their records.
 use mathlib.Core.Path.{_≡_, refl, sym, ap, _∙_}
 use Prim.Native.Nat.{ℕ, zero, suc, _+_, _*_, _<_, _≤_}
 use native.Mathlib.Nat.{not-suc-le-zero, le-of-suc-le-suc, le-of-lt, le-refl}
 use native.Mathlib.Omega.{arith}
 use mathlib.Core.List.{List, [], _∷_, _++_, map, flatMap}
 use lib.ListN.{length, getD, set, take, drop, length-set, length-map}
-use lib.Seq.{length-take-le, take-length, take-suc, drop-cons, append-snoc, set-at}
+use lib.Seq.{length-take-le, take-length, take-suc, drop-cons, append-snoc, set-at, length-sets}
 use Rattle.resolve.specs.Log.{finding}
 use Rattle.resolve.specs.Log as log
 use Rattle.kinds.specs.Walk.{findingWords}
 use Rattle.finding.specs.declared.Finding.{Finding}
-use Rattle.finding.specs.Records.{nothing, nth, recordOf, recordAt, into, withRecords}
+use Rattle.finding.specs.Records.{nothing, nth, recordOf, recordAt, into, wordsOf, outOf, withRecords}
 
 pub length-into : (fs : List Finding) (flat : List ℕ) (n : ℕ) → length (into fs flat n) ≡ length fs
 unfolding into
 length-into fs flat zero = refl
 length-into fs flat (suc n) = length-set (into fs flat n) n (recordAt flat n) ∙ length-into fs flat n
+
+pub length-out : (flat : List ℕ) (fs : List Finding) (n : ℕ) → length (outOf flat fs n) ≡ length flat
+unfolding outOf
+length-out flat fs zero = refl
+length-out flat fs (suc n) = length-sets (outOf flat fs n) (n * 6) (wordsOf (nth fs n)) ∙ length-out flat fs n
 
 -- the record after six words is the record of what follows them
 module _ (a b c d e f : ℕ) (l : List ℕ) where

@@ -2,6 +2,7 @@
 use Prim.Native.Nat.{ℕ, zero, suc, _+_, _*_}
 use mathlib.Core.List.{List, [], _∷_, _++_, map}
 use lib.ListN.{length, getD, set, drop}
+use lib.Seq.{sets}
 use Rattle.resolve.specs.Log.{finding}
 use Rattle.resolve.specs.Log as log
 use Rattle.finding.specs.declared.Finding.{Finding}
@@ -32,6 +33,15 @@ recordAt flat i = record {
 unfoldable pub into : List Finding → List ℕ → ℕ → List Finding
 into fs flat zero = fs
 into fs flat (suc n) = set (into fs flat n) n (recordAt flat n)
+
+-- a record's six words
+abbrev pub wordsOf : Finding → List ℕ
+wordsOf f = f .code ∷ f .start ∷ f .end ∷ f .name ∷ f .one ∷ f .two ∷ []
+
+-- a flat list with its first n records the first n of fs
+unfoldable pub outOf : List ℕ → List Finding → ℕ → List ℕ
+outOf flat fs zero = flat
+outOf flat fs (suc n) = sets (outOf flat fs n) (n * 6) (wordsOf (nth fs n))
 
 -- the records of findings at the front of a list, "entries past a count are untouched"
 unfoldable pub withRecords : List Finding → List log.Finding → List Finding

@@ -2,7 +2,8 @@
 ghost use mathlib.Core.Path.{_≡_};
 ghost use Prim.Native.Nat.{_+_, _*_, _<_, _≤_};
 ghost use lib.ListN.{length, set};
-ghost use Rattle.finding.specs.Records.{nth, recordAt, into};
+ghost use lib.Seq.{sets};
+ghost use Rattle.finding.specs.Records.{nth, recordAt, wordsOf, into, outOf};
 
 // Code, span, name + 1 or 0, two details.
 pub struct Finding {
@@ -30,6 +31,20 @@ pub fn record_at(flat: &[u32], i: usize) -> Finding
     }
 }
 
+// A record's six words, stored at place i of a flat list.
+pub fn words_at(flat: &mut [u32], i: usize, f: Finding)
+    requires { ⌜ i * 6 + 6 ≤ length (now flat) ⌝ }
+    ensures { λ _. ⌜ now (flat .exit) ≡ sets (now (flat .entry)) (i * 6) (wordsOf f) ⌝ }
+{
+    let at = i * 6;
+    flat[at] = f.code;
+    flat[at + 1] = f.start;
+    flat[at + 2] = f.end;
+    flat[at + 3] = f.name;
+    flat[at + 4] = f.one;
+    flat[at + 5] = f.two;
+}
+
 pub fn put(list: &mut [Finding], at: usize, f: Finding)
     requires { ⌜ at < length (now list) ⌝ }
     ensures { λ r. ⌜ now (list .exit) ≡ set (now (list .entry)) at f ⌝ }
@@ -44,12 +59,6 @@ pub fn get(list: &[Finding], at: usize) -> Finding
     list[at]
 }
 
-pub fn len(list: &[Finding]) -> usize
-    ensures { λ r. ⌜ r ≡ length (now (list .entry)) ⌝ }
-{
-    list.len()
-}
-
 // The first `count` entries become the flat list's records, and the rest is left as it was.
 pub fn store_all(list: &mut [Finding], flat: &[u32], count: usize)
     requires { ⌜ (count ≤ length (now list)) × (count * 6 ≤ length (now flat)) ⌝ }
@@ -57,7 +66,19 @@ pub fn store_all(list: &mut [Finding], flat: &[u32], count: usize)
 {
     let mut i = 0;
     while i < count {
-        list[i] = record_at(flat, i);
+        put(list, i, record_at(flat, i));
+        i += 1;
+    }
+}
+
+// The other way: the flat list's first `count` records become those of the list.
+pub fn load_all(flat: &mut [u32], list: &[Finding], count: usize)
+    requires { ⌜ (count * 6 ≤ length (now flat)) × (count ≤ length (now list)) ⌝ }
+    ensures { λ _. ⌜ now (flat .exit) ≡ outOf (now (flat .entry)) (now (list .entry)) count ⌝ }
+{
+    let mut i = 0;
+    while i < count {
+        words_at(flat, i, get(list, i));
         i += 1;
     }
 }

@@ -4,6 +4,7 @@ mod page;
 
 use libc::STDIN_FILENO;
 use lists::show_lists;
+pub use lists::show_records;
 use lists::text;
 use page::print_sheet;
 

@@ -146,6 +146,11 @@ fn list(which: Kind, l: &[u32], n: usize) {
     }
 }
 
+// The first n finding records of a flat list.
+pub fn show_records(l: &[u32], n: usize) {
+    list(Kind::Records, l, n);
+}
+
 // The lists of a sheet, warnings on; nothing where it is refused.
 pub fn show_lists(s: &[u8]) {
     let mut scopes = [0u32; 8192];
@@ -169,7 +174,7 @@ pub fn show_lists(s: &[u8]) {
             list(Kind::Bindings, &bindings, c.bindings);
             list(Kind::Carried, &carried, c.carried);
             list(Kind::Recorded, &recorded, c.recorded);
-            list(Kind::Records, &findings, c.findings);
+            show_records(&findings, c.findings);
         }
     }
 }
