@@ -1,0 +1,202 @@
+-- Where the WITH and its part stand in the five lists: the numbers and pairs that Apart names are the lists' own.
+-- `split`: the log is what is said up to the barrier's names (`preLog`) and then the part. `root-at`: the barrier has the next number and is
+-- current; `pre-opened`: the new Root's number is the count of scopes before; `part-in`: the part binds in scopes above the barrier.
+-- `scopes-from`, `bindings-pieces`, `bindings-from`, `answer-from`, `pairs-listed`: the part in each list. `carry-log`: what a barrier says;
+-- `inside-carries`: a log carries at its own barriers (`CarriedIn`); `clauses-append`, `arms-append`: a run in two pieces; `start-W`: where a
+-- statement begins.
+use Prim.Native.Nat.{ℕ, suc, _+_, _≤_, _<_}
+use native.Mathlib.Nat.{le-refl}
+use native.Mathlib.Omega.{arith}
+use mathlib.Core.Path.{_≡_, refl, _∙_, ap}
+use mathlib.Core.Bool.{Bool, true, false, cond}
+use mathlib.Core.List.{List, [], _∷_, _++_, map, reverse, reverseAux, reverseAux-append, reverseAux-eq, reverseAux-reverseAux-nil, append-nil, List·Memᴰ}
+use mathlib.Core.Option.{none}
+use lib.ListN.{drop}
+use lib.Seq.{drop-at}
+use lib.Dec.{eqb, eqb-refl}
+use Rattle.scope.specs.Graph.{withBarrier, Scope, Carried, carried}
+use Rattle.clauses.specs.Tree.{Clause, with', Arm, arm, exprs}
+use Rattle.sheet.specs.Statement.{Statement}
+use Rattle.semantics.specs.Log.{Answer, write, answersIn, bindsIn, bound, Event, open', bind, carry, answer, find, scopesIn, carriesIn, carryOf, opened, logs}
+use Rattle.semantics.specs.World.{World, worldOf}
+use Rattle.semantics.specs.Resolve.{Pair, pair, State, enter, carryAll, barrier, clause, clauses, arms, start, run, log}
+use Rattle.semantics.specs.Lists
+use Rattle.semantics.specs.Lists.{puts, answerFor, pairsAt, scopes, bindings, recorded}
+use Rattle.theorems.proofs.Views.{pick-append, opened-reverse}
+use Rattle.theorems.proofs.Adds.{after, clauses-after, fresh-after, arms-after}
+use Rattle.theorems.proofs.Within.{Within, nil, cons, inside, within-reverse, Well, standing-W, resolves-W, barrier-W, fresh-W, clauses-W, arms-W}
+use Rattle.theorems.specs.Site.{whole, Site, inHead, inArm, cutOf, Stands, laterArms, part, silent, entry, before, pairs, resolved, atBarrier, barrierOf, newRoot, partLog}
+use Rattle.theorems.proofs.Entries.{answer-pieces, lastWrite, inside-binds, puts-pieces, from-pieces}
+use Rattle.theorems.specs.Compare.{from}
+use Rattle.theorems.proofs.Tests.{bool-ext, ne→eqb}
+
+pub data CarriedIn (lo hi : ℕ) : List Carried → Type 0 where
+  none′ : CarriedIn lo hi []
+  more′ : {b x v : ℕ} {l : List Carried} → lo < b → b ≤ hi → CarriedIn lo hi l → CarriedIn lo hi (carried b x v ∷ l)
+
+pub inside-carries : {lo hi : ℕ} {l : List Event} → Within lo hi l → CarriedIn lo hi (carriesIn l)
+unfolding logs inside
+inside-carries nil = none′
+inside-carries (cons {e = open' s} h p) = inside-carries p
+inside-carries (cons {e = bind (bound s x v k)} h p) = inside-carries p
+inside-carries (cons {e = carry (carried b x v)} h p) = more′ (h .0) (h .1) (inside-carries p)
+inside-carries (cons {e = answer a} h p) = inside-carries p
+inside-carries (cons {e = find f} h p) = inside-carries p
+
+pairs-append : (b : ℕ) (l m : List Carried) → pairsAt b (l ++ m) ≡ pairsAt b l ++ pairsAt b m
+unfolding pairsAt
+pairs-append b [] m = refl
+pairs-append b (carried c x v ∷ l) m = go (eqb b c) (pairs-append b l m)
+  where
+    go : (t : Bool) → pairsAt b (l ++ m) ≡ pairsAt b l ++ pairsAt b m
+        → cond t (pair x v ∷ pairsAt b (l ++ m)) (pairsAt b (l ++ m)) ≡ cond t (pair x v ∷ pairsAt b l) (pairsAt b l) ++ pairsAt b m
+    go true ih = ap (_∷_ (pair x v)) ih
+    go false ih = ih
+
+pairs-below : {lo hi : ℕ} (b : ℕ) {l : List Carried} → hi < b → CarriedIn lo hi l → pairsAt b l ≡ []
+unfolding pairsAt
+pairs-below b q none′ = refl
+pairs-below b q (more′ {b = c} h i p) = rw (ne→eqb b c (λ e. omega arith)) (pairs-below b q p)
+
+pairs-above : {lo hi : ℕ} (b : ℕ) {l : List Carried} → b ≤ lo → CarriedIn lo hi l → pairsAt b l ≡ []
+unfolding pairsAt
+pairs-above b q none′ = refl
+pairs-above b q (more′ {b = c} h i p) = rw (ne→eqb b c (λ e. omega arith)) (pairs-above b q p)
+
+abbrev pub carryAt : ℕ → Pair → Event
+carryAt b (pair x v) = carry (carried b x v)
+
+pairs-own : (b : ℕ) (cs : List Pair) → pairsAt b (carriesIn (map (carryAt b) cs)) ≡ cs
+unfolding pairsAt logs
+pairs-own b [] = refl
+pairs-own b (pair x v ∷ cs) = rw (bool-ext (eqb b b) true (λ t. tt) (λ t. eqb-refl b)) (ap (_∷_ (pair x v)) (pairs-own b cs))
+
+-- Three pieces: before the carried names, those of the barrier b, after them.
+pairs-pieces : (b : ℕ) {lo hi k : ℕ} {a z : List Event} (cs : List Pair) → k < b → Within lo k a → Within b hi z → pairsAt b (carriesIn ((a ++ map (carryAt b) cs) ++ z)) ≡ cs
+unfolding carriesIn
+pairs-pieces b {a = a} {z = z} cs h p q =
+    rw (
+      pick-append,
+      pick-append carryOf a (map (carryAt b) cs),
+      pairs-append,
+      pairs-append b (carriesIn a) (carriesIn (map (carryAt b) cs)),
+      pairs-below b h (inside-carries p),
+      pairs-above b (omega arith) (inside-carries q),
+    )
+    (append-nil _ ∙ pairs-own b cs)
+
+-- A run over two lists, one after the other.
+pub clauses-append : (w : World) (xs ys : List Clause) (s : State) → clauses w (xs ++ ys) s ≡ clauses w ys (clauses w xs s)
+unfolding clauses
+clauses-append w [] ys s = refl
+clauses-append w (x ∷ xs) ys s = clauses-append w xs ys _
+
+pub arms-append : (w : World) (xs ys : List Arm) (s : State) → arms w (xs ++ ys) s ≡ arms w ys (arms w xs s)
+unfolding arms
+arms-append w [] ys s = refl
+arms-append w (arm a b cs ∷ xs) ys s = arms-append w xs ys _
+
+part-after : (w : World) (b : ℕ) (cs : List Pair) (ts : List Clause) (later : List Arm) (l : List Event) (s : State) → part w b cs ts later (after l s) ≡ after l (part w b cs ts later s)
+unfolding part
+part-after w b cs ts later l s = rw (fresh-after w l b cs s, clauses-after w l ts, arms-after w l later)
+
+carry-is : (w : World) (cs : List Pair) (s : State) → (carryAll w cs s .log ≡ reverseAux (map (carryAt (s .cur)) cs) (s .log)) × (carryAll w cs s .last ≡ s .last) × (carryAll w cs s .cur ≡ s .cur)
+unfolding carryAll
+carry-is w [] s = (refl, refl, refl)
+carry-is w (pair x v ∷ cs) s = carry-is w cs _
+
+pub carry-log : (w : World) (cs : List Pair) (s : State) → reverse (carryAll w cs s .log) ≡ reverse (s .log) ++ map (carryAt (s .cur)) cs
+carry-log w cs s = ap reverse (carry-is w cs s .0) ∙ reverseAux-reverseAux-nil (map (carryAt (s .cur)) cs) (s .log) ∙ reverseAux-eq (s .log) (map (carryAt (s .cur)) cs)
+
+-- The barrier is the next scope, and the current one.
+pub root-at : (warns : Bool) (s : Statement) (p : Site) → (atBarrier warns s p .cur ≡ barrierOf warns s p) × (atBarrier warns s p .last ≡ barrierOf warns s p)
+unfolding atBarrier barrier barrierOf
+root-at warns s p = let e = carry-is (worldOf warns s) (pairs warns s p) (enter withBarrier (cutOf p .start) (cutOf p .stop) (resolved warns s p)) in (e .2, e .1)
+
+in-open : {lo hi : ℕ} {s : Scope} {l : List Event} → Within lo hi l → Within lo hi (open' s ∷ l)
+unfolding inside
+in-open h = cons tt h
+
+module _ (warns : Bool) (s : Statement) where
+  abbrev w : World
+  w = worldOf warns s
+
+  -- What is said up to the barrier's names, then the part.
+  unfoldable pub preLog : Site → List Event
+  preLog p = reverse (atBarrier warns s p .log)
+
+  run-part : (p : Site) → Stands s p → run warns s ≡ part w (cutOf p .stop) (pairs warns s p) (cutOf p .after) (laterArms s p) (atBarrier warns s p)
+  unfolding run part whole entry before pairs resolved atBarrier clauses clause arms
+  run-part (inHead c) q = ap (λ h. arms w (s .arms) (clauses w h (start s))) q ∙ ap (arms w (s .arms)) (clauses-append w (c .before) (with' (c .start) (c .stop) (c .projections) (c .filter) ∷ c .after) (start s))
+  run-part (inArm e a b c l) q = ap (λ h. arms w h (clauses w (s .head) (start s))) q ∙ arms-append w e (arm a b (whole c) ∷ l) _ ∙ ap (arms w l) (clauses-append w (c .before) (with' (c .start) (c .stop) (c .projections) (c .filter) ∷ c .after) _)
+
+  pub split : (p : Site) → Stands s p → log warns s ≡ preLog p ++ partLog warns s p
+  unfolding log preLog partLog
+  split p q =
+      let t = atBarrier warns s p in
+      let u = part w (cutOf p .stop) (pairs warns s p) (cutOf p .after) (laterArms s p) (silent t) in
+      ap (λ (r : State). reverse (r .log)) (run-part p q ∙ part-after w _ _ _ _ (t .log) (silent t))
+      ∙ reverseAux-append (u .log) (t .log) [] ∙ reverseAux-eq (t .log) (reverse (u .log))
+
+  -- The numbers of both.
+  pub start-W : Well 0 0 (start s)
+  unfolding start inside logs
+  start-W = record { within = cons tt nil; count = refl; low = omega arith }
+
+  before-W : (p : Site) → Well 0 0 (before warns s p)
+  unfolding before entry
+  before-W (inHead c) = clauses-W w 0 0 (c .before) start-W
+  before-W (inArm e a b c l) = clauses-W w 0 0 (c .before) (standing-W w 0 0 [] 0 (arms-W w 0 0 e (clauses-W w 0 0 (s .head) start-W)))
+
+  resolved-W : (p : Site) → Well 0 0 (resolved warns s p)
+  unfolding resolved
+  resolved-W p = resolves-W w 0 0 (exprs (cutOf p .projections) (cutOf p .filter)) (before-W p) .fine
+
+  barrier-fine : (p : Site) → Well 0 0 (atBarrier warns s p)
+  unfolding atBarrier
+  barrier-fine p = barrier-W w 0 0 _ _ (pairs warns s p) (resolved-W p)
+
+  pub part-in : (p : Site) → (hi : ℕ) × Within (barrierOf warns s p) hi (partLog warns s p)
+  unfolding partLog part
+  part-in p =
+      let t = atBarrier warns s p in
+      let n = barrierOf warns s p in
+      let e = root-at warns s p .1 in
+      let h : Well n (suc n) (silent t) = record { within = nil; count = unfold logs in omega arith; low = omega arith } in
+      let g = arms-W w n (suc n) (laterArms s p) (clauses-W w n (suc n) (cutOf p .after) (fresh-W w n (suc n) (cutOf p .stop) (pairs warns s p) h)) in
+      (_, within-reverse (g .within) nil)
+
+  pub pre-opened : (p : Site) → opened (preLog p) ≡ newRoot warns s p
+  unfolding preLog newRoot logs
+  pre-opened p = omega (arith, opened-reverse (atBarrier warns s p .log) [], barrier-fine p .count, root-at warns s p .1)
+
+  pre-within : (p : Site) → Within 0 (barrierOf warns s p) (preLog p)
+  unfolding preLog
+  pre-within p = rw (← root-at warns s p .1) (within-reverse (barrier-fine p .within) nil)
+
+-- The lists of a statement at its WITH.
+module _ (warns : Bool) (s : Statement) (p : Site) (q : Stands s p) where
+  pub scopes-from : drop (newRoot warns s p) (scopes warns s) ≡ scopesIn (partLog warns s p)
+  unfolding scopes scopesIn
+  scopes-from = rw (split warns s p q, pick-append) (drop-at (scopesIn (preLog warns s p)) (scopesIn (partLog warns s p)) (newRoot warns s p) (unfold opened in pre-opened warns s p))
+
+  pub bindings-pieces : bindings warns s ≡ puts (bindsIn (preLog warns s p)) [] ++ puts (bindsIn (partLog warns s p)) []
+  unfolding bindings bindsIn
+  bindings-pieces = rw (split warns s p q, pick-append) (puts-pieces (inside-binds (pre-within warns s p)) (inside-binds (part-in warns s p .1)))
+
+  pub bindings-from : from (newRoot warns s p) (bindings warns s) ≡ puts (bindsIn (partLog warns s p)) []
+  unfolding bindings bindsIn newRoot barrierOf
+  bindings-from = rw (split warns s p q, pick-append) (from-pieces (inside-binds (pre-within warns s p)) (inside-binds (part-in warns s p .1)))
+
+  pub answer-from : (i : ℕ) (a : Answer) → List·Memᴰ (write i a) (answersIn (partLog warns s p)) → answerFor i (recorded warns s) ≡ lastWrite i (answersIn (partLog warns s p)) none
+  unfolding recorded answersIn
+  answer-from i a m = rw (split warns s p q, pick-append) (answer-pieces i a (answersIn (preLog warns s p)) (answersIn (partLog warns s p)) m)
+
+  -- The pairs that the carried list has for the barrier.
+  pub pairs-listed : pairsAt (barrierOf warns s p) (Lists.carriedList warns s) ≡ pairs warns s p
+  unfolding Lists.carriedList barrierOf preLog atBarrier barrier
+  pairs-listed =
+      let cs = pairs warns s p in
+      let t = resolved warns s p in
+      ap (λ l. pairsAt (suc (t .last)) (carriesIn l)) (split warns s p q ∙ ap (λ l. l ++ partLog warns s p) (carry-log (worldOf warns s) cs (enter withBarrier _ _ t)))
+      ∙ pairs-pieces (suc (t .last)) cs (le-refl _) (within-reverse (in-open (resolved-W warns s p .within)) nil) (part-in warns s p .1)

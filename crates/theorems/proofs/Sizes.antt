@@ -1,0 +1,318 @@
+-- Both walks together say at most as much as there are words: a word or more pays for each event of the log and for each finding of the
+-- kinds walk. `few-E`, `few-Es`, `few-S` say it of trees; `few-C` of one clause, from any state, so that a log of one clause has room in
+-- that clause's words; `few-Cs` of clauses, `few-As` of arms (which get no kind check), `few` of a statement, `few-words` of an accepted
+-- sheet, and `fits` of its lists.
+use Prim.Native.Nat.{ℕ, suc, _+_, _-_, _*_, _≤_}
+use native.Mathlib.Omega.{arith}
+use mathlib.Core.Path.{_≡_, refl, _∙_, ap}
+use mathlib.Core.Bool.{Bool, true, false, cond, not, _&&_}
+use mathlib.Core.List.{List, [], _∷_, flatMap, reverseAux}
+use mathlib.Core.Option.{Option, none, some}
+use lib.Dec.{eqb, leb}
+use lib.ListN.{length, length-append, length-take, length-drop}
+use Rattle.words.specs.Words.{words}
+use Rattle.heads.specs.declared.Form.{Form}
+use Rattle.heads.specs.declared.Form.the-variants.{Leaf, Var, Unresolved, Prop, Two, Slice, Many, BinOp, UnaryOp, Case, IsNull, PatternPredicate, ListComprehension, PatternComprehension, ListPredicate, MapProjection}
+use Rattle.heads.specs.declared.Maybe.{Maybe}
+use Rattle.heads.specs.declared.Maybe.the-variants as maybe
+use Rattle.heads.specs.Form.{formWords}
+use Rattle.expr.specs.Tree.{Expr, var, unresolved, node, predicate, comprehension, Exprs, done, more, mark, Steps, end, part, elem}
+use Rattle.expr.specs.Write.{maybeWords, writeE, writes, writeS}
+use Rattle.clauses.specs.Tree.{Projection, projection, Yield, yield, Clause, opening, reading, with', return, unwind, call, Arm, arm, exprs}
+use Rattle.clauses.specs.Write.{writeProjection, writeYield, countedWords, writeClause, writeArm}
+use Rattle.tables.specs.Row.{valueKind, pathKind, Row, row}
+use Rattle.sheet.specs.Trailer.{placesOf, section}
+use Rattle.sheet.specs.Statement.{Statement}
+use Rattle.sheet.specs.Read.{accepted, readSheet}
+use Rattle.sheet.proofs.Accepted.{accepted-words}
+use Rattle.scope.specs.Graph.{comprehensionScope, returnScope, withBarrier, callScope, rootScope, carried, Entry, entry}
+use Rattle.semantics.specs.Log.{Bound, bound, Write, write, Event, open', bind, carry, answer, find, scopesIn, bindsIn, carriesIn, answersIn, findsIn, logs}
+use Rattle.semantics.specs.World.{World, variable, opens, other, direct, yieldName, nameOf, kindOf, worldOf}
+use Rattle.semantics.specs.Resolve.{Seen, Pair, pair, State, lookup, ifRow, ifSome, say, sayIf, enter, bindName, leave, standing, useVar, useName, bindAnew, bindNew, bindPath, bindElem, resolve, resolves, bindPattern, carries, carriedBy, carryAll, bindAll, barrier, fresh, yields, clause, clauses, arms, start, run, log}
+use Rattle.semantics.specs.Kinds.{patternType, stringType, intType, noType, Setting, general, arithmetic, property, boolean, listed, both, plain, typeOf, settings, atType, atRow, misplaced, rowFor, kindsE, kindsEs, kindsS, kindsC, kinds}
+use Rattle.semantics.specs.Kinds as Walk
+use Rattle.semantics.specs.Lists.{put, puts, note, notes, lists}
+use Rattle.theorems.specs.Fits.{ClauseFits, Fits}
+use Rattle.theorems.proofs.Keeps.{keeps}
+
+-- One step of a walk: what it says against its own words.
+cond-few : {A : Type 0} (b : Bool) (l m : List A) → length l ≤ 1 → length m ≤ 1 → length (cond b l m) ≤ 1
+cond-few true l m p q = p
+cond-few false l m p q = q
+
+form-words : (f : Form) → 1 ≤ length (formWords f)
+unfolding formWords
+form-words (Leaf k) = omega arith
+form-words (Var v) = omega arith
+form-words (Unresolved x) = omega arith
+form-words (Prop x) = omega arith
+form-words (Two k) = omega arith
+form-words (Slice b) = omega arith
+form-words (Many k n) = omega arith
+form-words (BinOp o) = omega arith
+form-words (UnaryOp o) = omega arith
+form-words (Case b n) = omega arith
+form-words IsNull = omega arith
+form-words PatternPredicate = omega arith
+form-words (ListComprehension g) = omega arith
+form-words (PatternComprehension a b g) = omega arith
+form-words (ListPredicate g) = omega arith
+form-words (MapProjection n) = omega arith
+
+type-few : (c : Setting) (t : ℕ) → length (atType c t) ≤ 1
+unfolding atType
+type-few general t = omega arith
+type-few arithmetic t = omega arith
+type-few property t = omega arith
+type-few boolean t = cond-few (leb intType t && leb t stringType) _ _ (omega arith) (omega arith)
+type-few (listed c o) t = cond-few (eqb t noType) _ _ (omega arith) (omega arith)
+
+row-few : (c : Setting) (r : Option Row) → length (atRow c r) ≤ 1
+unfolding atRow
+row-few c none = omega arith
+row-few general (some (row i x k a b)) = omega arith
+row-few arithmetic (some (row i x k a b)) = cond-few (eqb k valueKind) _ _ (omega arith) (omega arith)
+row-few property (some (row i x k a b)) = cond-few (eqb k pathKind) _ _ (omega arith) (omega arith)
+row-few boolean (some (row i x k a b)) = omega arith
+row-few (listed d o) (some (row i x k a b)) = cond-few (eqb k valueKind) _ _ (omega arith) (omega arith)
+
+misplaced-few : (one want a b : ℕ) (r : Option Row) → length (misplaced one want a b r) ≤ 1
+unfolding misplaced
+misplaced-few one want a b none = omega arith
+misplaced-few one want a b (some (row i x k c d)) = cond-few (eqb k want) _ _ (omega arith) (omega arith)
+
+-- how much was said
+abbrev said : State → ℕ
+said s = length (s .log)
+
+-- where nothing was said: what is not resolved has its kinds findings alone
+abbrev nowhere : State
+nowhere = record { visible = []; cur = 0; last = 0; log = [] }
+
+if-few : (b : Bool) (e : Event) (s : State) → said (sayIf b e s) ≤ suc (said s)
+unfolding sayIf
+if-few true e s = omega arith
+if-few false e s = omega arith
+
+module _ (w : World) where
+  var-few : (v : ℕ) (r : Option Row) (s : State) → said (useVar w v r s) + length (atRow general r) + 2 * length (ifRow r v) ≤ 3 + said s
+  unfolding useVar atRow ifRow
+  var-few v none s = omega arith
+  var-few v (some (row i x k a b)) s = omega arith
+
+  var-once : (v : ℕ) (r : Option Row) (s : State) → said (useVar w v r s) ≤ 1 + said s
+  unfolding useVar
+  var-once v none s = omega arith
+  var-once v (some (row i x k a b)) s = omega arith
+
+  var-plain : (v : ℕ) (r : Option Row) (s : State) → said (useVar w v r s) + length (atRow general r) ≤ 1 + said s
+  unfolding useVar atRow
+  var-plain v none s = omega arith
+  var-plain v (some (row i x k a b)) s = omega arith
+
+  name-twice : (x : ℕ) (o : Option ℕ) (s : State) → said (useName w x o s) ≤ suc (suc (said s))
+  unfolding useName
+  name-twice x (some v) s = omega arith
+  name-twice x none s = if-few (not (w .isStar x)) _ _
+
+  name-few : (x : ℕ) (o : Option ℕ) (s : State) → said (useName w x o s) + 2 * length (ifSome o x) ≤ 3 + said s
+  unfolding ifSome
+  name-few x (some v) s = unfold useName in omega arith
+  name-few x none s = omega (arith, name-twice x none s)
+
+  anew-few : (a b x v k : ℕ) (s : State) → said (bindAnew w a b x v k s) ≤ suc (suc (said s))
+  unfolding bindAnew
+  anew-few a b x v k s = if-few _ _ _
+
+  path-few : (p : Maybe) (s : State) → said (bindPath w (variable p) s) ≤ length (maybeWords p) + said s
+  unfolding bindPath variable maybeWords
+  path-few (maybe.Var v) s = omega (arith, anew-few 0 0 (nameOf w v) v pathKind s)
+  path-few maybe.Nothing s = omega arith
+
+  new-few : (o : Option ℕ) (x v k : ℕ) (s : State) → said (bindNew w o x v k s) ≤ 1 + said s
+  unfolding bindNew
+  new-few none x v k s = omega arith
+  new-few (some u) x v k s = omega arith
+
+  elem-few : (k : ℕ) (p : Maybe) (s : State) → said (bindElem w k (variable p) s) ≤ length (maybeWords p) + said s
+  unfolding bindElem variable maybeWords
+  elem-few k (maybe.Var v) s = omega (arith, new-few (lookup (nameOf w v) (s .visible)) (nameOf w v) v k s)
+  elem-few k maybe.Nothing s = omega arith
+
+  -- Trees.
+  mutual
+    unfolding resolve kindsE writeE formWords
+
+    pub few-E : (t : Expr) (d : Setting) (s : State) → said (resolve w t s) + length (kindsE w t d) ≤ length (writeE t) + said s
+    few-E (var v) d s = omega (arith, var-once v (w .row v) s, row-few d (w .row v))
+    few-E (unresolved x) d s = omega (arith, name-twice x (lookup x (s .visible)) s)
+    few-E (node f es) d s = simp length-append (omega (arith, form-words f, type-few d (typeOf f), few-Es es (settings (w .isId) f d) s))
+    few-E (predicate p) d s = simp length-append (omega (arith, type-few d patternType, few-S p nowhere))
+    few-E (comprehension a b p es) d s =
+        simp length-append (omega (arith, few-S p (enter comprehensionScope a b s), few-Es es plain (bindPattern w p (enter comprehensionScope a b s))))
+
+    pub few-Es : (t : Exprs) (p : Walk.Pair) (s : State) → said (resolves w t s) + length (kindsEs w t p) ≤ length (writes t) + said s
+    few-Es done p s = omega arith
+    few-Es (more e es) (both d g) s = simp length-append (omega (arith, few-E e d s, few-Es es (both g g) (resolve w e s)))
+    few-Es (mark m es) p s = omega (arith, few-Es es p s)
+
+    pub few-S : (t : Steps) (s : State) → said (bindPattern w t s) + length (kindsS w t) ≤ length (writeS t) + said s
+    few-S end s = omega arith
+    few-S (part p r) s =
+        simp length-append (omega (arith, path-few p s, misplaced-few 1 pathKind 0 0 (rowFor w p), few-S r (bindPath w (variable p) s)))
+    few-S (elem k a b v es r) s =
+        let t = bindElem w k (variable v) s in
+        simp length-append
+        (omega (arith, elem-few k v s, misplaced-few (suc k) k a b (rowFor w v), few-Es es plain t, few-S r (resolves w es t)))
+
+  -- Projections: with what WITH carries of them, which counts twice, as carried and as bound.
+  carries-other : (a : Option ℕ) (vis : List Seen) → length (carries w a other vis) ≤ 0
+  unfolding carries
+  carries-other (some y) vis = omega arith
+  carries-other none vis = omega arith
+
+  one-few : (a : Option ℕ) (e : Expr) (vis : List Seen) (s : State) → s .visible ≡ vis
+      → said (resolve w e s) + length (kindsE w e general) + 2 * length (carries w a (direct e) vis) ≤ 1 + length (writeE e) + said s
+  unfolding carries direct resolve kindsE writeE formWords
+  one-few (some y) (var v) vis s p = omega (arith, var-plain v (w .row v) s)
+  one-few none (var v) vis s p = var-few v (w .row v) s
+  one-few (some y) (unresolved x) vis s p = omega (arith, name-twice x (lookup x (s .visible)) s)
+  one-few none (unresolved x) vis s p = rw (← p) (omega (arith, name-few x (lookup x (s .visible)) s))
+  one-few a (node f es) vis s p = omega (arith, carries-other a vis, few-E (node f es) general s)
+  one-few a (predicate i) vis s p = omega (arith, carries-other a vis, few-E (predicate i) general s)
+  one-few a (comprehension i j q es) vis s p = omega (arith, carries-other a vis, few-E (comprehension i j q es) general s)
+
+  exprs-few : (ps : List Projection) (f : Exprs) (vis : List Seen) (s : State) → s .visible ≡ vis
+      → said (resolves w (exprs ps f) s) + length (kindsEs w (exprs ps f) plain) + 2 * length (carriedBy w ps vis) ≤ length (flatMap writeProjection ps) + length (writes f) + said s
+  unfolding exprs carriedBy writeProjection flatMap resolve kindsE
+  exprs-few [] f vis s p = omega (arith, few-Es f plain s)
+  exprs-few (projection a e ∷ ps) f vis s p =
+      simp length-append (omega (arith, one-few a e vis s p, exprs-few ps f vis (resolve w e s) (keeps w e s .visible ∙ p)))
+
+  carry-few : (ps : List Pair) (s : State) → said (carryAll w ps s) ≡ length ps + said s
+  unfolding carryAll
+  carry-few [] s = omega arith
+  carry-few (pair x v ∷ ps) s = omega (arith, carry-few ps (say (carry (carried (s .cur) x v)) s))
+
+  bind-few : (ps : List Pair) (s : State) → said (bindAll w ps s) ≡ length ps + said s
+  unfolding bindAll
+  bind-few [] s = omega arith
+  bind-few (pair x v ∷ ps) s = omega (arith, bind-few ps (bindName x v (kindOf w v) s))
+
+  yields-few : (a b : ℕ) (ys : List Yield) (s : State) → said (yields w a b ys s) ≤ length (flatMap writeYield ys) + said s
+  unfolding yields writeYield flatMap
+  yields-few a b [] s = omega arith
+  yields-few a b (yield x y v ∷ ys) s = omega (arith, anew-few a b (yieldName x y) v valueKind s, yields-few a b ys (bindAnew w a b (yieldName x y) v valueKind s))
+
+  -- Clauses.
+  pub few-C : (t : Clause) (s : State) → ClauseFits w t s
+  unfolding clause kindsC writeClause countedWords barrier fresh writes
+  few-C (opening o a b p) s = simp length-append (omega (arith, few-S p (enter (opens o) a b s)))
+  few-C (reading r a b es) s = simp length-append (omega (arith, few-Es es plain s))
+  few-C (with' a b ps f) s =
+      let cs = carriedBy w ps (s .visible) in
+      let t = resolves w (exprs ps f) s in
+      let u = barrier w a b cs t in
+      simp length-append
+      (omega (arith, exprs-few ps f (s .visible) s refl, carry-few cs (enter withBarrier a b t), bind-few cs (enter rootScope b b (standing [] (u .cur) u))))
+  few-C (return a b ps) s = omega (arith, exprs-few ps done (s .visible) (leave s (enter returnScope a b s)) refl)
+  few-C (unwind a b v e) s = omega (arith, few-E e general nowhere)
+  few-C (call a b es ys) s = simp length-append (omega (arith, yields-few a b ys (enter callScope a b s), few-Es es plain nowhere))
+
+  pub few-Cs : (ts : List Clause) (s : State) → said (clauses w ts s) + length (kinds w ts) ≤ length (flatMap writeClause ts) + said s
+  unfolding clauses kinds flatMap
+  few-Cs [] s = omega arith
+  few-Cs (t ∷ ts) s = simp length-append (omega (arith, few-C t s, few-Cs ts (clause w t s)))
+
+  pub few-As : (ts : List Arm) (s : State) → said (arms w ts s) ≤ length (flatMap writeArm ts) + said s
+  unfolding arms writeArm countedWords flatMap
+  few-As [] s = omega arith
+  few-As (arm a b cs ∷ ts) s = simp length-append (omega (arith, few-Cs cs (standing [] 0 s), few-As ts (clauses w cs (standing [] 0 s))))
+
+turned : (l m : List Event) → length (reverseAux l m) ≡ length l + length m
+turned [] m = omega arith
+turned (e ∷ l) m = omega (arith, turned l (e ∷ m))
+
+-- The whole: one event more than the words of the head and the arms, for scope 0.
+pub few : (warns : Bool) (st : Statement) →
+    length (log warns st) + length (kinds (worldOf warns st) (st .head)) ≤ 1 + (length (flatMap writeClause (st .head)) + length (flatMap writeArm (st .arms)))
+unfolding log run start
+few warns st =
+    let w = worldOf warns st in
+    omega (arith, turned (run warns st .log) [], few-Cs w (st .head) (start st), few-As w (st .arms) (clauses w (st .head) (start st)))
+
+-- Each event of a log is an entry of one of its five views, and their lists make no more of it.
+views : (l : List Event) →
+    length (scopesIn l) + length (bindsIn l) + length (carriesIn l) + length (answersIn l) + length (findsIn l) ≡ length l
+unfolding logs
+views [] = omega arith
+views (open' s ∷ l) = omega (arith, views l)
+views (bind b ∷ l) = omega (arith, views l)
+views (carry c ∷ l) = omega (arith, views l)
+views (answer a ∷ l) = omega (arith, views l)
+views (find f ∷ l) = omega (arith, views l)
+
+put-few : (b : Bound) (es : List Entry) → length (put b es) ≤ suc (length es)
+unfolding put
+put-few (bound s x v k) [] = omega arith
+put-few (bound s x v k) (entry t y u j r ∷ es) = go (eqb s t && eqb x y) (put-few (bound s x v k) es)
+  where
+    go : (c : Bool) → length (put (bound s x v k) es) ≤ suc (length es) →
+        length (cond c (entry s x v k (some u) ∷ es) (entry t y u j r ∷ put (bound s x v k) es)) ≤ suc (suc (length es))
+    go true h = omega arith
+    go false h = omega arith
+
+puts-few : (bs : List Bound) (es : List Entry) → length (puts bs es) ≤ length bs + length es
+unfolding puts
+puts-few [] es = omega arith
+puts-few (b ∷ bs) es = omega (arith, puts-few bs (put b es), put-few b es)
+
+note-few : (x : Write) (ws : List Write) → length (note x ws) ≤ suc (length ws)
+unfolding note
+note-few (write i a) [] = omega arith
+note-few (write i a) (write j b ∷ ws) = go (eqb i j) (note-few (write i a) ws)
+  where
+    go : (c : Bool) → length (note (write i a) ws) ≤ suc (length ws) →
+        length (cond c (write i a ∷ ws) (write j b ∷ note (write i a) ws)) ≤ suc (suc (length ws))
+    go true h = omega arith
+    go false h = omega arith
+
+notes-few : (xs ws : List Write) → length (notes xs ws) ≤ length xs + length ws
+unfolding notes
+notes-few [] ws = omega arith
+notes-few (x ∷ xs) ws = omega (arith, notes-few xs (note x ws), note-few x ws)
+
+-- The head and the arms stand one after the other, before the trailer.
+sections-fit : (ws : List ℕ) (a b c : ℕ) → b ≤ c → c ≤ length ws - 10 → length (section ws a b) + length (section ws b c) ≤ length ws - 10
+sections-fit ws a b c p q = simp (length-drop, length-take) (omega arith)
+
+-- An accepted sheet: both walks say no more than it has words. The trailer pays for scope 0.
+pub few-words : (warns : Bool) (s : List ℕ) (st : Statement) → readSheet s ≡ accepted st →
+    length (log warns st) + length (kinds (worldOf warns st) (st .head)) ≤ length (words s)
+unfolding placesOf
+few-words warns s st e =
+    let h = accepted-words s st e in
+    let p = placesOf (words s) in
+    omega (
+      arith,
+      few warns st,
+      ap length (h .1 .headWords),
+      ap length (h .1 .armWords),
+      sections-fit (words s) (p .head) (p .tail) (p .trailer) (omega arith) (omega arith),
+    )
+
+-- So each of the lists has at most as many entries.
+pub fits : (warns : Bool) (s : List ℕ) (st : Statement) → readSheet s ≡ accepted st → Fits warns st (length (words s))
+unfolding lists
+fits warns s st e =
+    let l = log warns st in
+    let h = few-words warns s st e in
+    let v = views l in
+    record {
+      log = omega arith;
+      scopes = omega arith;
+      bindings = omega (arith, puts-few (bindsIn l) []);
+      carriedList = omega arith;
+      recorded = omega (arith, notes-few (answersIn l) []);
+      findings = simp length-append (omega arith);
+    }
