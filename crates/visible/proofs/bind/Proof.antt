@@ -1,5 +1,4 @@
 -- Four words on top, and the name's head.
-use Prim.Native.Nat.{_+_, _*_}
 use borrow.Author.Needs.{needs}
 use native.Mathlib.Omega.{arith}
 use lib.ListN.{length-set}

@@ -1,8 +1,7 @@
 -- The table says where the newest entry stands, and what stands there is the answer.
-use Prim.Native.Nat.{suc, _-_, _<_}
 use borrow.Author.Needs.{needs}
 use native.Mathlib.Omega.{arith}
-use mathlib.Core.Path.{_≡_, sym}
+use mathlib.Core.Path.{sym}
 use Rattle.visible.proofs.Places.{told, far, near-head, fact}
 use Rattle.visible.proofs.find.Statement.{statement}
 use Rattle.visible.proofs.find.Tie as tie
