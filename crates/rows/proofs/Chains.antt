@@ -140,7 +140,3 @@ module _ (g : ℕ → ℕ) (m n v x : ℕ) (old : List ℕ) (r : m + n < length 
 pub none-chained : (g f : ℕ → ℕ) (m : ℕ) (tab : List ℕ) → m ≤ length tab → ((b : ℕ) → b < m → getD tab b 0 ≡ 0) → Chained g m 0 f tab
 unfolding seek
 none-chained g f m tab h z = record { room = omega arith; heads = z; prevs = λ i l. absurd (omega arith) }
-
--- a fact of a place k of the code: its type is read off its proof
-pub fact : {T : Type 0} {P : T → Type 0} → ((k : T) → P k) → (k : T) → P k
-fact h = h

@@ -1,6 +1,6 @@
 // The row of a variable in the binding table, by chains: rows whose variables have the same slot hang together. The lent words hold for each
 // slot its newest row (its number + 1, or 0), then for each row the one before it in its chain. The slot is a mixed hash with a multiplier
-// that is made from the table itself, so variables can't be chosen to fall into one slot.
+// that the caller gives: which variables share a slot differs with it. Only the time rests on it, never the answer.
 use words::word;
 ghost use mathlib.Core.Path.{_≡_};
 ghost use Prim.Native.Nat.{_+_, _*_, _%_, _^_, _<_, _≤_};
@@ -34,7 +34,7 @@ fn slot(mult: u32, shift: u32, v: u32) -> u32
     g >> shift
 }
 
-// A multiplier, odd, made from the variables of the n rows from the word `rows` on.
+// An odd multiplier, made from the variables of the n rows from the word `rows` on. Whoever writes all of them can still choose it.
 pub fn mult_of(s: &[u8], rows: usize, n: u32) -> u32
     requires { ⌜ rows + n * 5 ≤ length (words (now s)) ⌝ }
     ensures { λ r. ⌜ r % 2 ≡ 1 ⌝ }

@@ -1,5 +1,5 @@
 -- Laws of what the words say of a name: a 0 where it is not visible (`zero-unseen`, `unseen-zero`), the scope of its newest entry alone
--- where its own scope binds it (`newest-binds`), and words that hold nothing yet (`empty`).
+-- where its own scope binds it (`newest-binds`; `descends-above` where a scope is opened), and words that hold nothing yet (`empty`).
 use Prim.Native.Nat.{ℕ, suc, _<_, _≤_}
 use native.Mathlib.Omega.{arith}
 use mathlib.Core.Path.{_≡_, refl, sym, _∙_}
@@ -37,7 +37,8 @@ zero-unseen {n} {top} {x} {m} w h e = unplaced x (seens n top m) (sym (w .heads 
 pub unseen-zero : {n top x : ℕ} {m : List ℕ} → Tabled n top m → x < n → lookup x (seens n top m) ≡ none → getD m x 0 ≡ 0
 unseen-zero {n} {top} {x} {m} w h e = w .heads x h ∙ unseen-place x (seens n top m) e
 
-descends-above : (c p : ℕ) (l : List Seen) → p ≤ c → Descends p l → Descends c l
+-- a list that descends from p descends from any higher c, as from a scope that is opened
+pub descends-above : (c p : ℕ) (l : List Seen) → p ≤ c → Descends p l → Descends c l
 unfolding Descends
 descends-above c p [] h f = tt
 descends-above c p (seen y v q ∷ l) h f = (omega arith, f .1)

@@ -52,7 +52,7 @@ far x n zero m w h = refl
 far x n (suc t) m w h =
     rw (ne-eqb x (nameAt n m t) (λ e. omega (arith, w t (omega arith))), far x n t m (λ i l. w i (omega arith)) h)
 
--- ---- memory that differs elsewhere
+-- words that are alike where the entries stand
 pub seens-alike : (n t : ℕ) (new old : List ℕ) → ((i : ℕ) → n ≤ i → i < n + t * 4 → getD new i 0 ≡ getD old i 0) → seens n t new ≡ seens n t old
 unfolding seens
 seens-alike n zero new old e = refl
@@ -191,10 +191,6 @@ pub fallen : {n height t : ℕ} {old m : List ℕ} → Falls n height old m t �
 fallen {n} {height} {t} f h =
     let z : t ≡ height = omega arith in
     record { back = z; same = f .same; kept = f .kept; tabled = rw z at (f .tabled) }
-
--- a fact of a place k of the code: its type is read off its proof
-pub fact : {T : Type 0} {P : T → Type 0} → ((k : T) → P k) → (k : T) → P k
-fact h = h
 
 -- a head lies within the words
 pub near-head : {n top x : ℕ} {m : List ℕ} → Tabled n top m → x < n → n + getD m x 0 * 4 ≤ length m

@@ -2,7 +2,7 @@
 use borrow.Author.Needs.{needs}
 use native.Mathlib.Omega.{arith}
 use lib.ListN.{length-set}
-use Rattle.rows.proofs.Chains.{fact}
+use Rattle.heads.proofs.Chain.{fact}
 use Rattle.rows.proofs.Hanging.{slot-in, added}
 use Rattle.rows.proofs.add_row.Statement.{statement}
 use Rattle.rows.proofs.add_row.Tie as tie

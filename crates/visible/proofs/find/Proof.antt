@@ -2,7 +2,8 @@
 use borrow.Author.Needs.{needs}
 use native.Mathlib.Omega.{arith}
 use mathlib.Core.Path.{sym}
-use Rattle.visible.proofs.Places.{told, far, near-head, fact}
+use Rattle.heads.proofs.Chain.{fact}
+use Rattle.visible.proofs.Places.{told, far, near-head}
 use Rattle.visible.proofs.find.Statement.{statement}
 use Rattle.visible.proofs.find.Tie as tie
 use Rattle.visible.proofs.find.Lts.{Then2}
