@@ -6,7 +6,7 @@ use mathlib.Core.Bool.{Bool, true, false, cond}
 use mathlib.Core.List.{List, [], _∷_, _++_}
 use Rattle.scope.specs.Graph.{comprehensionScope}
 use Rattle.heads.specs.Got.{Got, ok, no, bind, wordIn, anyWord}
-use Rattle.heads.specs.Form.{readForm, kidsOf, itemsOf}
+use Rattle.heads.specs.Form.{readForm, kidsOf}
 use Rattle.heads.specs.Head.{Tables, allowed, readPart, readElem, markLow, markHigh, markKids}
 use Rattle.heads.specs.declared.Elem.{Elem}
 use Rattle.heads.specs.declared.Part.{Part}
@@ -15,58 +15,58 @@ use Rattle.heads.specs.declared.Maybe.the-variants as maybe
 use Rattle.heads.specs.declared.Form.{Form}
 use Rattle.heads.specs.declared.Form.the-variants.{Leaf, Var, Unresolved, Prop, Two, Slice, Many, BinOp, UnaryOp, Case, IsNull, PatternPredicate, ListComprehension, PatternComprehension, ListPredicate, MapProjection}
 use Rattle.heads.proofs.Shapes.{bind-each}
-use Rattle.expr.specs.Tree.{Expr, node, predicate, comprehension, Exprs, done, more, mark, Steps, end, part, elem, tree}
-use Rattle.expr.specs.Read.{Reader, RestE, RestS, noMore, noSteps, times, marks, elemOne, elems, parts, pattern, maybePattern, afterForm, readExpr}
+use Rattle.expr.specs.Tree.{Expr, node, predicate, comprehension, Exprs, more, mark, Steps, part, elem, tree}
+use Rattle.expr.specs.Read.{Reader, RestE, RestS, noMore, times, marks, elemOne, elems, parts, pattern, maybePattern, afterForm, readExpr}
 use Rattle.semantics.specs.Log.{Finding}
 use Rattle.semantics.specs.World.{World, variable}
 use Rattle.semantics.specs.Resolve.{State, enter, leave, bindPath, bindElem, resolve, resolves, bindPattern}
-use Rattle.semantics.specs.Kinds.{Setting, general, property, Pair, both, plain, patternType, typeOf, settings, atType, misplaced, rowFor, kindsE, kindsEs, kindsS}
-use Rattle.fused.specs.Fused.{Both, Mode, unresolving, Go, when, told, step, rounds, rowGo, same, left, tailOf, headOf, elemStep, partStep, markGo, elemGo, partGo, patternGo, innerGo, restGo, exprGo}
+use Rattle.semantics.specs.Kinds.{Setting, Pair, both, plain, patternType, typeOf, settings, atType, misplaced, rowFor, kindsE, kindsEs, kindsS}
+use Rattle.fused.specs.Fused.{Both, Mode, unresolving, Go, when, told, step, rounds, rowGo, same, left, tailOf, headOf, elemStep, partStep, markGo, elemGo, partGo, patternGo, restGo, exprGo}
 
-told-append : (a b k : List Finding) → told (a ++ b) k ≡ told b (told a k)
+pub told-append : (a b k : List Finding) → told (a ++ b) k ≡ told b (told a k)
 unfolding told
 told-append [] b k = refl
 told-append (f ∷ a) b k = told-append a b (f ∷ k)
 
-when-two : (b : Bool) (f g : State → State) (x : State) → when b (λ y. g (f y)) x ≡ when b g (when b f x)
+pub when-two : (b : Bool) (f g : State → State) (x : State) → when b (λ y. g (f y)) x ≡ when b g (when b f x)
 when-two true f g x = refl
 when-two false f g x = refl
 
-when-told : (b : Bool) (fs gs k : List Finding) → when b (told (fs ++ gs)) k ≡ when b (told gs) (when b (told fs) k)
+pub when-told : (b : Bool) (fs gs k : List Finding) → when b (told (fs ++ gs)) k ≡ when b (told gs) (when b (told fs) k)
 when-told true fs gs k = told-append fs gs k
 when-told false fs gs k = refl
 
-step-two : (m : Mode) (f g : State → State) (fs gs : List Finding) (s : Both) → step m (λ y. g (f y)) (fs ++ gs) s ≡ step m g gs (step m f fs s)
+pub step-two : (m : Mode) (f g : State → State) (fs gs : List Finding) (s : Both) → step m (λ y. g (f y)) (fs ++ gs) s ≡ step m g gs (step m f fs s)
 step-two m f g fs gs s = λ i. record { names = when-two (m .resolves) f g (s .names) i; kinds = when-told (m .checks) fs gs (s .kinds) i }
 
-when-same : (b : Bool) (x : State) → when b same x ≡ x
+pub when-same : (b : Bool) (x : State) → when b same x ≡ x
 when-same true x = refl
 when-same false x = refl
 
-when-none : (b : Bool) (k : List Finding) → when b (told []) k ≡ k
+pub when-none : (b : Bool) (k : List Finding) → when b (told []) k ≡ k
 unfolding told
 when-none true k = refl
 when-none false k = refl
 
 -- a step of nothing
-step-none : (m : Mode) (s : Both) → step m same [] s ≡ s
+pub step-none : (m : Mode) (s : Both) → step m same [] s ≡ s
 step-none m s = λ i. record { names = when-same (m .resolves) (s .names) i; kinds = when-none (m .checks) (s .kinds) i }
 
 -- what is read is walked
 abbrev pub after : {A : Type 0} → (A → Both → Both) → (List ℕ → Got A) → Go
 after f R s r = bind (R r) (λ a r2. ok (f a s) r2)
 
-bind-ok : (g : Got Both) → bind g (λ u r. ok u r) ≡ g
+pub bind-ok : (g : Got Both) → bind g (λ u r. ok u r) ≡ g
 bind-ok (ok u r) = refl
 bind-ok (no c) = refl
 
-map-map : {A B : Type 0} (g : Got A) (f : A → B) (h : B → Both) → bind (bind g (λ a r. ok (f a) r)) (λ b r. ok (h b) r) ≡ bind g (λ a r. ok (h (f a)) r)
+pub map-map : {A B C : Type 0} (g : Got A) (f : A → B) (h : B → C) → bind (bind g (λ a r. ok (f a) r)) (λ b r. ok (h b) r) ≡ bind g (λ a r. ok (h (f a)) r)
 map-map (ok a r) f h = refl
 map-map (no c) f h = refl
 
 -- the same answer for each thing that was read
-each : {A : Type 0} (g : Got A) (f h : A → Both) → ((a : A) → f a ≡ h a) → bind g (λ a r. ok (f a) r) ≡ bind g (λ a r. ok (h a) r)
-each (ok a r) f h q = ap (λ (x : Both). ok x r) (q a)
+pub each : {A B : Type 0} (g : Got A) (f h : A → B) → ((a : A) → f a ≡ h a) → bind g (λ a r. ok (f a) r) ≡ bind g (λ a r. ok (h a) r)
+each {B = B} (ok a r) f h q = ap (λ (x : B). ok x r) (q a)
 each (no c) f h q = refl
 
 free-allowed : (t : Tables) → ((v : ℕ) → t .known v ≡ true) → (m : Maybe) → allowed t m ≡ true
@@ -113,10 +113,10 @@ module _ (w : World) where
     unfolding resolve kindsE
     none-law m p s r = ap (λ (x : Both). ok x r) (step-none m s)
 
-    kids-law : (m : Mode) (n : ℕ) (p : Pair) (s : Both) (r : List ℕ) → after (acts m p) (times n P noMore) s r ≡ rowGo (E m) n p s r
+    pub kids-law : (m : Mode) (n : ℕ) (p : Pair) (s : Both) (r : List ℕ) → after (acts m p) (times n P noMore) s r ≡ rowGo (E m) n p s r
     kids-law m n p s r = kids-then m n p noMore s r ∙ bind-each (rowGo (E m) n p s r) _ _ (λ u r2. none-law m (pairAfter n p) u r2) ∙ bind-ok (rowGo (E m) n p s r)
 
-    marks-law : (m : Mode) (kind n : ℕ) (s : Both) (r : List ℕ) → after (acts m plain) (marks kind n P) s r ≡ rounds n (markGo w E m kind) s r
+    pub marks-law : (m : Mode) (kind n : ℕ) (s : Both) (r : List ℕ) → after (acts m plain) (marks kind n P) s r ≡ rounds n (markGo w E m kind) s r
     unfolding marks rounds markGo resolve kindsE
     marks-law m kind zero s r = ap (λ (x : Both). ok x r) (step-none m s)
     marks-law m kind (suc n) s r = go (marks-law m kind n) (wordIn (markLow kind) (markHigh kind) r)
