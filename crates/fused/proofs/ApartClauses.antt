@@ -1,0 +1,414 @@
+-- Clauses and arms: reading and both walks in one is reading, and then the two walks (`apart-clause`, `apart-arm`, and for rows of them
+-- `apart-clauses`, `apart-arms`).
+use Prim.Native.Nat.{ℕ, zero, suc}
+use mathlib.Core.Path.{_≡_, refl, ap, ap₂, sym, _∙_}
+use mathlib.Core.Bool.{Bool, true, false, cond}
+use mathlib.Core.List.{List, [], _∷_, _++_, append-assoc, append-nil}
+use lib.Dec.{eqb}
+use Rattle.scope.specs.Graph.{unwindScope, callScope, returnScope}
+use Rattle.heads.specs.Got.{Got, ok, no, bind, wordIn, anyWord, flag, many, counted}
+use Rattle.heads.specs.Form.{readForm, kidsOf, itemsOf, hasPattern}
+use Rattle.heads.specs.Head.{Tables}
+use Rattle.heads.specs.declared.Form.{Form}
+use Rattle.heads.specs.declared.Form.the-variants.{Leaf, Var, Unresolved, Prop, Two, Slice, Many, BinOp, UnaryOp, Case, IsNull, PatternPredicate, ListComprehension, PatternComprehension, ListPredicate, MapProjection}
+use Rattle.heads.proofs.Shapes.{bind-each, bind-bind}
+use Rattle.expr.specs.Tree.{Expr, Exprs, done, Steps, tree}
+use Rattle.expr.specs.Read.{noMore, times, marks, pattern, maybePattern, afterForm, readExpr}
+use Rattle.clauses.specs.Tree.{Projection, projection, Yield, yield, Opening, match, create, merge, Reading, where', set, remove, delete, Clause, opening, reading, with', return, unwind, call, Arm, arm, exprs}
+use Rattle.clauses.specs.Read.{maxDepth, aliasOf, clauseExpr, readProjection, readYield, countedExprs, countedMarks, readMatch, readOpening, readWhere, readWith, readReturn, readUnwind, readMarked, readDelete, readCall, readBody, readClause, readArm}
+use Rattle.tables.specs.Row.{valueKind}
+use Rattle.semantics.specs.World.{World, opens, Direct, direct, yieldName, nameOf}
+use Rattle.semantics.specs.Resolve.{State, Pair, enter, leave, standing, bindName, bindAnew, resolve, resolves, bindPattern, carries, carriedBy, barrier, fresh, yields, clause, clauses, arms}
+use Rattle.semantics.specs.Kinds.{Setting, general, plain, kindsE, kindsEs, kindsS, kindsC, kinds}
+use Rattle.theorems.proofs.Keeps.{keeps}
+use Rattle.fused.specs.Fused.{Both, Mode, unresolving, Go, when, told, step, rounds, rowGo, markGo}
+use Rattle.fused.specs.Clauses.{directForm, directOf, returned, inArms, within, projectionsGo, countedRow, yielded, yieldGo, openingGo, withGo, returnGo, unwindGo, callGo, markedGo, bodyGo, clauseGo, armGo}
+use Rattle.fused.proofs.Apart.{told-append, when-two, step-two, step-none, after, map-map, each, act, acts, lays, kids-law, marks-law, pattern-law, apart}
+
+-- things in a row, each read and walked
+module _ {A : Type 0} (one : List ℕ → Got A) (go : Go) (doing : A → Both → Both) (all : List A → Both → Both) (h : (s : Both) (r : List ℕ) → go s r ≡ after doing one s r)
+    (nil : (s : Both) → all [] s ≡ s) (cons : (x : A) (xs : List A) (s : Both) → all (x ∷ xs) s ≡ all xs (doing x s)) where
+  pub many-law : (n : ℕ) (s : Both) (r : List ℕ) → after all (many one n) s r ≡ rounds n go s r
+  unfolding many rounds
+  many-law zero s r = ap (λ (u : Both). ok u r) (nil s)
+  many-law (suc n) s r = rw h (turn (many-law n) (one r))
+    where
+      turn : ((s : Both) (r : List ℕ) → after all (many one n) s r ≡ rounds n go s r) → (g : Got A) →
+          bind (bind g (λ x r. bind (many one n r) (λ xs r2. ok (x ∷ xs) r2))) (λ xs r. ok (all xs s) r) ≡ bind (bind g (λ x r. ok (doing x s) r)) (λ u r2. rounds n go u r2)
+      turn ih (ok x r2) = map-map (many one n r2) (λ xs. x ∷ xs) (λ xs. all xs s) ∙ each (many one n r2) (λ xs. all (x ∷ xs) s) (λ xs. all xs (doing x s)) (λ xs. cons x xs s) ∙ ih (doing x s) r2
+      turn ih (no c) = refl
+
+-- what a head says of its expression
+direct-tree : (f : Form) (st : Steps) (es : Exprs) → direct (tree f st es) ≡ directForm f
+unfolding direct tree
+direct-tree (Leaf k) st es = refl
+direct-tree (Var v) st es = refl
+direct-tree (Unresolved x) st es = refl
+direct-tree (Prop x) st es = refl
+direct-tree (Two k) st es = refl
+direct-tree (Slice b) st es = refl
+direct-tree (Many k n) st es = refl
+direct-tree (BinOp o) st es = refl
+direct-tree (UnaryOp o) st es = refl
+direct-tree (Case b n) st es = refl
+direct-tree IsNull st es = refl
+direct-tree PatternPredicate st es = refl
+direct-tree (ListComprehension g) st es = refl
+direct-tree (PatternComprehension a b g) st es = refl
+direct-tree (ListPredicate g) st es = refl
+direct-tree (MapProjection n) st es = refl
+
+-- so for what is read after it, whatever is done with the form
+direct-read : {C : Type 0} (t : Tables) (d : ℕ) (r : List ℕ) (F : Expr → Direct → List ℕ → Got C)
+    → bind (readExpr t (suc d) r) (λ e r2. F e (direct e) r2) ≡ bind (readExpr t (suc d) r) (λ e r2. F e (directOf (readForm (t .names) r)) r2)
+unfolding readExpr afterForm
+direct-read {C} t d r F = head (readForm (t .names) r)
+  where
+    row : (f : Form) (st : Steps) (g : Got Exprs) → bind (bind g (λ es r3. ok (tree f st es) r3)) (λ e r2. F e (direct e) r2) ≡ bind (bind g (λ es r3. ok (tree f st es) r3)) (λ e r2. F e (directForm f) r2)
+    row f st (ok es r3) = ap (λ (x : Direct). F (tree f st es) x r3) (direct-tree f st es)
+    row f st (no c) = refl
+
+    rest : (f : Form) (K : Steps → List ℕ → Got Exprs) (g : Got Steps) → bind (bind g (λ st r2. bind (K st r2) (λ es r3. ok (tree f st es) r3))) (λ e r2. F e (direct e) r2) ≡ bind (bind g (λ st r2. bind (K st r2) (λ es r3. ok (tree f st es) r3))) (λ e r2. F e (directForm f) r2)
+    rest f K (ok st r2) = row f st (K st r2)
+    rest f K (no c) = refl
+
+    head : (g : Got Form) → bind (bind g (λ f r1. afterForm t (readExpr t d) f r1)) (λ e r2. F e (direct e) r2) ≡ bind (bind g (λ f r1. afterForm t (readExpr t d) f r1)) (λ e r2. F e (directOf g) r2)
+    head (ok f r1) = rest f (λ st r2. times (kidsOf f) (readExpr t d) (marks 0 (itemsOf f) (readExpr t d)) r2) (maybePattern (hasPattern f) t (readExpr t d) r1)
+    head (no c) = refl
+
+-- the expressions of projections and others after them, by both walks
+module _ (w : World) where
+  resolves-exprs : (ps : List Projection) (es : Exprs) (s : State) → resolves w (exprs ps es) s ≡ resolves w es (resolves w (exprs ps done) s)
+  unfolding exprs resolve
+  resolves-exprs [] es s = refl
+  resolves-exprs (projection a e ∷ ps) es s = resolves-exprs ps es (resolve w e s)
+
+  kinds-exprs : (ps : List Projection) (es : Exprs) → kindsEs w (exprs ps es) plain ≡ kindsEs w (exprs ps done) plain ++ kindsEs w es plain
+  unfolding exprs kindsE
+  kinds-exprs [] es = refl
+  kinds-exprs (projection a e ∷ ps) es = rw (kinds-exprs ps es) (sym (append-assoc (kindsE w e general) (kindsEs w (exprs ps done) plain) (kindsEs w es plain)))
+
+  -- an expression alters nothing that is visible
+  kept : (m : Mode) (c : Setting) (e : Expr) (s : Both) → act w m c e s .names .visible ≡ s .names .visible
+  kept m c e s = go (m .resolves)
+    where
+      go : (b : Bool) → when b (resolve w e) (s .names) .visible ≡ s .names .visible
+      go true = keeps w e (s .names) .visible
+      go false = refl
+
+  -- what both walks do with a clause, with clauses
+  abbrev pub walks : Mode → Clause → Both → Both
+  walks m c = step m (clause w c) (kindsC w c)
+
+  abbrev pub walksAll : Mode → List Clause → Both → Both
+  walksAll m cs = step m (clauses w cs) (kinds w cs)
+
+  module _ (t : Tables) (free : (v : ℕ) → t .known v ≡ true) where
+    row-law : (m : Mode) (n : ℕ) (s : Both) (r : List ℕ) → after (acts w m plain) (times n (clauseExpr t) noMore) s r ≡ rowGo (within w t m) n plain s r
+    row-law m n s r = kids-law w t free (within w t) (clauseExpr t) (apart w t free maxDepth) m n plain s r
+
+    -- projections, and what is done with what they leave and carry
+    abbrev Projected : Type 0 → Mode → ℕ → Type 0
+    Projected C m n =
+        (qs : List Pair) (K : Both → List Pair → List ℕ → Got C) (s : Both) (r : List ℕ)
+        → bind (many (readProjection t) n r) (λ ps r2. K (acts w m plain (exprs ps done) s) (qs ++ carriedBy w ps (s .names .visible)) r2) ≡ bind (projectionsGo w t m n qs s r) (λ x r2. K (x .0) (x .1) r2)
+
+    projections-law : {C : Type 0} (m : Mode) (n : ℕ) → Projected C m n
+    unfolding many projectionsGo carriedBy exprs resolve kindsE readProjection
+    projections-law m zero qs K s r = ap₂ (λ (x : Both) (y : List Pair). K x y r) (step-none m s) (append-nil qs)
+    projections-law {C} m (suc n) qs K s r = word (projections-law m n) (wordIn 0 (suc (t .names)) r)
+      where
+        -- what follows an alias and an expression
+        M : ℕ → Expr → Direct → List ℕ → Got C
+        M a e d r2 = bind (projectionsGo w t m n (qs ++ carries w (aliasOf a) d (act w m general e s .names .visible)) (act w m general e s) r2) (λ x r3. K (x .0) (x .1) r3)
+
+        F : List Projection → List ℕ → Got C
+        F ps r2 = K (acts w m plain (exprs ps done) s) (qs ++ carriedBy w ps (s .names .visible)) r2
+
+        later : (a : ℕ) (e : Expr) (ps : List Projection) → qs ++ carriedBy w (projection (aliasOf a) e ∷ ps) (s .names .visible) ≡ (qs ++ carries w (aliasOf a) (direct e) (act w m general e s .names .visible)) ++ carriedBy w ps (act w m general e s .names .visible)
+        later a e ps = rw (kept m general e s) (sym (append-assoc qs (carries w (aliasOf a) (direct e) (s .names .visible)) (carriedBy w ps (s .names .visible))))
+
+        one : Projected C m n → (a : ℕ) (g : Got Expr) → bind (bind (bind g (λ e r2. ok (projection (aliasOf a) e) r2)) (λ x r2. bind (many (readProjection t) n r2) (λ xs r3. ok (x ∷ xs) r3))) F ≡ bind g (λ e r2. M a e (direct e) r2)
+        one ih a (ok e r2) =
+            bind-bind (many (readProjection t) n r2) (λ xs r3. ok (projection (aliasOf a) e ∷ xs) r3) F
+            ∙ bind-each (many (readProjection t) n r2) _ _ (λ ps r3. ap₂ (λ (x : Both) (y : List Pair). K x y r3) (step-two m (resolve w e) (resolves w (exprs ps done)) (kindsE w e general) (kindsEs w (exprs ps done) plain) s) (later a e ps))
+            ∙ ih (qs ++ carries w (aliasOf a) (direct e) (act w m general e s .names .visible)) K (act w m general e s) r2
+        one ih a (no c) = refl
+
+        back : (a : ℕ) (d : Direct) (g : Got Expr) → bind g (λ e r2. M a e d r2) ≡ bind (bind (bind g (λ e r2. ok (act w m general e s) r2)) (λ u r2. projectionsGo w t m n (qs ++ carries w (aliasOf a) d (u .names .visible)) u r2)) (λ x r3. K (x .0) (x .1) r3)
+        back a d (ok e r2) = refl
+        back a d (no c) = refl
+
+        word : Projected C m n → (g : Got ℕ) → bind (bind (bind g (λ a r1. bind (clauseExpr t r1) (λ e r2. ok (projection (aliasOf a) e) r2))) (λ x r2. bind (many (readProjection t) n r2) (λ xs r3. ok (x ∷ xs) r3))) F
+            ≡ bind (bind g (λ a r1. bind (within w t m general s r1) (λ u r2. projectionsGo w t m n (qs ++ carries w (aliasOf a) (directOf (readForm (t .names) r1)) (u .names .visible)) u r2))) (λ x r3. K (x .0) (x .1) r3)
+        word ih (ok a r1) = rw (apart w t free maxDepth m general s r1) (one ih a (clauseExpr t r1) ∙ direct-read t 47 r1 (M a) ∙ back a (directOf (readForm (t .names) r1)) (clauseExpr t r1))
+        word ih (no c) = refl
+
+    module _ (m : Mode) (a b : ℕ) where
+      opening-law : (o : Opening) (s : Both) (r : List ℕ) → after (walks m) (readOpening t a b o) s r ≡ openingGo w t m a b o s r
+      unfolding readOpening openingGo clause kindsC
+      opening-law o s r =
+          map-map (pattern t (clauseExpr t) r) (λ st. opening o a b st) (λ c. walks m c s)
+          ∙ each (pattern t (clauseExpr t) r) (λ st. walks m (opening o a b st) s) (λ st. lays w m st (step m (enter (opens o) a b) [] s)) (λ st. step-two m (enter (opens o) a b) (bindPattern w st) [] (kindsS w st) s)
+          ∙ pattern-law w t free (within w t) (clauseExpr t) (apart w t free maxDepth) m (step m (enter (opens o) a b) [] s) r
+
+      match-law : (s : Both) (r : List ℕ) → after (walks m) (readMatch t a b) s r ≡ bind (flag r) (λ o r1. openingGo w t m a b (match o) s r1)
+      unfolding readMatch readOpening
+      match-law s r = go (flag r)
+        where
+          go : (g : Got ℕ) → bind (bind g (λ o r1. readOpening t a b (match o) r1)) (λ c r2. ok (walks m c s) r2) ≡ bind g (λ o r1. openingGo w t m a b (match o) s r1)
+          go (ok o r1) = opening-law (match o) s r1
+          go (no c) = refl
+
+      -- expressions read for a clause that resolves them all
+      reads-law : (which : Reading) (g : Got Exprs) (s : Both) → bind (bind g (λ es r. ok (reading which a b es) r)) (λ c r. ok (walks m c s) r) ≡ bind g (λ es r. ok (acts w m plain es s) r)
+      unfolding clause kindsC
+      reads-law which (ok es r) s = refl
+      reads-law which (no c) s = refl
+
+      where-law : (s : Both) (r : List ℕ) → after (walks m) (readWhere t a b) s r ≡ rowGo (within w t m) 1 plain s r
+      unfolding readWhere
+      where-law s r = reads-law where' (times 1 (clauseExpr t) noMore r) s ∙ row-law m 1 s r
+
+      marked-law : (which : Reading) (kind : ℕ) (s : Both) (r : List ℕ) → after (walks m) (readMarked t a b which kind) s r ≡ markedGo w t m a b kind s r
+      unfolding readMarked countedMarks markedGo
+      marked-law which kind s r = reads-law which (bind (anyWord r) (λ n r1. marks kind n (clauseExpr t) r1)) s ∙ go (anyWord r)
+        where
+          go : (g : Got ℕ) → bind (bind g (λ n r1. marks kind n (clauseExpr t) r1)) (λ es r2. ok (acts w m plain es s) r2) ≡ bind g (λ n r1. rounds n (markGo w (within w t) m kind) s r1)
+          go (ok n r1) = marks-law w t free (within w t) (clauseExpr t) (apart w t free maxDepth) m kind n s r1
+          go (no c) = refl
+
+      counted-law : (m : Mode) (s : Both) (r : List ℕ) → after (acts w m plain) (countedExprs t) s r ≡ countedRow w t m s r
+      unfolding countedExprs
+      counted-law m s r = go (anyWord r)
+        where
+          go : (g : Got ℕ) → bind (bind g (λ n r1. times n (clauseExpr t) noMore r1)) (λ es r2. ok (acts w m plain es s) r2) ≡ bind g (λ n r1. rowGo (within w t m) n plain s r1)
+          go (ok n r1) = row-law m n s r1
+          go (no c) = refl
+
+      delete-law : (s : Both) (r : List ℕ) → after (walks m) (readDelete t a b) s r ≡ countedRow w t m s r
+      unfolding readDelete
+      delete-law s r = reads-law delete (countedExprs t r) s ∙ counted-law m s r
+
+      -- WITH: its projections, its filter, and what it carries
+      with-step : (ps : List Projection) (es : Exprs) (s : Both) → let qs = carriedBy w ps (s .names .visible) in
+          walks m (with' a b ps es) s ≡ step m (λ y. fresh w b qs (barrier w a b qs y)) [] (acts w m plain es (acts w m plain (exprs ps done) s))
+      unfolding clause kindsC
+      with-step ps es s = λ i. record { names = named (m .resolves) i; kinds = found (m .checks) i }
+        where
+          qs : List Pair
+          qs = carriedBy w ps (s .names .visible)
+
+          named : (q : Bool) → when q (clause w (with' a b ps es)) (s .names) ≡ when q (λ y. fresh w b qs (barrier w a b qs y)) (when q (resolves w es) (when q (resolves w (exprs ps done)) (s .names)))
+          named true = ap (λ (y : State). fresh w b qs (barrier w a b qs y)) (resolves-exprs ps es (s .names))
+          named false = refl
+
+          found : (q : Bool) → when q (told (kindsEs w (exprs ps es) plain)) (s .kinds) ≡ when q (told []) (when q (told (kindsEs w es plain)) (when q (told (kindsEs w (exprs ps done) plain)) (s .kinds)))
+          found true = unfold told in rw (kinds-exprs ps es) (told-append (kindsEs w (exprs ps done) plain) (kindsEs w es plain) (s .kinds))
+          found false = refl
+
+      with-law : (s : Both) (r : List ℕ) → after (walks m) (readWith t a b) s r ≡ withGo w t m a b s r
+      unfolding readWith counted withGo
+      with-law s r = go (anyWord r)
+        where
+          -- the filter, and the step
+          K : Both → List Pair → List ℕ → Got Both
+          K u qs r2 = bind (flag r2) (λ g r3. bind (rowGo (within w t m) g plain u r3) (λ v r4. ok (step m (λ y. fresh w b qs (barrier w a b qs y)) [] v) r4))
+
+          filter : (ps : List Projection) (g : Got ℕ) → bind (bind g (λ n r2. bind (times n (clauseExpr t) noMore r2) (λ es r3. ok (with' a b ps es) r3))) (λ c r3. ok (walks m c s) r3)
+              ≡ bind g (λ n r3. bind (rowGo (within w t m) n plain (acts w m plain (exprs ps done) s) r3) (λ v r4. ok (step m (λ y. fresh w b (carriedBy w ps (s .names .visible)) (barrier w a b (carriedBy w ps (s .names .visible)) y)) [] v) r4))
+          filter ps (ok n r2) =
+              rw (← (row-law m n (acts w m plain (exprs ps done) s) r2))
+              (map-map (times n (clauseExpr t) noMore r2) (λ es. with' a b ps es) (λ c. walks m c s)
+              ∙ each (times n (clauseExpr t) noMore r2) _ _ (λ es. with-step ps es s)
+              ∙ sym (map-map (times n (clauseExpr t) noMore r2) (λ es. acts w m plain es (acts w m plain (exprs ps done) s)) (λ v. step m (λ y. fresh w b (carriedBy w ps (s .names .visible)) (barrier w a b (carriedBy w ps (s .names .visible)) y)) [] v)))
+          filter ps (no c) = refl
+
+          go : (g : Got ℕ) → bind (bind (bind g (λ n r1. many (readProjection t) n r1)) (λ ps r2. bind (flag r2) (λ n r3. bind (times n (clauseExpr t) noMore r3) (λ es r4. ok (with' a b ps es) r4)))) (λ c r2. ok (walks m c s) r2)
+              ≡ bind g (λ n r1. bind (projectionsGo w t m n [] s r1) (λ x r2. K (x .0) (x .1) r2))
+          go (ok n r1) =
+              bind-bind (many (readProjection t) n r1) (λ ps r2. bind (flag r2) (λ n r3. bind (times n (clauseExpr t) noMore r3) (λ es r4. ok (with' a b ps es) r4))) (λ c r2. ok (walks m c s) r2)
+              ∙ bind-each (many (readProjection t) n r1) _ _ (λ ps r2. filter ps (flag r2))
+              ∙ projections-law m n [] K s r1
+          go (no c) = refl
+
+      -- Return looks from outside its scope
+      return-step : (ps : List Projection) (s : Both) → walks m (return a b ps) s ≡ returned m s (acts w m plain (exprs ps done) (step m (λ y. leave y (enter returnScope a b y)) [] s))
+      unfolding clause kindsC
+      return-step ps s = λ i. record { names = named (m .resolves) i; kinds = found (m .checks) i }
+        where
+          named : (q : Bool) → when q (clause w (return a b ps)) (s .names) ≡ when q (standing (s .names .visible) (suc (s .names .last))) (when q (resolves w (exprs ps done)) (when q (λ y. leave y (enter returnScope a b y)) (s .names)))
+          named true = refl
+          named false = refl
+
+          found : (q : Bool) → when q (told (kindsEs w (exprs ps done) plain)) (s .kinds) ≡ when q (told (kindsEs w (exprs ps done) plain)) (when q (told []) (s .kinds))
+          found true = unfold told in refl
+          found false = refl
+
+      return-law : (s : Both) (r : List ℕ) → after (walks m) (readReturn t a b) s r ≡ returnGo w t m a b s r
+      unfolding readReturn counted returnGo
+      return-law s r = go (anyWord r)
+        where
+          s1 : Both
+          s1 = step m (λ y. leave y (enter returnScope a b y)) [] s
+
+          go : (g : Got ℕ) → bind (bind (bind g (λ n r1. many (readProjection t) n r1)) (λ ps r2. ok (return a b ps) r2)) (λ c r2. ok (walks m c s) r2) ≡ bind g (λ n r1. bind (projectionsGo w t m n [] s1 r1) (λ x r2. ok (returned m s (x .0)) r2))
+          go (ok n r1) =
+              map-map (many (readProjection t) n r1) (λ ps. return a b ps) (λ c. walks m c s)
+              ∙ each (many (readProjection t) n r1) _ _ (λ ps. return-step ps s)
+              ∙ projections-law m n [] (λ u qs r2. ok (returned m s u) r2) s1 r1
+          go (no c) = refl
+
+      -- "Unwind's list, Call's arguments .. are not resolved"
+      unwind-step : (v : ℕ) (e : Expr) (s : Both) → walks m (unwind a b v e) s ≡ act w (unresolving m) general e (step m (λ y. bindName (nameOf w v) v valueKind (enter unwindScope a b y)) [] s)
+      unfolding clause kindsC
+      unwind-step v e s = λ i. record { names = when (m .resolves) (λ y. bindName (nameOf w v) v valueKind (enter unwindScope a b y)) (s .names); kinds = found (m .checks) i }
+        where
+          found : (q : Bool) → when q (told (kindsE w e general)) (s .kinds) ≡ when q (told (kindsE w e general)) (when q (told []) (s .kinds))
+          found true = unfold told in refl
+          found false = refl
+
+      unwind-law : (s : Both) (r : List ℕ) → after (walks m) (readUnwind t a b) s r ≡ unwindGo w t m a b s r
+      unfolding readUnwind unwindGo
+      unwind-law s r = go (anyWord r)
+        where
+          go : (g : Got ℕ) → bind (bind g (λ v r1. cond (t .known v) (bind (clauseExpr t r1) (λ e r2. ok (unwind a b v e) r2)) (no 7))) (λ c r2. ok (walks m c s) r2)
+              ≡ bind g (λ v r1. within w t (unresolving m) general (step m (λ y. bindName (nameOf w v) v valueKind (enter unwindScope a b y)) [] s) r1)
+          go (ok v r1) =
+              rw (free v, apart w t free maxDepth (unresolving m) general (step m (λ y. bindName (nameOf w v) v valueKind (enter unwindScope a b y)) [] s) r1)
+              (map-map (clauseExpr t r1) (λ e. unwind a b v e) (λ c. walks m c s) ∙ each (clauseExpr t r1) _ _ (λ e. unwind-step v e s))
+          go (no c) = refl
+
+      -- yields, one after the other
+      yield-law : (s : Both) (r : List ℕ) → yieldGo w t m a b s r ≡ after (yielded w t m a b) (readYield t) s r
+      unfolding yieldGo
+      yield-law s r = refl
+
+      yields-cons : (y : Yield) (ys : List Yield) (s : Both) → step m (yields w a b (y ∷ ys)) [] s ≡ step m (yields w a b ys) [] (yielded w t m a b y s)
+      unfolding yields
+      yields-cons (yield x alias v) ys s = step-two m (bindAnew w a b (yieldName x alias) v valueKind) (yields w a b ys) [] [] s
+
+      yields-nil : (s : Both) → step m (yields w a b []) [] s ≡ s
+      unfolding yields
+      yields-nil s = step-none m s
+
+      call-step : (es : Exprs) (ys : List Yield) (s : Both) → walks m (call a b es ys) s ≡ step m (yields w a b ys) [] (acts w (unresolving m) plain es (step m (enter callScope a b) [] s))
+      unfolding clause kindsC
+      call-step es ys s = λ i. record { names = named (m .resolves) i; kinds = found (m .checks) i }
+        where
+          named : (q : Bool) → when q (clause w (call a b es ys)) (s .names) ≡ when q (yields w a b ys) (when q (enter callScope a b) (s .names))
+          named true = refl
+          named false = refl
+
+          found : (q : Bool) → when q (told (kindsEs w es plain)) (s .kinds) ≡ when q (told []) (when q (told (kindsEs w es plain)) (when q (told []) (s .kinds)))
+          found true = unfold told in refl
+          found false = refl
+
+      call-law : (s : Both) (r : List ℕ) → after (walks m) (readCall t a b) s r ≡ callGo w t m a b s r
+      unfolding readCall counted callGo
+      call-law s r = rw (← (counted-law (unresolving m) s1 r)) (go (countedExprs t r))
+        where
+          s1 : Both
+          s1 = step m (enter callScope a b) [] s
+
+          named : (es : Exprs) (g : Got ℕ) → bind (bind (bind g (λ n r2. many (readYield t) n r2)) (λ ys r2. ok (call a b es ys) r2)) (λ c r2. ok (walks m c s) r2)
+              ≡ bind g (λ n r2. rounds n (yieldGo w t m a b) (acts w (unresolving m) plain es s1) r2)
+          named es (ok n r2) =
+              map-map (many (readYield t) n r2) (λ ys. call a b es ys) (λ c. walks m c s)
+              ∙ each (many (readYield t) n r2) _ _ (λ ys. call-step es ys s)
+              ∙ many-law (readYield t) (yieldGo w t m a b) (yielded w t m a b) (λ ys. step m (yields w a b ys) []) yield-law yields-nil yields-cons n (acts w (unresolving m) plain es s1) r2
+          named es (no c) = refl
+
+          go : (g : Got Exprs) → bind (bind g (λ es r1. bind (bind (anyWord r1) (λ n r2. many (readYield t) n r2)) (λ ys r2. ok (call a b es ys) r2))) (λ c r2. ok (walks m c s) r2)
+              ≡ bind (bind g (λ es r1. ok (acts w (unresolving m) plain es s1) r1)) (λ u r1. bind (anyWord r1) (λ n r2. rounds n (yieldGo w t m a b) u r2))
+          go (ok es r1) = named es (anyWord r1)
+          go (no c) = refl
+
+      -- a row of a table of readings, and the rest of it
+      entry : (q : Bool) (x y : Got Clause) (x' y' : Got Both) (s : Both) → bind x (λ c r. ok (walks m c s) r) ≡ x' → bind y (λ c r. ok (walks m c s) r) ≡ y' → bind (cond q x y) (λ c r. ok (walks m c s) r) ≡ cond q x' y'
+      entry true x y x' y' s h k = h
+      entry false x y x' y' s h k = k
+
+      body-law : (kind : ℕ) (s : Both) (r : List ℕ) → after (walks m) (readBody t a b kind) s r ≡ bodyGo w t m a b kind s r
+      unfolding readBody bodyGo
+      body-law kind s r =
+          entry (eqb kind 1) _ _ _ _ s (match-law s r)
+          (entry (eqb kind 2) _ _ _ _ s (where-law s r)
+          (entry (eqb kind 3) _ _ _ _ s (with-law s r)
+          (entry (eqb kind 4) _ _ _ _ s (return-law s r)
+          (entry (eqb kind 5) _ _ _ _ s (unwind-law s r)
+          (entry (eqb kind 6) _ _ _ _ s (opening-law create s r)
+          (entry (eqb kind 7) _ _ _ _ s (opening-law merge s r)
+          (entry (eqb kind 8) _ _ _ _ s (marked-law set 1 s r)
+          (entry (eqb kind 9) _ _ _ _ s (marked-law remove 2 s r)
+          (entry (eqb kind 10) _ _ _ _ s (delete-law s r) (entry (eqb kind 11) _ _ _ _ s (call-law s r) refl))))))))))
+
+    -- A clause: read as the definition reads it, where any variable may be bound, and then walked by both.
+    pub apart-clause : (m : Mode) (s : Both) (r : List ℕ) → clauseGo w t m s r ≡ after (walks m) (readClause t) s r
+    unfolding readClause clauseGo
+    apart-clause m s r = kind (anyWord r)
+      where
+        stop : (k a : ℕ) (g : Got ℕ) → bind g (λ b r3. bodyGo w t m a b k s r3) ≡ bind (bind g (λ b r3. readBody t a b k r3)) (λ c r2. ok (walks m c s) r2)
+        stop k a (ok b r3) = sym (body-law m a b k s r3)
+        stop k a (no c) = refl
+
+        start : (k : ℕ) (g : Got ℕ) → bind g (λ a r2. bind (wordIn a 4294967296 r2) (λ b r3. bodyGo w t m a b k s r3)) ≡ bind (bind g (λ a r2. bind (wordIn a 4294967296 r2) (λ b r3. readBody t a b k r3))) (λ c r2. ok (walks m c s) r2)
+        start k (ok a r2) = stop k a (wordIn a 4294967296 r2)
+        start k (no c) = refl
+
+        kind : (g : Got ℕ) → bind g (λ k r1. bind (anyWord r1) (λ a r2. bind (wordIn a 4294967296 r2) (λ b r3. bodyGo w t m a b k s r3)))
+            ≡ bind (bind g (λ k r1. bind (anyWord r1) (λ a r2. bind (wordIn a 4294967296 r2) (λ b r3. readBody t a b k r3)))) (λ c r2. ok (walks m c s) r2)
+        kind (ok k r1) = start k (anyWord r1)
+        kind (no c) = refl
+
+    clauses-nil : (m : Mode) (s : Both) → walksAll m [] s ≡ s
+    unfolding clauses kinds
+    clauses-nil m s = step-none m s
+
+    clauses-cons : (m : Mode) (c : Clause) (cs : List Clause) (s : Both) → walksAll m (c ∷ cs) s ≡ walksAll m cs (walks m c s)
+    unfolding clauses kinds
+    clauses-cons m c cs s = step-two m (clause w c) (clauses w cs) (kindsC w c) (kinds w cs) s
+
+    pub apart-clauses : (m : Mode) (n : ℕ) (s : Both) (r : List ℕ) → rounds n (clauseGo w t m) s r ≡ after (walksAll m) (many (readClause t) n) s r
+    apart-clauses m n s r = sym (many-law (readClause t) (clauseGo w t m) (walks m) (walksAll m) (apart-clause m) (clauses-nil m) (clauses-cons m) n s r)
+
+    -- An arm, by the name walk alone.
+    abbrev pub walksArm : Mode → Arm → Both → Both
+    walksArm m x = step (inArms m) (arms w (x ∷ [])) []
+
+    pub apart-arm : (m : Mode) (s : Both) (r : List ℕ) → armGo w t m s r ≡ after (walksArm m) (readArm t) s r
+    unfolding readArm counted armGo
+    apart-arm m s r = begin' (anyWord r)
+      where
+        s0 : Both
+        s0 = step (inArms m) (standing [] 0) [] s
+
+        walked : (a b : ℕ) (cs : List Clause) → walksArm m (arm a b cs) s ≡ walksAll (inArms m) cs s0
+        walked a b cs = unfold arms in λ i. record { names = when-two (m .resolves) (standing [] 0) (clauses w cs) (s .names) i; kinds = s .kinds }
+
+        count : (a b : ℕ) (g : Got ℕ) → bind g (λ n r3. rounds n (clauseGo w t (inArms m)) s0 r3) ≡ bind (bind (bind g (λ n r3. many (readClause t) n r3)) (λ cs r3. ok (arm a b cs) r3)) (λ x r2. ok (walksArm m x s) r2)
+        count a b (ok n r3) =
+            apart-clauses (inArms m) n s0 r3
+            ∙ sym (each (many (readClause t) n r3) _ _ (walked a b))
+            ∙ sym (map-map (many (readClause t) n r3) (λ cs. arm a b cs) (λ x. walksArm m x s))
+        count a b (no c) = refl
+
+        stop : (a : ℕ) (g : Got ℕ) → bind g (λ b r2. bind (anyWord r2) (λ n r3. rounds n (clauseGo w t (inArms m)) s0 r3)) ≡ bind (bind g (λ b r2. bind (bind (anyWord r2) (λ n r3. many (readClause t) n r3)) (λ cs r3. ok (arm a b cs) r3))) (λ x r2. ok (walksArm m x s) r2)
+        stop a (ok b r2) = count a b (anyWord r2)
+        stop a (no c) = refl
+
+        begin' : (g : Got ℕ) → bind g (λ a r1. bind (wordIn a 4294967296 r1) (λ b r2. bind (anyWord r2) (λ n r3. rounds n (clauseGo w t (inArms m)) s0 r3)))
+            ≡ bind (bind g (λ a r1. bind (wordIn a 4294967296 r1) (λ b r2. bind (bind (anyWord r2) (λ n r3. many (readClause t) n r3)) (λ cs r3. ok (arm a b cs) r3)))) (λ x r2. ok (walksArm m x s) r2)
+        begin' (ok a r1) = stop a (wordIn a 4294967296 r1)
+        begin' (no c) = refl
+
+    arms-nil : (m : Mode) (s : Both) → step (inArms m) (arms w []) [] s ≡ s
+    unfolding arms
+    arms-nil m s = step-none (inArms m) s
+
+    arms-cons : (m : Mode) (x : Arm) (xs : List Arm) (s : Both) → step (inArms m) (arms w (x ∷ xs)) [] s ≡ step (inArms m) (arms w xs) [] (walksArm m x s)
+    unfolding arms
+    arms-cons m (arm a b cs) xs s = step-two (inArms m) (λ y. clauses w cs (standing [] 0 y)) (arms w xs) [] [] s
+
+    pub apart-arms : (m : Mode) (n : ℕ) (s : Both) (r : List ℕ) → rounds n (armGo w t m) s r ≡ after (λ xs. step (inArms m) (arms w xs) []) (many (readArm t) n) s r
+    apart-arms m n s r = sym (many-law (readArm t) (armGo w t m) (walksArm m) (λ xs. step (inArms m) (arms w xs) []) (apart-arm m) (arms-nil m) (arms-cons m) n s r)
