@@ -7,12 +7,13 @@ use lib.Dec.{leb}
 use lib.ListN.{length, drop}
 use Rattle.words.specs.Words.{words}
 use Rattle.words.specs.Front.{putFront}
-use Rattle.heads.specs.Got.{Got, ok, isOk}
+use Rattle.heads.specs.Got.{Got, ok, isOk, many}
 use Rattle.heads.specs.Answer.{tables}
 use Rattle.expr.specs.Tree.{Expr}
 use Rattle.expr.specs.Read.{reader}
 use Rattle.clauses.specs.Tree.{Clause}
-use Rattle.clauses.specs.Read.{readClause}
+use Rattle.clauses.specs.Read.{readClause, readArm}
+use Rattle.clauses.specs.Write.{writeClause, writeArm}
 use Rattle.sheet.specs.Trailer.{placesOf}
 use Rattle.sheet.specs.Read.{Sheet, accepted, refused}
 use Rattle.sheet.specs.declared.trailer.Opened.{Opened}
@@ -20,7 +21,8 @@ use Rattle.sheet.specs.declared.trailer.Opened.the-variants as opened
 use Rattle.condition.specs.Cond.{Cond}
 use Rattle.condition.specs.Printed.{printed}
 use Rattle.condition_text.specs.Tree.{condE}
-use Rattle.condition_printer.specs.Conditions.{ofClause}
+use Rattle.condition_text.specs.Write.{Put}
+use Rattle.condition_printer.specs.Conditions.{ofClause, ofArm, inRow}
 use Rattle.condition_printer.specs.declared.Shown.{Shown}
 use Rattle.condition_printer.specs.declared.Shown.the-variants as answer
 use Rattle.condition_printer.specs.declared.lines.Place.{Place}
@@ -61,6 +63,20 @@ textOf of at x = pageOf (of x at)
 -- the words of a row
 abbrev pub rowWords : {A : Type 0} → (A → List ℕ) → List A → List ℕ
 rowWords write xs = flatMap write xs
+
+-- the lines of the clause, or of the n clauses, at a word stand from byte k on
+abbrev pub PutClause : List ℕ → ℕ → ℕ → ℕ → List ℕ → List ℕ → ℕ → ℕ → Type 0
+PutClause ws names at k old new next end = Put (readClause (tables ws names 0 0) (drop at ws)) writeClause (textOf ofClause at) ws at k old new next end
+
+abbrev pub PutClauses : List ℕ → ℕ → ℕ → ℕ → ℕ → List ℕ → List ℕ → ℕ → ℕ → Type 0
+PutClauses ws names n at k old new next end = Put (many (readClause (tables ws names 0 0)) n (drop at ws)) (rowWords writeClause) (textOf (inRow writeClause ofClause) at) ws at k old new next end
+
+-- and of arms
+abbrev pub PutArm : List ℕ → ℕ → ℕ → ℕ → List ℕ → List ℕ → ℕ → ℕ → Type 0
+PutArm ws names at k old new next end = Put (readArm (tables ws names 0 0) (drop at ws)) writeArm (textOf ofArm at) ws at k old new next end
+
+abbrev pub PutArms : List ℕ → ℕ → ℕ → ℕ → ℕ → List ℕ → List ℕ → ℕ → ℕ → Type 0
+PutArms ws names n at k old new next end = Put (many (readArm (tables ws names 0 0)) n (drop at ws)) (rowWords writeArm) (textOf (inRow writeArm ofArm) at) ws at k old new next end
 
 -- where the condition of a clause stands: the tree there is the clause's, and ends no later
 pub record Stands (ws : List ℕ) (names at q : ℕ) : Type 0 where

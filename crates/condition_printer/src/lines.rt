@@ -15,10 +15,8 @@ ghost use Rattle.words.specs.Words.{words};
 ghost use Rattle.heads.specs.Got.{many, isOk};
 ghost use Rattle.heads.specs.Answer.{tables};
 ghost use Rattle.clauses.specs.Read.{readClause, readArm};
-ghost use Rattle.clauses.specs.Write.{writeClause, writeArm};
-ghost use Rattle.condition_text.specs.Write.{Ready, Put};
-ghost use Rattle.condition_printer.specs.Conditions.{ofClause, ofArm, inRow};
-ghost use Rattle.condition_printer.specs.Page.{textOf, Placed, rowWords};
+ghost use Rattle.condition_text.specs.Write.{Ready};
+ghost use Rattle.condition_printer.specs.Page.{Placed, PutClause, PutClauses, PutArm, PutArms};
 
 // Where a clause's condition stands, or none.
 pub enum Place {
@@ -59,7 +57,7 @@ fn place_of(s: &[u8], names: u32, at: usize) -> Place
 // A clause.
 fn print_clause(s: &[u8], names: u32, at: usize, out: &mut [u8], k: usize) -> Printed
     requires { ⌜ Ready (readClause (tables (words (now s)) names 0 0) (drop at (words (now s)))) (words (now s)) at k (length (now out)) ⌝ }
-    ensures { λ r. ⌜ Put (readClause (tables (words (now (s .entry))) names 0 0) (drop at (words (now (s .entry))))) writeClause (textOf ofClause at) (words (now (s .entry))) at k (now (out .entry)) (now (out .exit)) (r .next) (r .end) ⌝ }
+    ensures { λ r. ⌜ PutClause (words (now (s .entry))) names at k (now (out .entry)) (now (out .exit)) (r .next) (r .end) ⌝ }
 {
     let a = read_clause(s, names, 0, 0, at);
     let Read::Next(next) = a else {
@@ -77,7 +75,7 @@ fn print_clause(s: &[u8], names: u32, at: usize, out: &mut [u8], k: usize) -> Pr
 // n clauses.
 pub fn print_clauses(s: &[u8], names: u32, at: usize, n: u32, out: &mut [u8], k: usize) -> Printed
     requires { ⌜ Ready (many (readClause (tables (words (now s)) names 0 0)) n (drop at (words (now s)))) (words (now s)) at k (length (now out)) ⌝ }
-    ensures { λ r. ⌜ Put (many (readClause (tables (words (now (s .entry))) names 0 0)) n (drop at (words (now (s .entry))))) (rowWords writeClause) (textOf (inRow writeClause ofClause) at) (words (now (s .entry))) at k (now (out .entry)) (now (out .exit)) (r .next) (r .end) ⌝ }
+    ensures { λ r. ⌜ PutClauses (words (now (s .entry))) names n at k (now (out .entry)) (now (out .exit)) (r .next) (r .end) ⌝ }
 {
     let mut p = at;
     let mut j = k;
@@ -94,7 +92,7 @@ pub fn print_clauses(s: &[u8], names: u32, at: usize, n: u32, out: &mut [u8], k:
 // An arm: its clauses, after its span and their count.
 fn print_arm(s: &[u8], names: u32, at: usize, out: &mut [u8], k: usize) -> Printed
     requires { ⌜ Ready (readArm (tables (words (now s)) names 0 0) (drop at (words (now s)))) (words (now s)) at k (length (now out)) ⌝ }
-    ensures { λ r. ⌜ Put (readArm (tables (words (now (s .entry))) names 0 0) (drop at (words (now (s .entry))))) writeArm (textOf ofArm at) (words (now (s .entry))) at k (now (out .entry)) (now (out .exit)) (r .next) (r .end) ⌝ }
+    ensures { λ r. ⌜ PutArm (words (now (s .entry))) names at k (now (out .entry)) (now (out .exit)) (r .next) (r .end) ⌝ }
 {
     let n = word(s, at + 2);
     print_clauses(s, names, at + 3, n, out, k)
@@ -103,7 +101,7 @@ fn print_arm(s: &[u8], names: u32, at: usize, out: &mut [u8], k: usize) -> Print
 // n arms.
 pub fn print_arms(s: &[u8], names: u32, at: usize, n: u32, out: &mut [u8], k: usize) -> Printed
     requires { ⌜ Ready (many (readArm (tables (words (now s)) names 0 0)) n (drop at (words (now s)))) (words (now s)) at k (length (now out)) ⌝ }
-    ensures { λ r. ⌜ Put (many (readArm (tables (words (now (s .entry))) names 0 0)) n (drop at (words (now (s .entry))))) (rowWords writeArm) (textOf (inRow writeArm ofArm) at) (words (now (s .entry))) at k (now (out .entry)) (now (out .exit)) (r .next) (r .end) ⌝ }
+    ensures { λ r. ⌜ PutArms (words (now (s .entry))) names n at k (now (out .entry)) (now (out .exit)) (r .next) (r .end) ⌝ }
 {
     let mut p = at;
     let mut j = k;

@@ -2,13 +2,15 @@
 -- and its word position in the sheet".
 use Prim.Native.Nat.{ℕ, _+_}
 use mathlib.Core.List.{List, [], _∷_}
-use lib.ListN.{length}
+use lib.ListN.{length, drop}
 use Rattle.heads.specs.declared.Form.{Form}
 use Rattle.heads.specs.declared.Form.the-variants.{Leaf, Var, Unresolved, Prop, Two, Slice, Many, BinOp, UnaryOp, Case, IsNull, PatternPredicate, ListComprehension, PatternComprehension, ListPredicate, MapProjection}
 use Rattle.expr.specs.Tree.{Expr, var, unresolved, node, predicate, comprehension, Exprs, done, more, mark}
+use Rattle.expr.specs.Read.{reader}
 use Rattle.expr.specs.Write.{writeE}
 use Rattle.condition.specs.Cond.{Cond, atom, unary, binary}
 use Rattle.condition.specs.Printed.{printed}
+use Rattle.condition_text.specs.Write.{Put}
 
 -- an operator's tree over its operands' trees; any other number of operands is none that a sheet has
 abbrev pub unaryOf : ℕ → ℕ → List Cond → Cond
@@ -59,3 +61,7 @@ unfoldable mutual
 -- the text of an expression whose first word is number `at`, in a place whose bare operands have at least level m
 abbrev pub printedAt : ℕ → ℕ → Expr → List ℕ
 printedAt m at e = printed m (condE e at)
+
+-- the expression at a word is printed from byte k on, in a place whose bare operands have at least level m
+abbrev pub PutExpr : List ℕ → ℕ → ℕ → ℕ → ℕ → ℕ → List ℕ → List ℕ → ℕ → ℕ → Type 0
+PutExpr ws names room m at k old new next end = Put (reader ws names 0 0 room (drop at ws)) writeE (printedAt m at) ws at k old new next end

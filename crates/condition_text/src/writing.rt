@@ -14,9 +14,8 @@ ghost use Rattle.words.specs.Words.{words};
 ghost use Rattle.condition.specs.Cond.{binarySign, unarySign, atomText};
 ghost use Rattle.condition_text.specs.Over.{maybeByte};
 ghost use Rattle.expr.specs.Read.{reader};
-ghost use Rattle.expr.specs.Write.{writeE};
-ghost use Rattle.condition_text.specs.Tree.{printedAt};
-ghost use Rattle.condition_text.specs.Write.{Wrote, Ready, Put};
+ghost use Rattle.condition_text.specs.Tree.{PutExpr};
+ghost use Rattle.condition_text.specs.Write.{Wrote, Ready};
 
 // Where an expression ends, and where its text does.
 pub struct Printed {
@@ -64,7 +63,7 @@ pub fn print(
     k: usize,
 ) -> Printed
     requires { ⌜ Ready (reader (words (now s)) names 0 0 room (drop at (words (now s)))) (words (now s)) at k (length (now out)) ⌝ }
-    ensures { λ r. ⌜ Put (reader (words (now (s .entry))) names 0 0 room (drop at (words (now (s .entry))))) writeE (printedAt m at) (words (now (s .entry))) at k (now (out .entry)) (now (out .exit)) (r .next) (r .end) ⌝ }
+    ensures { λ r. ⌜ PutExpr (words (now (s .entry))) names room m at k (now (out .entry)) (now (out .exit)) (r .next) (r .end) ⌝ }
 {
     let code = word(s, at);
     if code == 15 {
