@@ -14,7 +14,7 @@ use Rattle.tables.specs.Row.{valueKind}
 use Rattle.semantics.specs.World.{World, opens, Direct, aVar, aName, other, yieldName, nameOf}
 use Rattle.semantics.specs.Resolve.{Pair, enter, leave, standing, bindName, bindAnew, carries, barrier, fresh}
 use Rattle.semantics.specs.Kinds.{Setting, general, plain}
-use Rattle.fused.specs.Fused.{Both, Mode, unresolving, Go, when, step, rounds, rowGo, markGo, patternGo, exprGo}
+use Rattle.fused.specs.Fused.{Both, Mode, unresolving, Go, when, step, noting, rounds, rowGo, markGo, patternGo, exprGo}
 
 -- the two forms of an expression that a WITH may carry, by its head
 abbrev pub directForm : Form → Direct
@@ -41,7 +41,7 @@ directOf (no c) = other
 
 -- after a Return its scope is current, and what was visible before it
 abbrev pub returned : Mode → Both → Both → Both
-returned m s u = record { names = when (m .resolves) (standing (s .names .visible) (suc (s .names .last))) (u .names); kinds = u .kinds }
+returned m s u = record { names = when (m .resolves) (standing (s .names .visible) (suc (s .names .last))) (u .names); kinds = u .kinds; known = u .known }
 
 -- an arm is walked by names alone, from scope 0, with nothing visible
 abbrev pub inArms : Mode → Mode
@@ -86,7 +86,9 @@ module _ (w : World) (t : Tables) where
         (λ n r1. bind (projectionsGo m n [] (step m (λ y. leave y (enter returnScope a b y)) [] s) r1) (λ x r2. ok (returned m s (x .0)) r2))
 
     unfoldable pub unwindGo : Go
-    unwindGo s r = bind (anyWord r) (λ v r1. within (unresolving m) general (step m (λ y. bindName (nameOf w v) v valueKind (enter unwindScope a b y)) [] s) r1)
+    unwindGo s r =
+        bind (anyWord r)
+        (λ v r1. within (unresolving m) general (noting w (v ∷ []) (step m (λ y. bindName (nameOf w v) v valueKind (enter unwindScope a b y)) [] s)) r1)
 
     unfoldable pub callGo : Go
     callGo s r =

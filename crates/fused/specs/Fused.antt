@@ -1,8 +1,9 @@
 -- Reading, resolving and checking kinds in one: what the words at a place make of where both walks stand, or the cause of a refusal. proofs/
 -- Apart has it that this is the definition's reading, and then its two walks over what was read.
 use Prim.Native.Nat.{ℕ, zero, suc}
-use mathlib.Core.Bool.{Bool, true, false}
+use mathlib.Core.Bool.{Bool, true, false, _&&_}
 use mathlib.Core.List.{List, [], _∷_}
+use mathlib.Core.Option.{Option, none, some}
 use Rattle.scope.specs.Graph.{comprehensionScope}
 use Rattle.heads.specs.Got.{Got, ok, no, bind, wordIn, anyWord}
 use Rattle.heads.specs.Form.{readForm, kidsOf, itemsOf}
@@ -11,16 +12,19 @@ use Rattle.heads.specs.declared.Elem.{Elem}
 use Rattle.heads.specs.declared.Part.{Part}
 use Rattle.heads.specs.declared.Form.{Form}
 use Rattle.heads.specs.declared.Form.the-variants.{Leaf, Var, Unresolved, Prop, Two, Slice, Many, BinOp, UnaryOp, Case, IsNull, PatternPredicate, ListComprehension, PatternComprehension, ListPredicate, MapProjection}
+use Rattle.expr.specs.Binders.{binder, allKnown}
 use Rattle.tables.specs.Row.{pathKind}
 use Rattle.semantics.specs.Log.{Finding}
 use Rattle.semantics.specs.World.{World, variable}
 use Rattle.semantics.specs.Resolve.{State, lookup, enter, leave, useVar, useName, bindPath, bindElem}
 use Rattle.semantics.specs.Kinds.{Setting, Pair, both, plain, patternType, typeOf, settings, atType, atRow, misplaced, rowFor}
 
--- Where both walks stand: the name walk's state, and what the kind walk found, newest first.
+-- Where both walks stand: the name walk's state, what the kind walk found, newest first, and whether every variable bound so far has a
+-- row (cause 7: "a node, relationship, path or Unwind variable anywhere without a binding").
 pub record Both : Type 0 where
   pub names : State
   pub kinds : List Finding
+  pub known : Bool
 
 -- Which walks look at a place: names are "not resolved" in some, and kinds are checked in the "head only".
 pub record Mode : Type 0 where
@@ -44,7 +48,7 @@ told (f ∷ fs) k = told fs (f ∷ k)
 
 -- a step of the name walk and findings of the kind walk, of those that look
 abbrev pub step : Mode → (State → State) → List Finding → Both → Both
-step m f fs s = record { names = when (m .resolves) f (s .names); kinds = when (m .checks) (told fs) (s .kinds) }
+step m f fs s = record { names = when (m .resolves) f (s .names); kinds = when (m .checks) (told fs) (s .kinds); known = s .known }
 
 -- one after the other
 unfoldable pub rounds : ℕ → Go → Go
@@ -61,7 +65,7 @@ same s = s
 
 -- out of a comprehension's scope; any other head leaves what its parts left
 abbrev pub left : Mode → Both → Both → Both
-left m s t = record { names = when (m .resolves) (leave (s .names)) (t .names); kinds = t .kinds }
+left m s t = record { names = when (m .resolves) (leave (s .names)) (t .names); kinds = t .kinds; known = t .known }
 
 abbrev pub tailOf : Mode → Form → Both → Both → Both
 tailOf m (Leaf k) s t = t
@@ -81,7 +85,15 @@ tailOf m (PatternComprehension a b g) s t = left m s t
 tailOf m (ListPredicate g) s t = t
 tailOf m (MapProjection n) s t = t
 
+abbrev pub isSome : {A : Type 0} → Option A → Bool
+isSome none = false
+isSome (some a) = true
+
 module _ (w : World) where
+  -- variables are bound, whichever walk looks
+  abbrev pub noting : List ℕ → Both → Both
+  noting vs s = record { names = s .names; kinds = s .kinds; known = s .known && allKnown (λ v. isSome (w .row v)) vs }
+
   -- a name, sought in the visible list
   abbrev pub nameUse : ℕ → State → State
   nameUse x s = useName w x (lookup x (s .visible)) s
@@ -107,10 +119,12 @@ module _ (w : World) where
 
   -- an element's and a part's own binder
   abbrev pub elemStep : Mode → Elem → Both → Both
-  elemStep m h = step m (bindElem w (h .kind) (variable (h .variable))) (misplaced (suc (h .kind)) (h .kind) (h .start) (h .end) (rowFor w (h .variable)))
+  elemStep m h s =
+      noting (binder (h .variable))
+      (step m (bindElem w (h .kind) (variable (h .variable))) (misplaced (suc (h .kind)) (h .kind) (h .start) (h .end) (rowFor w (h .variable))) s)
 
   abbrev pub partStep : Mode → Part → Both → Both
-  partStep m h = step m (bindPath w (variable (h .path))) (misplaced 1 pathKind 0 0 (rowFor w (h .path)))
+  partStep m h s = noting (binder (h .path)) (step m (bindPath w (variable (h .path))) (misplaced 1 pathKind 0 0 (rowFor w (h .path))) s)
 
   -- E walks an expression within, by mode and setting
   module _ (E : Mode → Setting → Go) where
