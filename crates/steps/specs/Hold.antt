@@ -1,0 +1,226 @@
+-- How both walks' state stands in the lent words, and what a step of the code does to it.
+use Prim.Native.Nat.{ℕ, zero, suc, _+_, _-_, _*_, _/_, _%_, _<_, _≤_}
+use mathlib.Core.Path.{_≡_}
+use mathlib.Core.Bool.{Bool, true, false, cond, _&&_}
+use mathlib.Core.List.{List, [], _∷_}
+use mathlib.Core.Option.{Option, none, some}
+use lib.Dec.{eqb}
+use lib.ListN.{length, getD, set}
+use Rattle.heads.specs.declared.Maybe.{Maybe}
+use Rattle.heads.specs.declared.Form.{Form}
+use Rattle.heads.specs.declared.Form.the-variants.{Leaf, Var, Unresolved, Prop, Two, Slice, Many, BinOp, UnaryOp, Case, IsNull, PatternPredicate, ListComprehension, PatternComprehension, ListPredicate, MapProjection}
+use Rattle.expr.specs.Binders.{binder}
+use Rattle.tables.specs.Row.{pathKind, Row, row}
+use Rattle.semantics.specs.Log.{Finding, finding, missing, write, answer}
+use Rattle.semantics.specs.Log.{found as found-as}
+use Rattle.semantics.specs.World.{World, variable, kindOf}
+use Rattle.semantics.specs.Resolve.{State, say, bindPath}
+use Rattle.semantics.specs.Kinds.{Pair, both, atRow, misplaced, rowFor}
+use Rattle.fused.specs.Fused.{Both, Mode, told, step, noting}
+use Rattle.rows.specs.Rows.{idAt, Hung}
+use Rattle.visible.specs.Visible.{seens, Descends, Tabled}
+use Rattle.steps.specs.Memory.{atOf, topOf, curOf, lastOf, saidOf, toldOf, lostOf, heldOf, levelOf, namesIn, slotsIn, starIn, identIn, rowsIn, bindingsIn, multIn, shiftIn, wantsIn, chainsIn, settingOf, events, findings, eventOf, kept}
+use Rattle.steps.specs.declared.row.Row.{Row as Row'}
+use Rattle.steps.specs.declared.row.Row.the-variants as row'
+
+-- the tables are in order: the rows stand in the words, with names that `vis` has a place for and kinds up to Value, and hang in chains
+pub record Fine (ws tab : List ℕ) : Type 0 where
+  pub long : 16 ≤ length tab
+  pub short : length ws ≤ 2048
+  pub some : 0 < slotsIn tab
+  pub places : namesIn tab ≤ slotsIn tab
+  pub rows : rowsIn tab + bindingsIn tab * 5 ≤ length ws
+  pub named : (j : ℕ) → j < bindingsIn tab → getD ws (rowsIn tab + j * 5 + 1) 0 < slotsIn tab
+  pub kinded : (j : ℕ) → j < bindingsIn tab → getD ws (rowsIn tab + j * 5 + 2) 0 ≤ 4
+  pub hung : Hung (multIn tab) (shiftIn tab) (bindingsIn tab) (idAt ws (rowsIn tab)) (chainsIn tab)
+
+-- where every event is wanted, each word pays for a third of one more: WITH says a carried pair twice again after its three words
+abbrev pub bonus : List ℕ → ℕ → ℕ
+bonus tab n = cond (wantsIn tab) n 0
+
+-- What is always so. k words were read that nothing was done for yet: whatever is said, opened or bound is paid for by words that were read,
+-- so there is room for it.
+pub record Fit (k : ℕ) (ws tab m vis found : List ℕ) : Type 0 where
+  pub size : length m ≡ 64
+  pub tabled : Tabled (slotsIn tab) (topOf m) vis
+  pub descends : Descends (curOf m) (seens (slotsIn tab) (topOf m) vis)
+  pub cur : curOf m ≤ lastOf m
+  pub last : lastOf m + k ≤ atOf m
+  pub count : (saidOf m + toldOf m + k) * 3 ≤ atOf m * 3 + bonus tab (atOf m)
+  pub stack : slotsIn tab + topOf m * 3 + k ≤ atOf m + 1
+  pub within : atOf m ≤ length ws
+  pub names : 4 * (length ws + 2) ≤ 3 * length vis
+  pub room : length ws * 6 + bonus tab (length ws) * 2 ≤ length found
+
+-- the words hold the state
+pub record Holds (id : ℕ → ℕ) (tab m vis found : List ℕ) (s : Both) : Type 0 where
+  pub visible : seens (slotsIn tab) (topOf m) vis ≡ s .names .visible
+  pub cur : curOf m ≡ s .names .cur
+  pub last : lastOf m ≡ s .names .last
+  pub log : events id (saidOf m) found ≡ kept (wantsIn tab) (s .names .log)
+  pub kinds : findings (toldOf m) found ≡ s .kinds
+  pub known : eqb (lostOf m) 0 ≡ s .known
+
+-- what was visible stays below what came, and the levels above `room` stay
+pub record Frame (room : ℕ) (tab m vis m' vis' : List ℕ) : Type 0 where
+  pub top : topOf m ≤ topOf m'
+  pub last : lastOf m ≤ lastOf m'
+  pub below : seens (slotsIn tab) (topOf m) vis' ≡ seens (slotsIn tab) (topOf m) vis
+  pub held : heldOf m' ≡ heldOf m
+  pub levels : (d : ℕ) → room < d → levelOf m' d ≡ levelOf m d
+
+-- A step of the state, at the same word, for which j words pay. It may go by the use ids of names, which the words don't hold.
+pub record Steps (j : ℕ) (ws tab m vis found m' vis' found' : List ℕ) (F : (ℕ → ℕ) → Both → Both) : Type 0 where
+  pub at : atOf m' ≡ atOf m
+  pub sized : length m' ≡ length m
+  pub seen : length vis' ≡ length vis
+  pub wrote : length found' ≡ length found
+  pub fit : (k : ℕ) → Fit (j + k) ws tab m vis found → Fit k ws tab m' vis' found'
+  pub frame : Frame 0 tab m vis m' vis'
+  pub goes : (id : ℕ → ℕ) (s : Both) → Holds id tab m vis found s → Holds id tab m' vis' found' (F id s)
+
+-- What a step asks.
+pub record Ready (j : ℕ) (ws tab m vis found : List ℕ) : Type 0 where
+  pub fine : Fine ws tab
+  pub fit : Fit j ws tab m vis found
+
+-- room for an event or a finding more
+pub record Roomy (m found : List ℕ) : Type 0 where
+  pub size : length m ≡ 64
+  pub small : saidOf m + toldOf m + 1 < 4294967296
+  pub room : (saidOf m + toldOf m + 1) * 6 ≤ length found
+
+-- six words were stored
+pub record Put (k tag a b c d e : ℕ) (old new : List ℕ) : Type 0 where
+  pub length : length new ≡ length old
+  pub first : getD new k 0 ≡ tag
+  pub second : getD new (k + 1) 0 ≡ a
+  pub third : getD new (k + 2) 0 ≡ b
+  pub fourth : getD new (k + 3) 0 ≡ c
+  pub fifth : getD new (k + 4) 0 ≡ d
+  pub sixth : getD new (k + 5) 0 ≡ e
+  pub before : (i : ℕ) → i < k → getD new i 0 ≡ getD old i 0
+  pub after : (i : ℕ) → k + 6 ≤ i → getD new i 0 ≡ getD old i 0
+
+-- an event was said, and a finding of the kind walk told; the other's are as before
+pub record Says (tag a b c d e : ℕ) (m found m' found' : List ℕ) : Type 0 where
+  pub numbers : m' ≡ set m 4 (suc (saidOf m))
+  pub wrote : length found' ≡ length found
+  pub events : (id : ℕ → ℕ) → events id (suc (saidOf m)) found' ≡ eventOf id tag a b c d e ∷ events id (saidOf m) found
+  pub findings : findings (toldOf m) found' ≡ findings (toldOf m) found
+
+pub record Tells (code a b c d e : ℕ) (m found m' found' : List ℕ) : Type 0 where
+  pub numbers : m' ≡ set m 5 (suc (toldOf m))
+  pub wrote : length found' ≡ length found
+  pub findings : findings (suc (toldOf m)) found' ≡ finding code a b c d e ∷ findings (toldOf m) found
+  pub events : (id : ℕ → ℕ) → events id (saidOf m) found' ≡ events id (saidOf m) found
+
+-- a row as the code tells it: name and kind
+abbrev pub shown : Option Row → Row'
+shown none = row'.No
+shown (some (row i x k a b)) = row'.Is x k
+
+-- the name and the kind of a row that was told are in range
+abbrev pub InRange : ℕ → Row' → Type 0
+InRange slots (row'.Is x k) = (x < slots) × (k ≤ 4)
+InRange slots row'.No = Unit {0}
+
+-- both, of the row that it shows
+pub record shownTo (slots : ℕ) (o : Option Row) (r : Row') : Type 0 where
+  pub same : r ≡ shown o
+  pub range : InRange slots r
+
+-- what a step does to one of the two walks
+abbrev pub onNames : (State → State) → Both → Both
+onNames f s = record { names = f (s .names); kinds = s .kinds; known = s .known }
+
+abbrev pub onKinds : List Finding → Both → Both
+onKinds fs s = record { names = s .names; kinds = told fs (s .kinds); known = s .known }
+
+-- a row with the name x and the kind k, in a setting
+abbrev pub AtRow : (ws tab m vis found m' found' : List ℕ) → (set x k : ℕ) → Type 0
+AtRow ws tab m vis found m' found' set x k = (i a b : ℕ) → Steps 1 ws tab m vis found m' vis found' (λ id. onKinds (atRow (settingOf set) (some (row i x k a b))))
+
+-- the words that pay for a head
+abbrev pub costOf : Form → ℕ
+costOf (Leaf k) = 1
+costOf (Var v) = 2
+costOf (Unresolved x) = 2
+costOf (Prop x) = 1
+costOf (Two k) = 1
+costOf (Slice b) = 1
+costOf (Many k n) = 1
+costOf (BinOp o) = 1
+costOf (UnaryOp o) = 1
+costOf (Case b n) = 1
+costOf IsNull = 1
+costOf PatternPredicate = 1
+costOf (ListComprehension g) = 1
+costOf (PatternComprehension a b g) = 1
+costOf (ListPredicate g) = 1
+costOf (MapProjection n) = 1
+
+-- a head's names are below the number of names
+abbrev pub Named : ℕ → Form → Type 0
+Named slots (Leaf k) = Unit {0}
+Named slots (Var v) = Unit {0}
+Named slots (Unresolved x) = x < slots
+Named slots (Prop x) = Unit {0}
+Named slots (Two k) = Unit {0}
+Named slots (Slice b) = Unit {0}
+Named slots (Many k n) = Unit {0}
+Named slots (BinOp o) = Unit {0}
+Named slots (UnaryOp o) = Unit {0}
+Named slots (Case b n) = Unit {0}
+Named slots IsNull = Unit {0}
+Named slots PatternPredicate = Unit {0}
+Named slots (ListComprehension g) = Unit {0}
+Named slots (PatternComprehension a b g) = Unit {0}
+Named slots (ListPredicate g) = Unit {0}
+Named slots (MapProjection n) = Unit {0}
+
+-- a part's path: its own binder
+abbrev pub pathStep : World → Mode → Maybe → Both → Both
+pathStep w m p s = noting w (binder p) (step m (bindPath w (variable p)) (misplaced 1 pathKind 0 0 (rowFor w p)) s)
+
+-- out of a scope: the names that are visible and the current scope are as they were
+pub record Left (tab m vis m' vis' : List ℕ) (top cur : ℕ) : Type 0 where
+  pub numbers : m' ≡ set (set m 1 top) 2 cur
+  pub below : seens (slotsIn tab) top vis' ≡ seens (slotsIn tab) top vis
+  pub kept : length vis' ≡ length vis
+  pub tabled : Tabled (slotsIn tab) top vis'
+
+-- after a head's parts: a comprehension is left where names are resolved
+abbrev pub ClosedIf : Bool → List ℕ → List ℕ → List ℕ → List ℕ → List ℕ → ℕ → ℕ → Type 0
+ClosedIf true tab m vis m' vis' top cur = Left tab m vis m' vis' top cur
+ClosedIf false tab m vis m' vis' top cur = (m' ≡ m) × (vis' ≡ vis)
+
+abbrev pub leaves : Form → Bool
+leaves (Leaf k) = false
+leaves (Var v) = false
+leaves (Unresolved x) = false
+leaves (Prop x) = false
+leaves (Two k) = false
+leaves (Slice b) = false
+leaves (Many k n) = false
+leaves (BinOp o) = false
+leaves (UnaryOp o) = false
+leaves (Case b n) = false
+leaves IsNull = false
+leaves PatternPredicate = false
+leaves (ListComprehension g) = false
+leaves (PatternComprehension a b g) = true
+leaves (ListPredicate g) = false
+leaves (MapProjection n) = false
+
+abbrev pub Closed : (tab m vis m' vis' : List ℕ) → (top cur : ℕ) → Mode → Form → Type 0
+Closed tab m vis m' vis' top cur mode f = ClosedIf (leaves f && mode .resolves) tab m vis m' vis' top cur
+
+-- the settings that a number has
+abbrev pub pairOf : ℕ → Pair
+pairOf n = both (settingOf (n % 8)) (settingOf (n / 8))
+
+-- what is recorded of a name, E1001 apart
+abbrev pub nameRecord : World → ℕ → Option ℕ → State → State
+nameRecord w x (some v) s = say (answer (write (w .id x) (found-as v (kindOf w v) 0))) s
+nameRecord w x none s = say (answer (write (w .id x) missing)) s

@@ -1,0 +1,179 @@
+// Scopes are opened and left, names are bound.
+use crate::CHECKS;
+use crate::CUR;
+use crate::LAST;
+use crate::LOST;
+use crate::RESOLVES;
+use crate::Row;
+use crate::SLOTS;
+use crate::TOP;
+use crate::WANTS;
+use crate::WARNS;
+use crate::row_of;
+use crate::say;
+use crate::tell;
+use heads::Elem;
+use heads::Maybe;
+use visible::Found;
+use visible::bind;
+use visible::cut;
+use visible::find;
+ghost use mathlib.Core.Path.{_≡_};
+ghost use mathlib.Core.Bool.{Bool, _&&_};
+ghost use mathlib.Core.List.{List, [], _∷_};
+ghost use Prim.Native.Nat.{ℕ, _+_, _≤_, _<_};
+ghost use lib.ListN.{length, set};
+ghost use Rattle.words.specs.Words.{words};
+ghost use Rattle.heads.specs.declared.Maybe.the-variants as maybe;
+ghost use Rattle.semantics.specs.Resolve.{lookup, enter, bindName, bindAnew, bindNew, binds};
+ghost use Rattle.fused.specs.Fused.{noting, elemStep};
+ghost use Rattle.visible.specs.Visible.{seens, Descends, Tabled};
+ghost use Rattle.steps.specs.Memory.{topOf, curOf, slotsIn, warnsIn, worldAt, modeOf};
+ghost use Rattle.steps.specs.Hold.{Ready, Steps, Left, onNames, pathStep, shownTo};
+
+// A scope of the kind under the current one, which it becomes.
+pub fn enter(s: &[u8], tab: &[u32], m: &mut [u32], vis: &[u32], found: &mut [u32], kind: u32, start: u32, end: u32)
+    requires { ⌜ Ready 1 (words (now s)) (now tab) (now m) (now vis) (now found) ⌝ }
+    ensures { λ r. ⌜ Steps 1 (words (now (s .entry))) (now (tab .entry)) (now (m .entry)) (now (vis .entry)) (now (found .entry)) (now (m .exit)) (now (vis .entry)) (now (found .exit)) (λ id. onNames (enter kind start end)) ⌝ }
+{
+    if tab[WANTS] == 1 {
+        let parent = m[CUR] + 1;
+        say(m, found, 1, kind, parent, start, end, 0);
+    }
+    let t = m[LAST] + 1;
+    m[LAST] = t;
+    m[CUR] = t;
+}
+
+// A name is bound in the current scope.
+pub fn bind_name(s: &[u8], tab: &[u32], m: &mut [u32], vis: &mut [u32], found: &mut [u32], x: u32, v: u32, kind: u32)
+    requires { ⌜ (x < slotsIn (now tab)) × Ready 3 (words (now s)) (now tab) (now m) (now vis) (now found) ⌝ }
+    ensures { λ r. ⌜ Steps 3 (words (now (s .entry))) (now (tab .entry)) (now (m .entry)) (now (vis .entry)) (now (found .entry)) (now (m .exit)) (now (vis .exit)) (now (found .exit)) (λ id. onNames (bindName x v kind)) ⌝ }
+{
+    let cur = m[CUR];
+    if tab[WANTS] == 1 {
+        say(m, found, 2, cur, x, v, kind, 0);
+    }
+    let t = bind(vis, tab[SLOTS], m[TOP], x, v, cur);
+    m[TOP] = t;
+}
+
+// Whether warnings are on and the current scope binds x already.
+fn is_again(tab: &[u32], m: &[u32], vis: &[u32], x: u32) -> bool
+    requires { ⌜ (10 ≤ length (now tab)) × ((length (now m) ≡ 64) × (Tabled (slotsIn (now tab)) (topOf (now m)) (now vis) × Descends (curOf (now m)) (seens (slotsIn (now tab)) (topOf (now m)) (now vis)))) ⌝ }
+    ensures { λ r. ⌜ r ≡ warnsIn (now (tab .entry)) && binds (curOf (now (m .entry))) x (seens (slotsIn (now (tab .entry))) (topOf (now (m .entry))) (now (vis .entry))) ⌝ }
+{
+    if tab[WARNS] == 1 {
+        match find(vis, tab[SLOTS], m[TOP], x) {
+            Found::Is(_, scope) => scope == m[CUR],
+            Found::No => false,
+        }
+    } else {
+        false
+    }
+}
+
+// A name is bound, with E1002 where its scope binds it already.
+pub fn bind_anew(s: &[u8], tab: &[u32], m: &mut [u32], vis: &mut [u32], found: &mut [u32], start: u32, end: u32, x: u32, v: u32, kind: u32)
+    requires { ⌜ (x < slotsIn (now tab)) × Ready 3 (words (now s)) (now tab) (now m) (now vis) (now found) ⌝ }
+    ensures { λ r. ⌜ Steps 3 (words (now (s .entry))) (now (tab .entry)) (now (m .entry)) (now (vis .entry)) (now (found .entry)) (now (m .exit)) (now (vis .exit)) (now (found .exit)) (λ id. onNames (bindAnew (worldAt (words (now (s .entry))) (now (tab .entry)) id) start end x v kind)) ⌝ }
+{
+    let again = is_again(tab, m, vis, x);
+    bind_name(s, tab, m, vis, found, x, v, kind);
+    if again {
+        say(m, found, 1002, start, end, x + 1, 0, 0);
+    }
+}
+
+// A variable is bound: whether it has a row is kept in mind.
+pub fn note(s: &[u8], tab: &[u32], m: &mut [u32], vis: &[u32], found: &[u32], v: u32) -> Row
+    requires { ⌜ Ready 0 (words (now s)) (now tab) (now m) (now vis) (now found) ⌝ }
+    ensures told { λ r. ⌜ shownTo (slotsIn (now (tab .entry))) (worldAt (words (now (s .entry))) (now (tab .entry)) (λ x. x) .row v) r ⌝ }
+    ensures { λ r. ⌜ Steps 0 (words (now (s .entry))) (now (tab .entry)) (now (m .entry)) (now (vis .entry)) (now (found .entry)) (now (m .exit)) (now (vis .entry)) (now (found .entry)) (λ id. noting (worldAt (words (now (s .entry))) (now (tab .entry)) id) (v ∷ [])) ⌝ }
+{
+    let r = row_of(s, tab, v);
+    match r {
+        Row::Is(_, _) => r,
+        Row::No => {
+            m[LOST] = 1;
+            r
+        }
+    }
+}
+
+// A part's path variable.
+pub fn bind_path(s: &[u8], tab: &[u32], m: &mut [u32], vis: &mut [u32], found: &mut [u32], v: u32, mode: u32)
+    requires { ⌜ Ready 3 (words (now s)) (now tab) (now m) (now vis) (now found) ⌝ }
+    ensures { λ r. ⌜ Steps 3 (words (now (s .entry))) (now (tab .entry)) (now (m .entry)) (now (vis .entry)) (now (found .entry)) (now (m .exit)) (now (vis .exit)) (now (found .exit)) (λ id. pathStep (worldAt (words (now (s .entry))) (now (tab .entry)) id) (modeOf mode) (maybe.Var v)) ⌝ }
+{
+    let r = note(s, tab, m, vis, found, v);
+    match r {
+        Row::Is(x, k) => {
+            if mode / RESOLVES % 2 == 1 {
+                bind_anew(s, tab, m, vis, found, 0, 0, x, v, 3);
+            }
+            if mode / CHECKS % 2 == 1 {
+                if k != 3 {
+                    tell(m, found, 2008, 0, 0, x + 1, 1, k);
+                }
+            }
+        }
+        Row::No => {
+            if mode / RESOLVES % 2 == 1 {
+                bind_anew(s, tab, m, vis, found, 0, 0, 0, v, 3);
+            }
+        }
+    }
+}
+
+// A node's or a relationship's name is bound, if it is not visible.
+fn bind_new(s: &[u8], tab: &[u32], m: &mut [u32], vis: &mut [u32], found: &mut [u32], x: u32, v: u32, kind: u32)
+    requires { ⌜ (x < slotsIn (now tab)) × Ready 3 (words (now s)) (now tab) (now m) (now vis) (now found) ⌝ }
+    ensures { λ r. ⌜ Steps 3 (words (now (s .entry))) (now (tab .entry)) (now (m .entry)) (now (vis .entry)) (now (found .entry)) (now (m .exit)) (now (vis .exit)) (now (found .exit)) (λ id. onNames (λ y. bindNew (worldAt (words (now (s .entry))) (now (tab .entry)) id) (lookup x (y .visible)) x v kind y)) ⌝ }
+{
+    if vis[x as usize] == 0 {
+        bind_name(s, tab, m, vis, found, x, v, kind);
+    }
+}
+
+// An element's own binder.
+pub fn bind_elem(s: &[u8], tab: &[u32], m: &mut [u32], vis: &mut [u32], found: &mut [u32], h: Elem, mode: u32)
+    requires { ⌜ Ready 3 (words (now s)) (now tab) (now m) (now vis) (now found) ⌝ }
+    ensures { λ r. ⌜ Steps 3 (words (now (s .entry))) (now (tab .entry)) (now (m .entry)) (now (vis .entry)) (now (found .entry)) (now (m .exit)) (now (vis .exit)) (now (found .exit)) (λ id. elemStep (worldAt (words (now (s .entry))) (now (tab .entry)) id) (modeOf mode) h) ⌝ }
+{
+    let variable = h.variable;
+    match variable {
+        Maybe::Nothing => {}
+        Maybe::Var(v) => {
+            let r = note(s, tab, m, vis, found, v);
+            let kind = h.kind;
+            match r {
+                Row::Is(x, k) => {
+                    if mode / RESOLVES % 2 == 1 {
+                        bind_new(s, tab, m, vis, found, x, v, kind);
+                    }
+                    if mode / CHECKS % 2 == 1 {
+                        if k != kind {
+                            tell(m, found, 2008, h.start, h.end, x + 1, kind + 1, k);
+                        }
+                    }
+                }
+                Row::No => {
+                    if mode / RESOLVES % 2 == 1 {
+                        bind_new(s, tab, m, vis, found, 0, v, kind);
+                    }
+                }
+            }
+        }
+    }
+}
+
+// Out of a scope: what is visible and the current scope are again as they were.
+pub fn leave(tab: &[u32], m: &mut [u32], vis: &mut [u32], top: u32, cur: u32)
+    requires { ⌜ (10 ≤ length (now tab)) × ((length (now m) ≡ 64) × ((top ≤ topOf (now m)) × Tabled (slotsIn (now tab)) (topOf (now m)) (now vis))) ⌝ }
+    ensures { λ r. ⌜ Left (now (tab .entry)) (now (m .entry)) (now (vis .entry)) (now (m .exit)) (now (vis .exit)) top cur ⌝ }
+{
+    let t = cut(vis, tab[SLOTS], top, m[TOP]);
+    m[TOP] = t;
+    m[CUR] = cur;
+}
