@@ -22,7 +22,7 @@ use Rattle.semantics.specs.Log.{Finding}
 use Rattle.semantics.specs.World.{World, variable}
 use Rattle.semantics.specs.Resolve.{State, enter, leave, bindPath, bindElem, resolve, resolves, bindPattern}
 use Rattle.semantics.specs.Kinds.{Setting, Pair, both, plain, patternType, typeOf, settings, atType, misplaced, rowFor, kindsE, kindsEs, kindsS}
-use Rattle.fused.specs.Fused.{Both, Mode, unresolving, Go, when, told, step, rounds, rowGo, same, left, tailOf, headOf, isSome, noting, elemStep, partStep, markGo, elemGo, partGo, patternGo, restGo, exprGo}
+use Rattle.fused.specs.Fused.{Both, Mode, unresolving, Go, when, told, step, rounds, rowGo, same, left, tailOf, headOf, hasRow, noting, elemStep, partStep, markGo, elemGo, partGo, patternGo, restGo, exprGo}
 
 pub told-append : (a b k : List Finding) → told (a ++ b) k ≡ told b (told a k)
 unfolding told
@@ -66,7 +66,7 @@ abbrev pub move : World → Mode → (State → State) → List Finding → List
 move w m f fs vs s = noting w vs (step m f fs s)
 
 pub move-two : (w : World) (m : Mode) (f g : State → State) (fs gs : List Finding) (vs us : List ℕ) (s : Both) → move w m (λ y. g (f y)) (fs ++ gs) (vs ++ us) s ≡ move w m g gs us (move w m f fs vs s)
-move-two w m f g fs gs vs us s = λ i. record { names = when-two (m .resolves) f g (s .names) i; kinds = when-told (m .checks) fs gs (s .kinds) i; known = known-two (λ v. isSome (w .row v)) (s .known) vs us i }
+move-two w m f g fs gs vs us s = λ i. record { names = when-two (m .resolves) f g (s .names) i; kinds = when-told (m .checks) fs gs (s .kinds) i; known = known-two (hasRow w) (s .known) vs us i }
 
 -- no variable is bound
 pub noting-none : (w : World) (s : Both) → noting w [] s ≡ s
@@ -245,14 +245,14 @@ module _ (w : World) where
     unfolding resolve kindsE bindersE
     pred m c s r =
         map-map (pattern t P r) (λ st. predicate st) (λ e. act m c e s)
-        ∙ each (pattern t P r) (λ st. act m c (predicate st) s) (λ st. lays (unresolving m) st (step m same (atType c patternType) s)) (λ st. λ i. record { names = when (m .resolves) same (s .names); kinds = when-told (m .checks) (atType c patternType) (kindsS w st) (s .kinds) i; known = s .known && allKnown (λ v. isSome (w .row v)) (bindersS st) })
+        ∙ each (pattern t P r) (λ st. act m c (predicate st) s) (λ st. lays (unresolving m) st (step m same (atType c patternType) s)) (λ st. λ i. record { names = when (m .resolves) same (s .names); kinds = when-told (m .checks) (atType c patternType) (kindsS w st) (s .kinds) i; known = s .known && allKnown (hasRow w) (bindersS st) })
         ∙ pattern-law (unresolving m) (step m same (atType c patternType) s) r
         ∙ sym (bind-ok _) ∙ sym (bind-ok _)
 
     -- a PatternComprehension: its scope, its pattern, its row, and out again
     scoped : (m : Mode) (c : Setting) (a b : ℕ) (st : Steps) (es : Exprs) (s : Both) → act m c (comprehension a b st es) s ≡ left m s (acts m plain es (lays m st (step m (enter comprehensionScope a b) [] s)))
     unfolding resolve kindsE bindersE
-    scoped m c a b st es s = λ i. record { names = out (m .resolves) i; kinds = found (m .checks) i; known = known-two (λ v. isSome (w .row v)) (s .known) (bindersS st) (binders es) i }
+    scoped m c a b st es s = λ i. record { names = out (m .resolves) i; kinds = found (m .checks) i; known = known-two (hasRow w) (s .known) (bindersS st) (binders es) i }
       where
         out : (q : Bool) → when q (λ y. leave y (resolves w es (bindPattern w st (enter comprehensionScope a b y)))) (s .names) ≡ when q (leave (s .names)) (when q (resolves w es) (when q (bindPattern w st) (when q (enter comprehensionScope a b) (s .names))))
         out true = refl

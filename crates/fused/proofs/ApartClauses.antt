@@ -23,7 +23,7 @@ use Rattle.semantics.specs.World.{World, opens, Direct, direct, yieldName, name
 use Rattle.semantics.specs.Resolve.{State, Pair, enter, leave, standing, bindName, bindAnew, resolve, resolves, bindPattern, carries, carriedBy, barrier, fresh, yields, clause, clauses, arms}
 use Rattle.semantics.specs.Kinds.{Setting, general, plain, kindsE, kindsEs, kindsS, kindsC, kinds}
 use Rattle.theorems.proofs.Keeps.{keeps}
-use Rattle.fused.specs.Fused.{Both, Mode, unresolving, Go, when, told, step, isSome, noting, rounds, rowGo, markGo}
+use Rattle.fused.specs.Fused.{Both, Mode, unresolving, Go, when, told, step, hasRow, noting, rounds, rowGo, markGo}
 use Rattle.fused.specs.Clauses.{directForm, directOf, returned, inArms, within, projectionsGo, countedRow, yielded, yieldGo, openingGo, withGo, returnGo, unwindGo, callGo, markedGo, bodyGo, clauseGo, armGo}
 use Rattle.fused.proofs.Apart.{told-append, when-two, step-two, step-none, known-two, move, move-two, move-none, after, map-map, each, act, acts, lays, kids-law, marks-law, pattern-law, apart}
 
@@ -103,16 +103,19 @@ module _ (w : World) where
       go true = keeps w e (s .names) .visible
       go false = refl
 
-  -- whether a variable has a row
-  abbrev has : ℕ → Bool
-  has v = isSome (w .row v)
-
   -- what both walks do with a clause, with clauses
   abbrev pub walks : Mode → Clause → Both → Both
   walks m c = move w m (clause w c) (kindsC w c) (bindersC c)
 
   abbrev pub walksAll : Mode → List Clause → Both → Both
   walksAll m cs = move w m (clauses w cs) (kinds w cs) (flatMap bindersC cs)
+
+  -- and with arms, by the name walk alone
+  abbrev pub walksArm : Mode → Arm → Both → Both
+  walksArm m x = move w (inArms m) (arms w (x ∷ [])) [] (bindersA x)
+
+  abbrev pub walksArms : Mode → List Arm → Both → Both
+  walksArms m xs = move w (inArms m) (arms w xs) [] (flatMap bindersA xs)
 
   module _ (t : Tables) (free : (v : ℕ) → t .known v ≡ true) where
     row-law : (m : Mode) (n : ℕ) (s : Both) (r : List ℕ) → after (acts w m plain) (times n (clauseExpr t) noMore) s r ≡ rowGo (within w t m) n plain s r
@@ -218,8 +221,8 @@ module _ (w : World) where
           found true = unfold told in rw (kinds-exprs ps es) (told-append (kindsEs w (exprs ps done) plain) (kindsEs w es plain) (s .kinds))
           found false = refl
 
-          bound : (s .known && allKnown has (flatMap bindersP ps ++ binders es)) ≡ (s .known && allKnown has (binders (exprs ps done)) && allKnown has (binders es))
-          bound = rw (binders-exprs ps) (known-two has (s .known) (flatMap bindersP ps) (binders es))
+          bound : (s .known && allKnown (hasRow w) (flatMap bindersP ps ++ binders es)) ≡ (s .known && allKnown (hasRow w) (binders (exprs ps done)) && allKnown (hasRow w) (binders es))
+          bound = rw (binders-exprs ps) (known-two (hasRow w) (s .known) (flatMap bindersP ps) (binders es))
 
       with-law : (s : Both) (r : List ℕ) → after (walks m) (readWith t a b) s r ≡ withGo w t m a b s r
       unfolding readWith counted withGo
@@ -249,7 +252,7 @@ module _ (w : World) where
       -- Return looks from outside its scope
       return-step : (ps : List Projection) (s : Both) → walks m (return a b ps) s ≡ returned m s (acts w m plain (exprs ps done) (step m (λ y. leave y (enter returnScope a b y)) [] s))
       unfolding clause kindsC bindersC
-      return-step ps s = λ i. record { names = named (m .resolves) i; kinds = found (m .checks) i; known = s .known && allKnown has (sym (binders-exprs ps) i) }
+      return-step ps s = λ i. record { names = named (m .resolves) i; kinds = found (m .checks) i; known = s .known && allKnown (hasRow w) (sym (binders-exprs ps) i) }
         where
           named : (q : Bool) → when q (clause w (return a b ps)) (s .names) ≡ when q (standing (s .names .visible) (suc (s .names .last))) (when q (resolves w (exprs ps done)) (when q (λ y. leave y (enter returnScope a b y)) (s .names)))
           named true = refl
@@ -276,7 +279,7 @@ module _ (w : World) where
       -- "Unwind's list, Call's arguments .. are not resolved"
       unwind-step : (v : ℕ) (e : Expr) (s : Both) → walks m (unwind a b v e) s ≡ act w (unresolving m) general e (noting w (v ∷ []) (step m (λ y. bindName (nameOf w v) v valueKind (enter unwindScope a b y)) [] s))
       unfolding clause kindsC bindersC
-      unwind-step v e s = λ i. record { names = when (m .resolves) (λ y. bindName (nameOf w v) v valueKind (enter unwindScope a b y)) (s .names); kinds = found (m .checks) i; known = known-two has (s .known) (v ∷ []) (bindersE e) i }
+      unwind-step v e s = λ i. record { names = when (m .resolves) (λ y. bindName (nameOf w v) v valueKind (enter unwindScope a b y)) (s .names); kinds = found (m .checks) i; known = known-two (hasRow w) (s .known) (v ∷ []) (bindersE e) i }
         where
           found : (q : Bool) → when q (told (kindsE w e general)) (s .kinds) ≡ when q (told (kindsE w e general)) (when q (told []) (s .kinds))
           found true = unfold told in refl
@@ -308,7 +311,7 @@ module _ (w : World) where
 
       call-step : (es : Exprs) (ys : List Yield) (s : Both) → walks m (call a b es ys) s ≡ step m (yields w a b ys) [] (acts w (unresolving m) plain es (step m (enter callScope a b) [] s))
       unfolding clause kindsC bindersC
-      call-step es ys s = λ i. record { names = named (m .resolves) i; kinds = found (m .checks) i; known = s .known && allKnown has (binders es) }
+      call-step es ys s = λ i. record { names = named (m .resolves) i; kinds = found (m .checks) i; known = s .known && allKnown (hasRow w) (binders es) }
         where
           named : (q : Bool) → when q (clause w (call a b es ys)) (s .names) ≡ when q (yields w a b ys) (when q (enter callScope a b) (s .names))
           named true = refl
@@ -386,13 +389,6 @@ module _ (w : World) where
     pub apart-clauses : (m : Mode) (n : ℕ) (s : Both) (r : List ℕ) → rounds n (clauseGo w t m) s r ≡ after (walksAll m) (many (readClause t) n) s r
     apart-clauses m n s r = sym (many-law (readClause t) (clauseGo w t m) (walks m) (walksAll m) (apart-clause m) (clauses-nil m) (clauses-cons m) n s r)
 
-    -- An arm, by the name walk alone.
-    abbrev pub walksArm : Mode → Arm → Both → Both
-    walksArm m x = move w (inArms m) (arms w (x ∷ [])) [] (bindersA x)
-
-    abbrev pub walksArms : Mode → List Arm → Both → Both
-    walksArms m xs = move w (inArms m) (arms w xs) [] (flatMap bindersA xs)
-
     pub apart-arm : (m : Mode) (s : Both) (r : List ℕ) → armGo w t m s r ≡ after (walksArm m) (readArm t) s r
     unfolding readArm counted armGo
     apart-arm m s r = begin' (anyWord r)
@@ -401,7 +397,7 @@ module _ (w : World) where
         s0 = step (inArms m) (standing [] 0) [] s
 
         walked : (a b : ℕ) (cs : List Clause) → walksArm m (arm a b cs) s ≡ walksAll (inArms m) cs s0
-        walked a b cs = unfold arms bindersA in λ i. record { names = when-two (m .resolves) (standing [] 0) (clauses w cs) (s .names) i; kinds = s .kinds; known = s .known && allKnown has (flatMap bindersC cs) }
+        walked a b cs = unfold arms bindersA in λ i. record { names = when-two (m .resolves) (standing [] 0) (clauses w cs) (s .names) i; kinds = s .kinds; known = s .known && allKnown (hasRow w) (flatMap bindersC cs) }
 
         count : (a b : ℕ) (g : Got ℕ) → bind g (λ n r3. rounds n (clauseGo w t (inArms m)) s0 r3) ≡ bind (bind (bind g (λ n r3. many (readClause t) n r3)) (λ cs r3. ok (arm a b cs) r3)) (λ x r2. ok (walksArm m x s) r2)
         count a b (ok n r3) =
