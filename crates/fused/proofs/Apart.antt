@@ -53,7 +53,7 @@ when-none false k = refl
 pub step-none : (m : Mode) (s : Both) → step m same [] s ≡ s
 step-none m s = λ i. record { names = when-same (m .resolves) (s .names) i; kinds = when-none (m .checks) (s .kinds) i; known = s .known }
 
-known-append : (known : ℕ → Bool) (vs us : List ℕ) → allKnown known (vs ++ us) ≡ (allKnown known vs && allKnown known us)
+pub known-append : (known : ℕ → Bool) (vs us : List ℕ) → allKnown known (vs ++ us) ≡ (allKnown known vs && allKnown known us)
 unfolding allKnown
 known-append known [] us = refl
 known-append known (v ∷ vs) us = rw (known-append known vs us) (sym (and-assoc (known v) (allKnown known vs) (allKnown known us)))
