@@ -1,13 +1,11 @@
--- A whole sheet: reading and both walks in one is reading the statement, and then the two walks over it. `apart-sheet` says it of head and
--- arms, `apart-statement` of the sheet whose names and rows are accepted; `world-same` is for a World whose functions are known pointwise.
-use Prim.Native.Nat.{ℕ, _*_}
+-- The head and the arms of a sheet: reading and both walks in one is reading, and then the two walks over what was read (`apart-sheet`).
+-- Cause 7 is the same question, for a variable has a row if it is one of the bindings' (`row-in`).
+use Prim.Native.Nat.{ℕ}
 use mathlib.Core.Path.{_≡_, refl, ap, sym, _∙_, fun-ext}
 use mathlib.Core.Bool.{Bool, true, false, cond, _&&_}
 use mathlib.Core.Option.{some}
-use mathlib.Core.List.{List, [], _∷_, _++_, map, flatMap, reverse, reverseAux, reverse-reverse}
+use mathlib.Core.List.{List, [], _∷_, _++_, map, flatMap}
 use lib.Dec.{eqb}
-use lib.ListN.{take}
-use Rattle.words.specs.Words.{words}
 use Rattle.heads.specs.Got.{Got, ok, no, bind, many}
 use Rattle.heads.specs.Answer.{isIn}
 use Rattle.expr.specs.Binders.{allKnown}
@@ -16,15 +14,13 @@ use Rattle.clauses.specs.Read.{readClause, readArm}
 use Rattle.clauses.specs.Binders.{bindersC, bindersA}
 use Rattle.tables.specs.Row.{Row, row, rowId}
 use Rattle.sheet.specs.Trailer.{section}
-use Rattle.sheet.specs.Statement.{Statement}
-use Rattle.sheet.specs.Read.{Sheet, accepted, refused, then', unless, usedUp, anyBinder, readNames, readRows, readClauses, locate, readSections, readSheet}
+use Rattle.sheet.specs.Read.{Sheet, accepted, refused, then', unless, usedUp, anyBinder, readClauses}
 use Rattle.sheet.specs.declared.trailer.Places.{Places}
 use Rattle.semantics.specs.Log.{Finding}
-use Rattle.semantics.specs.World.{World, rowOf, bytesOf, worldOf}
-use Rattle.semantics.specs.Resolve.{State, clauses, arms, start, run}
+use Rattle.semantics.specs.World.{World, rowOf}
+use Rattle.semantics.specs.Resolve.{State, clauses, arms}
 use Rattle.semantics.specs.Kinds.{kinds}
-use Rattle.fused.specs.Fused.{Both, told, rounds, isSome, hasRow}
-use Rattle.fused.specs.Clauses.{clauseGo, armGo}
+use Rattle.fused.specs.Fused.{Both, told, isSome, hasRow}
 use Rattle.fused.specs.Sheet.{everyWalk, begun, headGo, armsGo, sheetGo}
 use Rattle.fused.proofs.Apart.{known-append}
 use Rattle.fused.proofs.ApartClauses.{walksAll, walksArms, apart-clauses, apart-arms}
@@ -33,7 +29,6 @@ use Rattle.fused.proofs.ApartClauses.{walksAll, walksArms, apart-clause
 abbrev pub leaves : World → Places → List Clause × List Arm → Both
 leaves w p x = record { names = arms w (x .1) (clauses w (x .0) (begun p .names)); kinds = told (kinds w (x .0)) []; known = true }
 
--- a variable has a row, or is none of the bindings
 pub row-in : (v : ℕ) (rs : List Row) → isSome (rowOf v rs) ≡ isIn v (map rowId rs)
 unfolding rowOf isIn rowId
 row-in v [] = refl
@@ -63,13 +58,14 @@ test-map : {A B : Type 0} (c : ℕ) (q : Bool) (a : A) (f : A → B) → then' (
 test-map c true a f = refl
 test-map c false a f = refl
 
-abbrev standing : State → List Finding → Bool → Both
-standing y k q = record { names = y; kinds = k; known = q }
+-- where both walks end
+abbrev ended : State → List Finding → Bool → Both
+ended y k q = record { names = y; kinds = k; known = q }
 
-decided : (y : State) (k : List Finding) (a b : Bool) → a ≡ b → unless 7 a (accepted (standing y k a)) ≡ unless 7 b (accepted (standing y k true))
+decided : (y : State) (k : List Finding) (a b : Bool) → a ≡ b → unless 7 a (accepted (ended y k a)) ≡ unless 7 b (accepted (ended y k true))
 decided y k a b e = rw e (go b)
   where
-    go : (q : Bool) → unless 7 q (accepted (standing y k q)) ≡ unless 7 q (accepted (standing y k true))
+    go : (q : Bool) → unless 7 q (accepted (ended y k q)) ≡ unless 7 q (accepted (ended y k true))
     go true = refl
     go false = refl
 
