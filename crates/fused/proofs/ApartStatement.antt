@@ -32,7 +32,7 @@ stated ns rs p x = record { names = ns; bindings = rs; head = x .0; arms = x .1;
 abbrev pub worldBy : Bool → List (List ℕ) → List Row → World
 worldBy warns ns rs = worldOf warns (record { names = ns; bindings = rs; head = []; arms = []; start = 0; stop = 0 })
 
-pub world-by : (warns : Bool) (ns : List (List ℕ)) (rs : List Row) (p : Places) (x : List Clause × List Arm) → worldOf warns (stated ns rs p x) ≡ worldBy warns ns rs
+world-by : (warns : Bool) (ns : List (List ℕ)) (rs : List Row) (p : Places) (x : List Clause × List Arm) → worldOf warns (stated ns rs p x) ≡ worldBy warns ns rs
 unfolding worldOf bytesOf
 world-by warns ns rs p x = refl
 
@@ -58,6 +58,14 @@ module _ {s : List ℕ} {p : Places} {ns : List (List ℕ)} {rs : List Row} (h :
   sheet-read : readSheet s ≡ then' (readClauses (words s) p (map rowId rs)) (λ x. accepted (stated ns rs p x))
   unfolding readSheet readSections
   sheet-read = rw (h .places, h .names, h .rows)
+
+  -- the World that was known before is the statement's
+  pub world-read : (warns : Bool) {st : Statement} → readSheet s ≡ accepted st → worldOf warns st ≡ worldBy warns ns rs
+  world-read warns {st} e = go (readClauses (words s) p (map rowId rs)) (sym sheet-read ∙ e)
+    where
+      go : (g : Sheet (List Clause × List Arm)) → then' g (λ x. accepted (stated ns rs p x)) ≡ accepted st → worldOf warns st ≡ worldBy warns ns rs
+      go (accepted x) q = let y : st ≡ stated ns rs p x = cc in ap (worldOf warns) y ∙ world-by warns ns rs p x
+      go (refused c) q = never cc
 
   said-same : (warns : Bool) (x : List Clause × List Arm) → saidOf warns (stated ns rs p x) ≡ saidBy (leaves (worldBy warns ns rs) p x)
   unfolding run start worldOf bytesOf
