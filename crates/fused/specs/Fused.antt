@@ -90,10 +90,10 @@ isSome none = false
 isSome (some a) = true
 
 module _ (w : World) where
-  -- variables are bound, whichever walk looks: have they rows?
   abbrev pub hasRow : ℕ → Bool
   hasRow v = isSome (w .row v)
 
+  -- variables are bound, whichever walk looks
   abbrev pub noting : List ℕ → Both → Both
   noting vs s = record { names = s .names; kinds = s .kinds; known = s .known && allKnown hasRow vs }
 
