@@ -2,8 +2,8 @@
 -- `apart-clauses`, `apart-arms`).
 use Prim.Native.Nat.{ℕ, zero, suc}
 use mathlib.Core.Path.{_≡_, refl, ap, ap₂, sym, _∙_}
-use mathlib.Core.Bool.{Bool, true, false, cond}
-use mathlib.Core.List.{List, [], _∷_, _++_, append-assoc, append-nil}
+use mathlib.Core.Bool.{Bool, true, false, cond, _&&_}
+use mathlib.Core.List.{List, [], _∷_, _++_, flatMap, append-assoc, append-nil}
 use lib.Dec.{eqb}
 use Rattle.scope.specs.Graph.{unwindScope, callScope, returnScope}
 use Rattle.heads.specs.Got.{Got, ok, no, bind, wordIn, anyWord, flag, many, counted}
@@ -13,17 +13,19 @@ use Rattle.heads.specs.declared.Form.{Form}
 use Rattle.heads.specs.declared.Form.the-variants.{Leaf, Var, Unresolved, Prop, Two, Slice, Many, BinOp, UnaryOp, Case, IsNull, PatternPredicate, ListComprehension, PatternComprehension, ListPredicate, MapProjection}
 use Rattle.heads.proofs.Shapes.{bind-each, bind-bind}
 use Rattle.expr.specs.Tree.{Expr, Exprs, done, Steps, tree}
+use Rattle.expr.specs.Binders.{bindersE, binders, bindersS, allKnown}
 use Rattle.expr.specs.Read.{noMore, times, marks, pattern, maybePattern, afterForm, readExpr}
 use Rattle.clauses.specs.Tree.{Projection, projection, Yield, yield, Opening, match, create, merge, Reading, where', set, remove, delete, Clause, opening, reading, with', return, unwind, call, Arm, arm, exprs}
 use Rattle.clauses.specs.Read.{maxDepth, aliasOf, clauseExpr, readProjection, readYield, countedExprs, countedMarks, readMatch, readOpening, readWhere, readWith, readReturn, readUnwind, readMarked, readDelete, readCall, readBody, readClause, readArm}
+use Rattle.clauses.specs.Binders.{bindersP, bindersC, bindersA}
 use Rattle.tables.specs.Row.{valueKind}
 use Rattle.semantics.specs.World.{World, opens, Direct, direct, yieldName, nameOf}
 use Rattle.semantics.specs.Resolve.{State, Pair, enter, leave, standing, bindName, bindAnew, resolve, resolves, bindPattern, carries, carriedBy, barrier, fresh, yields, clause, clauses, arms}
 use Rattle.semantics.specs.Kinds.{Setting, general, plain, kindsE, kindsEs, kindsS, kindsC, kinds}
 use Rattle.theorems.proofs.Keeps.{keeps}
-use Rattle.fused.specs.Fused.{Both, Mode, unresolving, Go, when, told, step, rounds, rowGo, markGo}
+use Rattle.fused.specs.Fused.{Both, Mode, unresolving, Go, when, told, step, hasRow, noting, rounds, rowGo, markGo}
 use Rattle.fused.specs.Clauses.{directForm, directOf, returned, inArms, within, projectionsGo, countedRow, yielded, yieldGo, openingGo, withGo, returnGo, unwindGo, callGo, markedGo, bodyGo, clauseGo, armGo}
-use Rattle.fused.proofs.Apart.{told-append, when-two, step-two, step-none, after, map-map, each, act, acts, lays, kids-law, marks-law, pattern-law, apart}
+use Rattle.fused.proofs.Apart.{told-append, when-two, step-two, step-none, known-two, move, move-two, move-none, after, map-map, each, act, acts, lays, kids-law, marks-law, pattern-law, apart}
 
 -- things in a row, each read and walked
 module _ {A : Type 0} (one : List ℕ → Got A) (go : Go) (doing : A → Both → Both) (all : List A → Both → Both) (h : (s : Both) (r : List ℕ) → go s r ≡ after doing one s r)
@@ -88,6 +90,11 @@ module _ (w : World) where
   kinds-exprs [] es = refl
   kinds-exprs (projection a e ∷ ps) es = rw (kinds-exprs ps es) (sym (append-assoc (kindsE w e general) (kindsEs w (exprs ps done) plain) (kindsEs w es plain)))
 
+  binders-exprs : (ps : List Projection) → binders (exprs ps done) ≡ flatMap bindersP ps
+  unfolding exprs bindersE bindersP flatMap
+  binders-exprs [] = refl
+  binders-exprs (projection a e ∷ ps) = ap (λ (vs : List ℕ). bindersE e ++ vs) (binders-exprs ps)
+
   -- an expression alters nothing that is visible
   kept : (m : Mode) (c : Setting) (e : Expr) (s : Both) → act w m c e s .names .visible ≡ s .names .visible
   kept m c e s = go (m .resolves)
@@ -98,10 +105,17 @@ module _ (w : World) where
 
   -- what both walks do with a clause, with clauses
   abbrev pub walks : Mode → Clause → Both → Both
-  walks m c = step m (clause w c) (kindsC w c)
+  walks m c = move w m (clause w c) (kindsC w c) (bindersC c)
 
   abbrev pub walksAll : Mode → List Clause → Both → Both
-  walksAll m cs = step m (clauses w cs) (kinds w cs)
+  walksAll m cs = move w m (clauses w cs) (kinds w cs) (flatMap bindersC cs)
+
+  -- and with arms, by the name walk alone
+  abbrev pub walksArm : Mode → Arm → Both → Both
+  walksArm m x = move w (inArms m) (arms w (x ∷ [])) [] (bindersA x)
+
+  abbrev pub walksArms : Mode → List Arm → Both → Both
+  walksArms m xs = move w (inArms m) (arms w xs) [] (flatMap bindersA xs)
 
   module _ (t : Tables) (free : (v : ℕ) → t .known v ≡ true) where
     row-law : (m : Mode) (n : ℕ) (s : Both) (r : List ℕ) → after (acts w m plain) (times n (clauseExpr t) noMore) s r ≡ rowGo (within w t m) n plain s r
@@ -114,8 +128,8 @@ module _ (w : World) where
         → bind (many (readProjection t) n r) (λ ps r2. K (acts w m plain (exprs ps done) s) (qs ++ carriedBy w ps (s .names .visible)) r2) ≡ bind (projectionsGo w t m n qs s r) (λ x r2. K (x .0) (x .1) r2)
 
     projections-law : {C : Type 0} (m : Mode) (n : ℕ) → Projected C m n
-    unfolding many projectionsGo carriedBy exprs resolve kindsE readProjection
-    projections-law m zero qs K s r = ap₂ (λ (x : Both) (y : List Pair). K x y r) (step-none m s) (append-nil qs)
+    unfolding many projectionsGo carriedBy exprs resolve kindsE bindersE readProjection
+    projections-law m zero qs K s r = ap₂ (λ (x : Both) (y : List Pair). K x y r) (move-none w m s) (append-nil qs)
     projections-law {C} m (suc n) qs K s r = word (projections-law m n) (wordIn 0 (suc (t .names)) r)
       where
         -- what follows an alias and an expression
@@ -131,7 +145,7 @@ module _ (w : World) where
         one : Projected C m n → (a : ℕ) (g : Got Expr) → bind (bind (bind g (λ e r2. ok (projection (aliasOf a) e) r2)) (λ x r2. bind (many (readProjection t) n r2) (λ xs r3. ok (x ∷ xs) r3))) F ≡ bind g (λ e r2. M a e (direct e) r2)
         one ih a (ok e r2) =
             bind-bind (many (readProjection t) n r2) (λ xs r3. ok (projection (aliasOf a) e ∷ xs) r3) F
-            ∙ bind-each (many (readProjection t) n r2) _ _ (λ ps r3. ap₂ (λ (x : Both) (y : List Pair). K x y r3) (step-two m (resolve w e) (resolves w (exprs ps done)) (kindsE w e general) (kindsEs w (exprs ps done) plain) s) (later a e ps))
+            ∙ bind-each (many (readProjection t) n r2) _ _ (λ ps r3. ap₂ (λ (x : Both) (y : List Pair). K x y r3) (move-two w m (resolve w e) (resolves w (exprs ps done)) (kindsE w e general) (kindsEs w (exprs ps done) plain) (bindersE e) (binders (exprs ps done)) s) (later a e ps))
             ∙ ih (qs ++ carries w (aliasOf a) (direct e) (act w m general e s .names .visible)) K (act w m general e s) r2
         one ih a (no c) = refl
 
@@ -146,10 +160,10 @@ module _ (w : World) where
 
     module _ (m : Mode) (a b : ℕ) where
       opening-law : (o : Opening) (s : Both) (r : List ℕ) → after (walks m) (readOpening t a b o) s r ≡ openingGo w t m a b o s r
-      unfolding readOpening openingGo clause kindsC
+      unfolding readOpening openingGo clause kindsC bindersC
       opening-law o s r =
           map-map (pattern t (clauseExpr t) r) (λ st. opening o a b st) (λ c. walks m c s)
-          ∙ each (pattern t (clauseExpr t) r) (λ st. walks m (opening o a b st) s) (λ st. lays w m st (step m (enter (opens o) a b) [] s)) (λ st. step-two m (enter (opens o) a b) (bindPattern w st) [] (kindsS w st) s)
+          ∙ each (pattern t (clauseExpr t) r) (λ st. walks m (opening o a b st) s) (λ st. lays w m st (step m (enter (opens o) a b) [] s)) (λ st. ap (noting w (bindersS st)) (step-two m (enter (opens o) a b) (bindPattern w st) [] (kindsS w st) s))
           ∙ pattern-law w t free (within w t) (clauseExpr t) (apart w t free maxDepth) m (step m (enter (opens o) a b) [] s) r
 
       match-law : (s : Both) (r : List ℕ) → after (walks m) (readMatch t a b) s r ≡ bind (flag r) (λ o r1. openingGo w t m a b (match o) s r1)
@@ -162,7 +176,7 @@ module _ (w : World) where
 
       -- expressions read for a clause that resolves them all
       reads-law : (which : Reading) (g : Got Exprs) (s : Both) → bind (bind g (λ es r. ok (reading which a b es) r)) (λ c r. ok (walks m c s) r) ≡ bind g (λ es r. ok (acts w m plain es s) r)
-      unfolding clause kindsC
+      unfolding clause kindsC bindersC
       reads-law which (ok es r) s = refl
       reads-law which (no c) s = refl
 
@@ -193,8 +207,8 @@ module _ (w : World) where
       -- WITH: its projections, its filter, and what it carries
       with-step : (ps : List Projection) (es : Exprs) (s : Both) → let qs = carriedBy w ps (s .names .visible) in
           walks m (with' a b ps es) s ≡ step m (λ y. fresh w b qs (barrier w a b qs y)) [] (acts w m plain es (acts w m plain (exprs ps done) s))
-      unfolding clause kindsC
-      with-step ps es s = λ i. record { names = named (m .resolves) i; kinds = found (m .checks) i }
+      unfolding clause kindsC bindersC
+      with-step ps es s = λ i. record { names = named (m .resolves) i; kinds = found (m .checks) i; known = bound i }
         where
           qs : List Pair
           qs = carriedBy w ps (s .names .visible)
@@ -206,6 +220,9 @@ module _ (w : World) where
           found : (q : Bool) → when q (told (kindsEs w (exprs ps es) plain)) (s .kinds) ≡ when q (told []) (when q (told (kindsEs w es plain)) (when q (told (kindsEs w (exprs ps done) plain)) (s .kinds)))
           found true = unfold told in rw (kinds-exprs ps es) (told-append (kindsEs w (exprs ps done) plain) (kindsEs w es plain) (s .kinds))
           found false = refl
+
+          bound : (s .known && allKnown (hasRow w) (flatMap bindersP ps ++ binders es)) ≡ (s .known && allKnown (hasRow w) (binders (exprs ps done)) && allKnown (hasRow w) (binders es))
+          bound = rw (binders-exprs ps) (known-two (hasRow w) (s .known) (flatMap bindersP ps) (binders es))
 
       with-law : (s : Both) (r : List ℕ) → after (walks m) (readWith t a b) s r ≡ withGo w t m a b s r
       unfolding readWith counted withGo
@@ -234,8 +251,8 @@ module _ (w : World) where
 
       -- Return looks from outside its scope
       return-step : (ps : List Projection) (s : Both) → walks m (return a b ps) s ≡ returned m s (acts w m plain (exprs ps done) (step m (λ y. leave y (enter returnScope a b y)) [] s))
-      unfolding clause kindsC
-      return-step ps s = λ i. record { names = named (m .resolves) i; kinds = found (m .checks) i }
+      unfolding clause kindsC bindersC
+      return-step ps s = λ i. record { names = named (m .resolves) i; kinds = found (m .checks) i; known = s .known && allKnown (hasRow w) (sym (binders-exprs ps) i) }
         where
           named : (q : Bool) → when q (clause w (return a b ps)) (s .names) ≡ when q (standing (s .names .visible) (suc (s .names .last))) (when q (resolves w (exprs ps done)) (when q (λ y. leave y (enter returnScope a b y)) (s .names)))
           named true = refl
@@ -260,9 +277,9 @@ module _ (w : World) where
           go (no c) = refl
 
       -- "Unwind's list, Call's arguments .. are not resolved"
-      unwind-step : (v : ℕ) (e : Expr) (s : Both) → walks m (unwind a b v e) s ≡ act w (unresolving m) general e (step m (λ y. bindName (nameOf w v) v valueKind (enter unwindScope a b y)) [] s)
-      unfolding clause kindsC
-      unwind-step v e s = λ i. record { names = when (m .resolves) (λ y. bindName (nameOf w v) v valueKind (enter unwindScope a b y)) (s .names); kinds = found (m .checks) i }
+      unwind-step : (v : ℕ) (e : Expr) (s : Both) → walks m (unwind a b v e) s ≡ act w (unresolving m) general e (noting w (v ∷ []) (step m (λ y. bindName (nameOf w v) v valueKind (enter unwindScope a b y)) [] s))
+      unfolding clause kindsC bindersC
+      unwind-step v e s = λ i. record { names = when (m .resolves) (λ y. bindName (nameOf w v) v valueKind (enter unwindScope a b y)) (s .names); kinds = found (m .checks) i; known = known-two (hasRow w) (s .known) (v ∷ []) (bindersE e) i }
         where
           found : (q : Bool) → when q (told (kindsE w e general)) (s .kinds) ≡ when q (told (kindsE w e general)) (when q (told []) (s .kinds))
           found true = unfold told in refl
@@ -273,9 +290,9 @@ module _ (w : World) where
       unwind-law s r = go (anyWord r)
         where
           go : (g : Got ℕ) → bind (bind g (λ v r1. cond (t .known v) (bind (clauseExpr t r1) (λ e r2. ok (unwind a b v e) r2)) (no 7))) (λ c r2. ok (walks m c s) r2)
-              ≡ bind g (λ v r1. within w t (unresolving m) general (step m (λ y. bindName (nameOf w v) v valueKind (enter unwindScope a b y)) [] s) r1)
+              ≡ bind g (λ v r1. within w t (unresolving m) general (noting w (v ∷ []) (step m (λ y. bindName (nameOf w v) v valueKind (enter unwindScope a b y)) [] s)) r1)
           go (ok v r1) =
-              rw (free v, apart w t free maxDepth (unresolving m) general (step m (λ y. bindName (nameOf w v) v valueKind (enter unwindScope a b y)) [] s) r1)
+              rw (free v, apart w t free maxDepth (unresolving m) general (noting w (v ∷ []) (step m (λ y. bindName (nameOf w v) v valueKind (enter unwindScope a b y)) [] s)) r1)
               (map-map (clauseExpr t r1) (λ e. unwind a b v e) (λ c. walks m c s) ∙ each (clauseExpr t r1) _ _ (λ e. unwind-step v e s))
           go (no c) = refl
 
@@ -293,8 +310,8 @@ module _ (w : World) where
       yields-nil s = step-none m s
 
       call-step : (es : Exprs) (ys : List Yield) (s : Both) → walks m (call a b es ys) s ≡ step m (yields w a b ys) [] (acts w (unresolving m) plain es (step m (enter callScope a b) [] s))
-      unfolding clause kindsC
-      call-step es ys s = λ i. record { names = named (m .resolves) i; kinds = found (m .checks) i }
+      unfolding clause kindsC bindersC
+      call-step es ys s = λ i. record { names = named (m .resolves) i; kinds = found (m .checks) i; known = s .known && allKnown (hasRow w) (binders es) }
         where
           named : (q : Bool) → when q (clause w (call a b es ys)) (s .names) ≡ when q (yields w a b ys) (when q (enter callScope a b) (s .names))
           named true = refl
@@ -362,19 +379,15 @@ module _ (w : World) where
         kind (no c) = refl
 
     clauses-nil : (m : Mode) (s : Both) → walksAll m [] s ≡ s
-    unfolding clauses kinds
-    clauses-nil m s = step-none m s
+    unfolding clauses kinds flatMap
+    clauses-nil m s = move-none w m s
 
     clauses-cons : (m : Mode) (c : Clause) (cs : List Clause) (s : Both) → walksAll m (c ∷ cs) s ≡ walksAll m cs (walks m c s)
-    unfolding clauses kinds
-    clauses-cons m c cs s = step-two m (clause w c) (clauses w cs) (kindsC w c) (kinds w cs) s
+    unfolding clauses kinds flatMap
+    clauses-cons m c cs s = move-two w m (clause w c) (clauses w cs) (kindsC w c) (kinds w cs) (bindersC c) (flatMap bindersC cs) s
 
     pub apart-clauses : (m : Mode) (n : ℕ) (s : Both) (r : List ℕ) → rounds n (clauseGo w t m) s r ≡ after (walksAll m) (many (readClause t) n) s r
     apart-clauses m n s r = sym (many-law (readClause t) (clauseGo w t m) (walks m) (walksAll m) (apart-clause m) (clauses-nil m) (clauses-cons m) n s r)
-
-    -- An arm, by the name walk alone.
-    abbrev pub walksArm : Mode → Arm → Both → Both
-    walksArm m x = step (inArms m) (arms w (x ∷ [])) []
 
     pub apart-arm : (m : Mode) (s : Both) (r : List ℕ) → armGo w t m s r ≡ after (walksArm m) (readArm t) s r
     unfolding readArm counted armGo
@@ -384,7 +397,7 @@ module _ (w : World) where
         s0 = step (inArms m) (standing [] 0) [] s
 
         walked : (a b : ℕ) (cs : List Clause) → walksArm m (arm a b cs) s ≡ walksAll (inArms m) cs s0
-        walked a b cs = unfold arms in λ i. record { names = when-two (m .resolves) (standing [] 0) (clauses w cs) (s .names) i; kinds = s .kinds }
+        walked a b cs = unfold arms bindersA in λ i. record { names = when-two (m .resolves) (standing [] 0) (clauses w cs) (s .names) i; kinds = s .kinds; known = s .known && allKnown (hasRow w) (flatMap bindersC cs) }
 
         count : (a b : ℕ) (g : Got ℕ) → bind g (λ n r3. rounds n (clauseGo w t (inArms m)) s0 r3) ≡ bind (bind (bind g (λ n r3. many (readClause t) n r3)) (λ cs r3. ok (arm a b cs) r3)) (λ x r2. ok (walksArm m x s) r2)
         count a b (ok n r3) =
@@ -402,13 +415,13 @@ module _ (w : World) where
         begin' (ok a r1) = stop a (wordIn a 4294967296 r1)
         begin' (no c) = refl
 
-    arms-nil : (m : Mode) (s : Both) → step (inArms m) (arms w []) [] s ≡ s
-    unfolding arms
-    arms-nil m s = step-none (inArms m) s
+    arms-nil : (m : Mode) (s : Both) → walksArms m [] s ≡ s
+    unfolding arms flatMap
+    arms-nil m s = move-none w (inArms m) s
 
-    arms-cons : (m : Mode) (x : Arm) (xs : List Arm) (s : Both) → step (inArms m) (arms w (x ∷ xs)) [] s ≡ step (inArms m) (arms w xs) [] (walksArm m x s)
-    unfolding arms
-    arms-cons m (arm a b cs) xs s = step-two (inArms m) (λ y. clauses w cs (standing [] 0 y)) (arms w xs) [] [] s
+    arms-cons : (m : Mode) (x : Arm) (xs : List Arm) (s : Both) → walksArms m (x ∷ xs) s ≡ walksArms m xs (walksArm m x s)
+    unfolding arms flatMap
+    arms-cons m (arm a b cs) xs s = move-two w (inArms m) (λ y. clauses w cs (standing [] 0 y)) (arms w xs) [] [] (bindersA (arm a b cs)) (flatMap bindersA xs) s
 
-    pub apart-arms : (m : Mode) (n : ℕ) (s : Both) (r : List ℕ) → rounds n (armGo w t m) s r ≡ after (λ xs. step (inArms m) (arms w xs) []) (many (readArm t) n) s r
-    apart-arms m n s r = sym (many-law (readArm t) (armGo w t m) (walksArm m) (λ xs. step (inArms m) (arms w xs) []) (apart-arm m) (arms-nil m) (arms-cons m) n s r)
+    pub apart-arms : (m : Mode) (n : ℕ) (s : Both) (r : List ℕ) → rounds n (armGo w t m) s r ≡ after (walksArms m) (many (readArm t) n) s r
+    apart-arms m n s r = sym (many-law (readArm t) (armGo w t m) (walksArm m) (walksArms m) (apart-arm m) (arms-nil m) (arms-cons m) n s r)

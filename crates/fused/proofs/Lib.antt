@@ -1,2 +1,4 @@
 pub mod Apart
 pub mod ApartClauses
+pub mod ApartSheet
+pub mod ApartStatement

@@ -90,9 +90,12 @@ isSome none = false
 isSome (some a) = true
 
 module _ (w : World) where
+  abbrev pub hasRow : ℕ → Bool
+  hasRow v = isSome (w .row v)
+
   -- variables are bound, whichever walk looks
   abbrev pub noting : List ℕ → Both → Both
-  noting vs s = record { names = s .names; kinds = s .kinds; known = s .known && allKnown (λ v. isSome (w .row v)) vs }
+  noting vs s = record { names = s .names; kinds = s .kinds; known = s .known && allKnown hasRow vs }
 
   -- a name, sought in the visible list
   abbrev pub nameUse : ℕ → State → State

@@ -1,2 +1,3 @@
 pub mod Fused
 pub mod Clauses
+pub mod Sheet
