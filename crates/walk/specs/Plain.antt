@@ -61,8 +61,13 @@ headed code a = cond (eqb (shapeOf code) 1) (formNone code) (formOne code a)
 abbrev pub partsOf : ℕ → ℕ → ℕ
 partsOf t a = t / 4 % 4 + (cond (eqb (t / 16 % 2) 1) a 0 - cond (eqb (t / 32 % 2) 1) (a / 2) 0)
 
+-- the type that it shows: 1 Null, 2 Bool, 3 Int, 4 Float, 5 String, 13 Map
+abbrev pub typeBy : ℕ → ℕ
+typeBy code = look code ((1, 5) ∷ (2, 1) ∷ (3, 2) ∷ (4, 3) ∷ (5, 4) ∷ (13, 6) ∷ []) 0
+
 -- a plain head was read at `at`, where t is its shape; the words that are read are there
-pub record Plain (ws : List ℕ) (names at t : ℕ) : Type 0 where
+pub record Plain (ws : List ℕ) (names room at t : ℕ) : Type 0 where
+  pub level : 0 < room
   pub shaped : t ≡ shape (getD ws at 0)
   pub same : readForm names (drop at ws) ≡ ok (headed (getD ws at 0) (getD ws (at + 1) 0)) (drop (at + 1 + t % 2) ws)
   pub within : at + 2 ≤ length ws
@@ -70,6 +75,6 @@ pub record Plain (ws : List ℕ) (names at t : ℕ) : Type 0 where
   pub named : t / 64 % 2 ≡ 1 → getD ws (at + 1) 0 < names
 
 -- or none that the loop takes
-abbrev pub Plainly : (ws : List ℕ) → (names at t : ℕ) → Type 0
-Plainly ws names at zero = Unit {0}
-Plainly ws names at (suc t) = Plain ws names at (suc t)
+abbrev pub Plainly : (ws : List ℕ) → (names room at t : ℕ) → Type 0
+Plainly ws names room at zero = Unit {0}
+Plainly ws names room at (suc t) = Plain ws names room at (suc t)
