@@ -41,19 +41,23 @@ pub record Fine (ws tab : List ℕ) : Type 0 where
 abbrev pub bonus : List ℕ → ℕ → ℕ
 bonus tab n = cond (wantsIn tab) n 0
 
--- What is always so. k words were read that nothing was done for yet: whatever is said, opened or bound is paid for by words that were read,
--- so there is room for it.
-pub record Fit (k : ℕ) (ws tab m vis found : List ℕ) : Type 0 where
+-- What is always so. Whatever is said, opened or bound is paid for by words that were read, so there is room for it: e words were read that
+-- nothing was said for yet, and t that nothing was opened or bound for.
+pub record Fits (e t : ℕ) (ws tab m vis found : List ℕ) : Type 0 where
   pub size : length m ≡ 64
   pub tabled : Tabled (slotsIn tab) (topOf m) vis
   pub descends : Descends (curOf m) (seens (slotsIn tab) (topOf m) vis)
   pub cur : curOf m ≤ lastOf m
-  pub last : lastOf m + k ≤ atOf m
-  pub count : (saidOf m + toldOf m + k) * 3 ≤ atOf m * 3 + bonus tab (atOf m)
-  pub stack : slotsIn tab + topOf m * 3 + k ≤ atOf m + 1
+  pub last : lastOf m + t ≤ atOf m
+  pub count : (saidOf m + toldOf m + e) * 3 ≤ atOf m * 3 + bonus tab (atOf m)
+  pub stack : slotsIn tab + topOf m * 3 + t ≤ atOf m + 1
   pub within : atOf m ≤ length ws
   pub names : 4 * (length ws + 2) ≤ 3 * length vis
   pub room : length ws * 6 + bonus tab (length ws) * 2 ≤ length found
+
+-- k words were read that nothing was done for yet
+abbrev pub Fit : ℕ → (ws tab m vis found : List ℕ) → Type 0
+Fit k = Fits k k
 
 -- the words hold the state
 pub record Holds (id : ℕ → ℕ) (tab m vis found : List ℕ) (s : Both) : Type 0 where
@@ -72,15 +76,20 @@ pub record Frame (room : ℕ) (tab m vis m' vis' : List ℕ) : Type 0 where
   pub held : heldOf m' ≡ heldOf m
   pub levels : (d : ℕ) → room < d → levelOf m' d ≡ levelOf m d
 
--- A step of the state, at the same word, for which j words pay. It may go by the use ids of names, which the words don't hold.
-pub record Steps (j : ℕ) (ws tab m vis found m' vis' found' : List ℕ) (F : (ℕ → ℕ) → Both → Both) : Type 0 where
+-- A step of the state, at the same word: e words pay for what it says, t words for what it opens or binds. It may go by the use ids of names,
+-- which the words don't hold.
+pub record Costs (e t : ℕ) (ws tab m vis found m' vis' found' : List ℕ) (F : (ℕ → ℕ) → Both → Both) : Type 0 where
   pub at : atOf m' ≡ atOf m
   pub sized : length m' ≡ length m
   pub seen : length vis' ≡ length vis
   pub wrote : length found' ≡ length found
-  pub fit : (k : ℕ) → Fit (j + k) ws tab m vis found → Fit k ws tab m' vis' found'
+  pub fit : (i k : ℕ) → Fits (e + i) (t + k) ws tab m vis found → Fits i k ws tab m' vis' found'
   pub frame : Frame 0 tab m vis m' vis'
   pub goes : (id : ℕ → ℕ) (s : Both) → Holds id tab m vis found s → Holds id tab m' vis' found' (F id s)
+
+-- a step for which j words pay
+abbrev pub Steps : ℕ → (ws tab m vis found m' vis' found' : List ℕ) → ((ℕ → ℕ) → Both → Both) → Type 0
+Steps j = Costs j j
 
 -- What a step asks.
 pub record Ready (j : ℕ) (ws tab m vis found : List ℕ) : Type 0 where
