@@ -29,7 +29,7 @@ ghost use Rattle.semantics.specs.Resolve.{lookup, enter, bindName, bindAnew, bi
 ghost use Rattle.fused.specs.Fused.{noting, elemStep};
 ghost use Rattle.visible.specs.Visible.{seens, Descends, Tabled};
 ghost use Rattle.steps.specs.Memory.{topOf, curOf, slotsIn, warnsIn, worldAt, modeOf};
-ghost use Rattle.steps.specs.Hold.{Ready, Steps, Left, onNames, pathStep, shownTo};
+ghost use Rattle.steps.specs.Hold.{Ready, Costs, Steps, Left, onNames, pathStep, shownTo};
 
 // A scope of the kind under the current one, which it becomes.
 pub fn enter(s: &[u8], tab: &[u32], m: &mut [u32], vis: &[u32], found: &mut [u32], kind: u32, start: u32, end: u32)
@@ -48,7 +48,7 @@ pub fn enter(s: &[u8], tab: &[u32], m: &mut [u32], vis: &[u32], found: &mut [u32
 // A name is bound in the current scope.
 pub fn bind_name(s: &[u8], tab: &[u32], m: &mut [u32], vis: &mut [u32], found: &mut [u32], x: u32, v: u32, kind: u32)
     requires { ⌜ (x < slotsIn (now tab)) × Ready 3 (words (now s)) (now tab) (now m) (now vis) (now found) ⌝ }
-    ensures { λ r. ⌜ Steps 3 (words (now (s .entry))) (now (tab .entry)) (now (m .entry)) (now (vis .entry)) (now (found .entry)) (now (m .exit)) (now (vis .exit)) (now (found .exit)) (λ id. onNames (bindName x v kind)) ⌝ }
+    ensures { λ r. ⌜ Costs 1 3 (words (now (s .entry))) (now (tab .entry)) (now (m .entry)) (now (vis .entry)) (now (found .entry)) (now (m .exit)) (now (vis .exit)) (now (found .exit)) (λ id. onNames (bindName x v kind)) ⌝ }
 {
     let cur = m[CUR];
     if tab[WANTS] == 1 {
@@ -76,7 +76,7 @@ fn is_again(tab: &[u32], m: &[u32], vis: &[u32], x: u32) -> bool
 // A name is bound, with E1002 where its scope binds it already.
 pub fn bind_anew(s: &[u8], tab: &[u32], m: &mut [u32], vis: &mut [u32], found: &mut [u32], start: u32, end: u32, x: u32, v: u32, kind: u32)
     requires { ⌜ (x < slotsIn (now tab)) × Ready 3 (words (now s)) (now tab) (now m) (now vis) (now found) ⌝ }
-    ensures { λ r. ⌜ Steps 3 (words (now (s .entry))) (now (tab .entry)) (now (m .entry)) (now (vis .entry)) (now (found .entry)) (now (m .exit)) (now (vis .exit)) (now (found .exit)) (λ id. onNames (bindAnew (worldAt (words (now (s .entry))) (now (tab .entry)) id) start end x v kind)) ⌝ }
+    ensures { λ r. ⌜ Costs 2 3 (words (now (s .entry))) (now (tab .entry)) (now (m .entry)) (now (vis .entry)) (now (found .entry)) (now (m .exit)) (now (vis .exit)) (now (found .exit)) (λ id. onNames (bindAnew (worldAt (words (now (s .entry))) (now (tab .entry)) id) start end x v kind)) ⌝ }
 {
     let again = is_again(tab, m, vis, x);
     bind_name(s, tab, m, vis, found, x, v, kind);
@@ -129,7 +129,7 @@ pub fn bind_path(s: &[u8], tab: &[u32], m: &mut [u32], vis: &mut [u32], found: &
 // A node's or a relationship's name is bound, if it is not visible.
 fn bind_new(s: &[u8], tab: &[u32], m: &mut [u32], vis: &mut [u32], found: &mut [u32], x: u32, v: u32, kind: u32)
     requires { ⌜ (x < slotsIn (now tab)) × Ready 3 (words (now s)) (now tab) (now m) (now vis) (now found) ⌝ }
-    ensures { λ r. ⌜ Steps 3 (words (now (s .entry))) (now (tab .entry)) (now (m .entry)) (now (vis .entry)) (now (found .entry)) (now (m .exit)) (now (vis .exit)) (now (found .exit)) (λ id. onNames (λ y. bindNew (worldAt (words (now (s .entry))) (now (tab .entry)) id) (lookup x (y .visible)) x v kind y)) ⌝ }
+    ensures { λ r. ⌜ Costs 1 3 (words (now (s .entry))) (now (tab .entry)) (now (m .entry)) (now (vis .entry)) (now (found .entry)) (now (m .exit)) (now (vis .exit)) (now (found .exit)) (λ id. onNames (λ y. bindNew (worldAt (words (now (s .entry))) (now (tab .entry)) id) (lookup x (y .visible)) x v kind y)) ⌝ }
 {
     if vis[x as usize] == 0 {
         bind_name(s, tab, m, vis, found, x, v, kind);
