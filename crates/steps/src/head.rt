@@ -77,7 +77,7 @@ pub fn use_var(s: &[u8], tab: &[u32], m: &mut [u32], vis: &[u32], found: &mut [u
 }
 
 // What is recorded of a name.
-fn record_name(s: &[u8], tab: &[u32], m: &mut [u32], vis: &[u32], found: &mut [u32], x: u32)
+pub fn record_name(s: &[u8], tab: &[u32], m: &mut [u32], vis: &[u32], found: &mut [u32], x: u32)
     requires { ⌜ Ready 1 (words (now s)) (now tab) (now m) (now vis) (now found) ⌝ }
     ensures { λ r. ⌜ Steps 1 (words (now (s .entry))) (now (tab .entry)) (now (m .entry)) (now (vis .entry)) (now (found .entry)) (now (m .exit)) (now (vis .entry)) (now (found .exit)) (λ id. onNames (λ y. nameRecord (worldAt (words (now (s .entry))) (now (tab .entry)) id) x (lookup x (y .visible)) y)) ⌝ }
 {
