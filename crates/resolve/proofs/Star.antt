@@ -8,22 +8,22 @@ use lib.Dec.{eqb}
 use lib.ListN.{length, getD}
 use Rattle.tables.specs.Distinct.{sameBytes}
 use Rattle.tables.proofs.Fresh.{same-comm}
-use Rattle.resolve.specs.Resolve.{isStar}
+use Rattle.semantics.specs.World.{starName}
 
-pub star-one : (s : List ℕ) → length s ≡ 1 → eqb (getD s 0 0) 42 ≡ isStar s
-unfolding isStar
+pub star-one : (s : List ℕ) → length s ≡ 1 → eqb (getD s 0 0) 42 ≡ starName s
+unfolding starName
 star-one [] h = absurd (omega arith)
 star-one (b ∷ []) h = refl
 star-one (b ∷ c ∷ s) h = absurd (omega arith)
 
-pub star-none : (s : List ℕ) → (length s ≡ 1 → ⊥) → false ≡ isStar s
-unfolding isStar
+pub star-none : (s : List ℕ) → (length s ≡ 1 → ⊥) → false ≡ starName s
+unfolding starName
 star-none [] h = refl
 star-none (b ∷ []) h = absurd (h refl)
 star-none (b ∷ c ∷ s) h = refl
 
-pub star-is : (y : List ℕ) → sameBytes (42 ∷ []) y ≡ isStar y
-unfolding sameBytes isStar
+pub star-is : (y : List ℕ) → sameBytes (42 ∷ []) y ≡ starName y
+unfolding sameBytes starName
 star-is [] = refl
 star-is (b ∷ []) = same-comm (42 ∷ []) (b ∷ []) ∙ and-true (eqb b 42)
 star-is (b ∷ c ∷ s) = and-false (eqb 42 b)
