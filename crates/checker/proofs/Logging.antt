@@ -15,7 +15,7 @@ use Rattle.sheet.specs.Statement.{Statement}
 use Rattle.sheet.specs.Read.{Sheet, readSheet}
 use Rattle.sheet.specs.declared.trailer.Places.{Places}
 use Rattle.sheet.proofs.Walked.{WalkedSheet}
-use Rattle.resolve.specs.Resolve.{worldOf, log}
+use Rattle.semantics.specs.Resolve.{log}
 use Rattle.resolve.specs.Walk.{Facts, State, factsOf, factsAt, tablesAt, after, events, stateOf, Tabled, Room, Ready, Resolved}
 use Rattle.resolve.specs.Lowering.{runCs, runAs, rooted}
 use Rattle.resolve.specs.declared.Env.{Env}
@@ -40,11 +40,11 @@ module _ (warns : Bool) {s : List ℕ} {p : Places} (h : Held s p) {ids : List �
   st = h .statement
 
   abbrev facts : Facts
-  facts = factsOf (worldOf warns st)
+  facts = factsOf warns st
 
   -- in the words of a part that ends after the bindings, the facts are the statement's
   facts-are : (to : ℕ) → p .rows + p .bindings * 5 ≤ to → factsAt (take to (words s)) env ids ≡ facts
-  unfolding factsOf worldOf
+  unfolding factsOf
   facts-are to l =
       let i : take (p .names) ids ≡ map useId (st .names) = n .same ∙ ap (λ (x : Sheet Statement). map useId (namesOf x)) (h .reads) in
       let j : star ≡ indexOf (42 ∷ []) (st .names) = e ∙ ap (λ (x : Sheet Statement). indexOf (42 ∷ []) (namesOf x)) (h .reads) in
