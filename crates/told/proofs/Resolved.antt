@@ -2,7 +2,7 @@
 -- variable has a row, and at a yield. All else that the walk says is no finding.
 use Prim.Native.Nat.{ℕ, _-_, _<_}
 use mathlib.Core.Path.{_≡_, refl}
-use mathlib.Core.Bool.{Bool, true, not, _&&_}
+use mathlib.Core.Bool.{Bool, true, false, not, _&&_}
 use mathlib.Core.List.{List, [], _∷_, flatMap, reverseAux}
 use mathlib.Core.Option.{Option, none, some}
 use lib.ListN.{length}
@@ -66,51 +66,52 @@ module _ (warns : Bool) (st : Statement) where
   abbrev Named : List ℕ → Type 0
   Named = All (λ v. rowName (rowOf v (st .bindings)) < length (st .names))
 
-  fine-if : (b : Bool) (f : Finding) {s : State} → (b ≡ true → Pushed (st .names) f) → Says s → Says (sayIf b (find f) s)
+  fine-if : (b : Bool) (f : Finding) (s : State) → (b ≡ true → Pushed (st .names) f) → Says s → Says (sayIf b (find f) s)
   unfolding sayIf
-  fine-if true f p h = cons (p refl) h
-  fine-if false f p h = h
+  fine-if true f s p k = cons (p refl) k
+  fine-if false f s p k = k
 
-  fine-name : (x : ℕ) (o : Option ℕ) {s : State} → x < size → Says s → Says (useName w x o s)
+  fine-name : (x : ℕ) (o : Option ℕ) (s : State) → x < size → Says s → Says (useName w x o s)
   unfolding useName worldOf bytesOf
-  fine-name x (some v) l h = cons tt h
-  fine-name x none l h = fine-if (not (starName (bytesOf st x))) _ (λ e. pushed.unresolved l (not-true (starName (bytesOf st x)) e)) (cons tt h)
+  fine-name x (some v) s h k = cons tt k
+  fine-name x none s h k = fine-if (not (starName (bytesOf st x))) _ _ (λ e. pushed.unresolved h (not-true (starName (bytesOf st x)) e)) (cons tt k)
 
-  fine-var : (v : ℕ) (o : Option Row) {s : State} → Says s → Says (useVar w v o s)
+  fine-var : (v : ℕ) (o : Option Row) (s : State) → Says s → Says (useVar w v o s)
   unfolding useVar
-  fine-var v none h = h
-  fine-var v (some (row i x k a b)) h = cons tt h
+  fine-var v none s k = k
+  fine-var v (some (row i x j a b)) s k = cons tt k
 
-  fine-anew : (a b x v k : ℕ) {s : State} → x < size → Says s → Says (bindAnew w a b x v k s)
+  fine-anew : (a b x v j : ℕ) (s : State) → x < size → Says s → Says (bindAnew w a b x v j s)
   unfolding bindAnew
-  fine-anew a b x v k {s} l h = fine-if (w .warns && binds (s .cur) x (s .visible)) _ (λ e. pushed.shadows l) (cons tt h)
+  fine-anew a b x v j s h k = fine-if (w .warns && binds (s .cur) x (s .visible)) _ (bindName x v j s) (λ e. pushed.shadows h) (cons tt k)
 
-  fine-path : (p : Maybe) {s : State} → Named (binder p) → Says s → Says (bindPath w (variable p) s)
+  fine-path : (p : Maybe) (s : State) → Named (binder p) → Says s → Says (bindPath w (variable p) s)
   unfolding bindPath variable binder nameOf worldOf
-  fine-path (maybe.Var v) (cons l g) h = fine-anew 0 0 (nameOf w v) v pathKind l h
-  fine-path maybe.Nothing g h = h
+  fine-path (maybe.Var v) s (cons h g) k = fine-anew 0 0 (nameOf w v) v pathKind s h k
+  fine-path maybe.Nothing s g k = k
 
-  fine-new : (o : Option ℕ) (x v k : ℕ) {s : State} → Says s → Says (bindNew w o x v k s)
+  fine-new : (o : Option ℕ) (x v j : ℕ) (s : State) → Says s → Says (bindNew w o x v j s)
   unfolding bindNew
-  fine-new none x v k h = cons tt h
-  fine-new (some u) x v k h = h
+  fine-new none x v j s k = cons tt k
+  fine-new (some u) x v j s k = k
 
-  fine-elem : (k : ℕ) (p : Maybe) {s : State} → Says s → Says (bindElem w k (variable p) s)
+  fine-elem : (j : ℕ) (p : Maybe) (s : State) → Says s → Says (bindElem w j (variable p) s)
   unfolding bindElem variable
-  fine-elem k (maybe.Var v) {s} h = fine-new (lookup (nameOf w v) (s .visible)) (nameOf w v) v k h
-  fine-elem k maybe.Nothing h = h
+  fine-elem j (maybe.Var v) s k = fine-new (lookup (nameOf w v) (s .visible)) (nameOf w v) v j s k
+  fine-elem j maybe.Nothing s k = k
 
   mutual
     unfolding resolve WellE bindersE
 
     fine-E : (t : Expr) (room : ℕ) (s : State) → WellE (anyBinder size) t room → Named (bindersE t) → Says s → Says (resolve w t s)
-    fine-E (var v) room s h g k = fine-var v (w .row v) k
-    fine-E (unresolved x) room s h g k = fine-name x (lookup x (s .visible)) (h .1) k
+    fine-E (var v) room s h g k = fine-var v (w .row v) s k
+    fine-E (unresolved x) room s h g k = fine-name x (lookup x (s .visible)) s (h .1) k
     fine-E (node f es) room s h g k = fine-Es es 0 (room - 1) s (h .5) g k
     fine-E (predicate p) room s h g k = k
     fine-E (comprehension a b p es) room s h g k =
         let i = cut (bindersS p) g in
-        fine-Es es 0 (room - 1) (bindPattern w p (enter comprehensionScope a b s)) (h .6) (i .1) (fine-S p (room - 1) (enter comprehensionScope a b s) (h .3) (i .0) (cons tt k))
+        let t = enter comprehensionScope a b s in
+        fine-Es es 0 (room - 1) (bindPattern w p t) (h .6) (i .1) (fine-S p (room - 1) t (h .3) (i .0) (cons tt k))
 
     fine-Es : (t : Exprs) (kind room : ℕ) (s : State) → Wells (anyBinder size) kind t room → Named (binders t) → Says s → Says (resolves w t s)
     fine-Es done kind room s h g k = k
@@ -123,11 +124,11 @@ module _ (warns : Bool) (st : Statement) where
     fine-S end room s h g k = k
     fine-S (part p r) room s h g k =
         let i = cut (binder p) g in
-        fine-S r room (bindPath w (variable p) s) (h .2) (i .1) (fine-path p (i .0) k)
+        fine-S r room (bindPath w (variable p) s) (h .2) (i .1) (fine-path p s (i .0) k)
     fine-S (elem j a b v es r) room s h g k =
         let i = cut (binders es) (cut (binder v) g .1) in
         let t = bindElem w j (variable v) s in
-        fine-S r room (resolves w es t) (h .6) (i .1) (fine-Es es 0 room t (h .5) (i .0) (fine-elem j v k))
+        fine-S r room (resolves w es t) (h .6) (i .1) (fine-Es es 0 room t (h .5) (i .0) (fine-elem j v s k))
 
   yield-name : (x : ℕ) (o : Option ℕ) → x < size → WellAlias (anyBinder size) o → yieldName x o < size
   unfolding yieldName WellAlias
@@ -138,7 +139,7 @@ module _ (warns : Bool) (st : Statement) where
   unfolding yields Each WellYield
   fine-yields a b [] s h k = k
   fine-yields a b (yield x y v ∷ ys) s h k =
-      fine-yields a b ys (bindAnew w a b (yieldName x y) v valueKind s) (h .1) (fine-anew a b (yieldName x y) v valueKind (yield-name x y (h .0 .0) (h .0 .1)) k)
+      fine-yields a b ys (bindAnew w a b (yieldName x y) v valueKind s) (h .1) (fine-anew a b (yieldName x y) v valueKind s (yield-name x y (h .0 .0) (h .0 .1)) k)
 
   fine-carries : (ps : List Pair) (s : State) → Says s → Says (carryAll w ps s)
   unfolding carryAll
