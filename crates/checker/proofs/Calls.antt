@@ -17,15 +17,15 @@ use Rattle.sheet.specs.Statement.{Statement}
 use Rattle.sheet.specs.Read.{accepted, readSheet}
 use Rattle.semantics.specs.Log.{Finding, finding, found, missing, Write, write, findsIn, findOf}
 use Rattle.semantics.specs.Resolve.{log}
-use Rattle.theorems.proofs.Views.{pick-append}
-use Rattle.theorems.proofs.InLists.{in-lists}
-use Rattle.theorems.proofs.ApartSheets.{apart-sheets}
-use Rattle.kinds.specs.Walk.{findingWords, findingOf}
 use Rattle.semantics.specs.Lists
 use Rattle.theorems.specs.Site.{Site, Stands, newRoot, partLog}
 use Rattle.theorems.specs.With.{partFindings}
 use Rattle.theorems.specs.InLists.{kindsBefore, kindsAfter}
 use Rattle.theorems.specs.Sheets.{AgreeSheets}
+use Rattle.theorems.proofs.Views.{pick-append}
+use Rattle.theorems.proofs.InLists.{in-lists}
+use Rattle.theorems.proofs.ApartSheets.{apart-sheets}
+use Rattle.kinds.specs.Walk.{findingWords, findingOf}
 use Rattle.checker.specs.Filled.{filled, scopeWords, bindingWords, carriedWords, recordedWords, withScopes, withBindings, withCarried, withRecorded, withFindings}
 use Rattle.checker.specs.Checked.{Lent, roomy, countsOf, filledBy, answer, left, answerIn, leftIn}
 use Rattle.checker.specs.Calls.{Call, writeOf, entriesIn, listsOf, pieces, partIn, SameLists}

@@ -18,9 +18,9 @@ use Rattle.semantics.specs.Log.{Event, scopesIn, bindsIn, carriesIn, answersIn,
 use Rattle.semantics.specs.World.{worldOf}
 use Rattle.semantics.specs.Resolve.{log}
 use Rattle.semantics.specs.Kinds.{kinds}
+use Rattle.semantics.specs.Lists.{puts, notes, lists}
 use Rattle.theorems.proofs.Sizes.{fits}
 use Rattle.kinds.proofs.Same.{same-kinds}
-use Rattle.semantics.specs.Lists.{puts, notes, lists}
 use Rattle.checker.specs.Room.{enough}
 use Rattle.checker.specs.Filled.{withScopes, withBindings, withCarried, withRecorded, withFindings}
 use Rattle.checker.specs.Accepted.{logOf, kindsOf, foundIn}

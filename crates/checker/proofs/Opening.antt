@@ -24,6 +24,7 @@ use Rattle.semantics.specs.Log.{findsIn}
 use Rattle.semantics.specs.World.{worldOf}
 use Rattle.semantics.specs.Resolve.{log}
 use Rattle.semantics.specs.Kinds.{kinds}
+use Rattle.semantics.specs.Lists.{lists}
 use Rattle.theorems.proofs.Sizes.{fits}
 use Rattle.kinds.specs.Walk as kind-walk
 use Rattle.kinds.specs.Walk.{Pushed, found, worldAt, tablesAt}
@@ -31,7 +32,6 @@ use Rattle.kinds.specs.declared.Env as kind-env
 use Rattle.kinds.specs.declared.Walked.{Walked}
 use Rattle.kinds.proofs.Accepted.{table-at, well-rows}
 use Rattle.kinds.proofs.Same.{true-world}
-use Rattle.semantics.specs.Lists.{lists}
 use Rattle.checker.specs.Accepted.{isAccepted, namesOf, kindsOf, Opens, Wide, Named, Placed}
 
 -- a sheet that was opened is accepted, and of two tables with an entry for each word one has the places of its names, the other their

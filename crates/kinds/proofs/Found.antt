@@ -1,12 +1,12 @@
 -- The findings of an expression by its parts: those of the head itself, of its pattern, of its expressions and of its items.
-use Prim.Native.Nat.{ℕ, zero, suc, _≤_}
+use Prim.Native.Nat.{ℕ, _≤_}
 use native.Mathlib.Omega.{arith}
-use mathlib.Core.Path.{_≡_, refl, sym, _∙_}
+use mathlib.Core.Path.{_≡_, refl}
 use mathlib.Core.Bool.{Bool, true, false, cond, _&&_}
-use mathlib.Core.List.{List, [], _∷_, _++_, append-assoc, append-nil}
-use mathlib.Core.Option.{Option, none, some}
-use lib.Dec.{eqb, leb, eqb·suc-suc, eqb·suc-zero, eqb·zero-suc}
-use lib.ListN.{length, getD}
+use mathlib.Core.List.{List, [], _∷_, _++_, append-nil}
+use mathlib.Core.Option.{Option}
+use lib.Dec.{eqb, leb}
+use lib.ListN.{length}
 use Rattle.heads.specs.Got.{Got, ok, no, bind, bare}
 use Rattle.heads.specs.Form.{kidsOf, itemsOf, hasPattern}
 use Rattle.heads.specs.Head.{Tables}
@@ -14,19 +14,18 @@ use Rattle.heads.specs.declared.Form.{Form}
 use Rattle.heads.specs.declared.Form.the-variants.{Leaf, Var, Unresolved, Prop, Two, Slice, Many, BinOp, UnaryOp, Case, IsNull, PatternPredicate, ListComprehension, PatternComprehension, ListPredicate, MapProjection}
 use Rattle.heads.specs.declared.Maybe.{Maybe}
 use Rattle.heads.specs.declared.Maybe.the-variants as maybe
-use Rattle.expr.specs.Tree.{Expr, node, Exprs, done, more, mark, Steps, end, tree}
+use Rattle.expr.specs.Tree.{Expr, node, Exprs, done, more, Steps, end, tree}
 use Rattle.expr.specs.Read.{Reader, noMore, times, marks, maybePattern, afterForm}
 use Rattle.expr.proofs.Split.{joinE, times-split}
 use Rattle.expr.proofs.Inverse.{never}
 use Rattle.expr.proofs.Accepted.{inverse}
 use Rattle.tables.specs.Row.{pathKind, valueKind, Row, row}
 use Rattle.semantics.specs.Log.{e2007, e2008, e2011, Finding, finding}
-use Rattle.semantics.specs.World.{World, rowOf, bytesOf}
+use Rattle.semantics.specs.World.{World}
+use Rattle.semantics.specs.Kinds.{Setting, general, arithmetic, property, boolean, listed, Pair, both, plain, noType, intType, stringType, kindType, typeOf, settings, atType, atRow, rowFor, kindsE, kindsEs, kindsS}
 use Rattle.resolve.specs.Table.{BoundAt, boundOf}
 use Rattle.resolve.specs.declared.rows.Bound.{Bound}
 use Rattle.resolve.specs.declared.rows.Bound.the-variants as bound
-use Rattle.semantics.specs.Kinds.{Setting, general, arithmetic, property, boolean, listed, Pair, both, plain, noType, intType, stringType, kindType, typeOf, settings, atType, atRow, misplaced, rowFor, kindsE, kindsEs, kindsS}
-use Rattle.semantics.specs.World.{idName}
 use Rattle.kinds.specs.Walk.{settingOf, isGeneral, stored, Pushed, atBound, misplacedBound, varOf, shownOf, ownFor, ownOf, found, ofE, ofEs}
 use Rattle.kinds.specs.declared.settings.Setting as settings'
 use Rattle.kinds.specs.declared.settings.Setting.the-variants as setting

@@ -22,7 +22,7 @@ use Rattle.flat.specs.declared.Quiet.the-variants as quiet
 use Rattle.flat.proofs.Few.{row-few}
 use Rattle.flat.proofs.Flat.{calm-simple, plain-expr, flat-ok}
 use Rattle.tables.specs.Row.{Row, row}
-use Rattle.semantics.specs.World.{World, rowOf}
+use Rattle.semantics.specs.World.{World}
 use Rattle.semantics.specs.Kinds.{general, plain, atRow, kindsEs, kindWalk}
 use Rattle.kinds.specs.Walk.{found, ofEs}
 use Rattle.kinds.proofs.Split.{plain-join}

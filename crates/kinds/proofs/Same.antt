@@ -15,8 +15,8 @@ use Rattle.tables.specs.Index.{indexOf}
 use Rattle.tables.proofs.Index.{index-is}
 use Rattle.sheet.specs.Statement.{Statement}
 use Rattle.semantics.specs.World.{World, rowOf, bytesOf, worldOf}
-use Rattle.resolve.specs.Table.{tableAt}
 use Rattle.semantics.specs.Kinds.{Setting, general, Pair, both, plain, settings, rowFor, kindsE, kindsEs, kindsS, kindsC, kinds}
+use Rattle.resolve.specs.Table.{tableAt}
 use Rattle.kinds.specs.Walk.{worldAt}
 use Rattle.kinds.specs.declared.Env.{Env}
 use Rattle.kinds.proofs.Tests.{id-is}

@@ -7,8 +7,8 @@ use borrow.Author.Tests.{le-leb, lt-leb}
 use lib.Dec.{eqb, leb}
 use Rattle.tables.specs.Distinct.{sameBytes}
 use Rattle.tables.proofs.Fresh.{same-comm}
-use Rattle.semantics.specs.Kinds.{isArithmetic}
 use Rattle.semantics.specs.World.{idName}
+use Rattle.semantics.specs.Kinds.{isArithmetic}
 
 pub low : (o : ℕ) → o ≤ 5 → true ≡ isArithmetic o
 unfolding isArithmetic

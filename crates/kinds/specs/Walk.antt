@@ -1,5 +1,5 @@
 -- What the code of the kinds walk works on and leaves, in the definition's terms.
-use Prim.Native.Nat.{ℕ, zero, suc, _+_, _-_, _*_, _≤_}
+use Prim.Native.Nat.{ℕ, suc, _+_, _-_, _*_, _≤_}
 use mathlib.Core.Path.{_≡_}
 use mathlib.Core.Bool.{Bool, true, false, cond}
 use mathlib.Core.List.{List, [], _∷_, _++_}
@@ -23,10 +23,10 @@ use Rattle.clauses.specs.Read.{clauseExpr}
 use Rattle.tables.specs.Row.{pathKind, valueKind, Row}
 use Rattle.semantics.specs.Log.{e2007, e2008, e5010, e5011, Finding, finding}
 use Rattle.semantics.specs.World.{World, rowOf}
+use Rattle.semantics.specs.Kinds.{Setting, general, arithmetic, property, boolean, listed, Pair, both, plain, noType, mapType, patternType, kindType, leafTypes, atType, misplaced, rowFor, kindsE, kindsEs, kindsS}
 use Rattle.resolve.specs.Table.{tableAt, wellRows, boundOf}
 use Rattle.resolve.specs.declared.rows.Bound.{Bound}
 use Rattle.resolve.specs.declared.rows.Bound.the-variants as bound
-use Rattle.semantics.specs.Kinds.{Setting, general, arithmetic, property, boolean, listed, Pair, both, plain, noType, mapType, patternType, kindType, leafTypes, atType, misplaced, rowFor, kindsE, kindsEs, kindsS}
 use Rattle.kinds.specs.declared.settings.Setting as settings
 use Rattle.kinds.specs.declared.settings.Setting.the-variants as setting
 use Rattle.kinds.specs.declared.settings.Settings.{Settings}

@@ -14,8 +14,8 @@ ghost use lib.ListN.{length, getD};
 ghost use Rattle.words.specs.Words.{words};
 ghost use Rattle.tables.specs.Row.{valueKind};
 ghost use Rattle.semantics.specs.Log.{e5010, e5011, finding};
-ghost use Rattle.resolve.specs.Table.{tableAt, wellRows, BoundAt, boundFits};
 ghost use Rattle.semantics.specs.Kinds.{boolean, listed, leafTypes, atType, rowFor};
+ghost use Rattle.resolve.specs.Table.{tableAt, wellRows, BoundAt, boundFits};
 ghost use Rattle.kinds.specs.Walk.{settingOf, Pushed, worldAt, boundType, atBound, misplacedBound, varOf, shownOf, ownOf};
 
 // A finding, stored after those there are.

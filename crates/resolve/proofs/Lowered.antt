@@ -1,13 +1,12 @@
 -- Clauses and arms: the code's run comes to what the definition comes to, each clause from a state that stands so (`Codes`), a WITH with
 -- all that was visible before it below the new base. So the whole run's log is the statement's (`whole`).
-use Prim.Native.Nat.{ℕ, suc, _≤_}
+use Prim.Native.Nat.{ℕ, suc}
 use native.Mathlib.Nat.{le-refl}
 use native.Mathlib.Omega.{arith}
 use mathlib.Core.Path.{_≡_, refl, sym, ap, ap₂, subst, _∙_}
 use mathlib.Core.Bool.{Bool, true}
 use mathlib.Core.List.{List, [], _∷_, _++_, map, reverse, reverseAux, reverse-cons, reverseAux-append, reverse-reverse, append-nil, append-assoc}
 use mathlib.Core.Option.{Option, none, some}
-use lib.Dec.{eqb}
 use lib.ListN.{length, List·getD-map}
 use Rattle.words.specs.Fnv.{useId}
 use Rattle.scope.specs.Graph.{rootScope, unwindScope, callScope, withBarrier, returnScope}
@@ -18,13 +17,13 @@ use Rattle.tables.specs.Row.{valueKind}
 use Rattle.tables.proofs.Index.{index-is}
 use Rattle.sheet.specs.Statement.{Statement}
 use Rattle.semantics.specs.Log.{bound, Event, bind}
-use Rattle.semantics.specs.World.{World, opens, Direct, aVar, aName, other, direct, yieldName, nameOf, kindOf, starName, bytesOf, worldOf}
-use Rattle.semantics.specs.Resolve.{Seen, seen, Pair, pair, State, lookup, enter, bindName, leave, standing, resolves, bindPattern, carries, carriedBy, carryAll, bindAll, barrier, fresh, yields, clause, clauses, arms, start, log, run}
+use Rattle.semantics.specs.World.{World, opens, Direct, aVar, aName, other, direct, yieldName, nameOf, kindOf, bytesOf, worldOf}
+use Rattle.semantics.specs.Resolve.{Seen, Pair, pair, State, enter, bindName, leave, standing, resolves, carries, carriedBy, carryAll, bindAll, barrier, fresh, yields, clause, clauses, arms, start, log, run}
 use Rattle.resolve.specs.Walk as walk
-use Rattle.resolve.specs.Walk.{Facts, factsOf, above, see, settle, within, nameIn, idOf, runE, runEs, runPattern}
+use Rattle.resolve.specs.Walk.{Facts, factsOf, see, settle, within, nameIn, idOf, runE, runEs, runPattern}
 use Rattle.resolve.specs.Lowering.{carryPairs, rebase, afresh, runP, runPs, carriesBy, carryP, carryPs, bindPair, bindFrom, runCarried, runY, runYs, runOpening, runReturn, runC, runCs, runA, runAs, rooted}
 use Rattle.resolve.proofs.Above.{above-seam, below-seam}
-use Rattle.resolve.proofs.Runs.{plain, inOrder, at, codes, tells, Below, nil, cons, wider, Low, Owns, Knows, low-in, owns-in, low-named, owns-named, Runs, Binds, low-kept, then, named, anew, lookup-plain, run-expr, run-exprs, run-steps}
+use Rattle.resolve.proofs.Runs.{plain, inOrder, at, codes, tells, Below, nil, wider, Low, Owns, Knows, low-in, owns-in, low-named, Runs, Binds, low-kept, then, named, anew, lookup-plain, run-expr, run-exprs, run-steps}
 use Rattle.resolve.proofs.Star.{star-is}
 
 -- The code stands where the definition stands, above some entries.

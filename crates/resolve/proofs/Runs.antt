@@ -14,7 +14,7 @@ use lib.ListN.{length}
 use Rattle.scope.specs.Graph.{comprehensionScope}
 use Rattle.expr.specs.Tree.{Expr, var, unresolved, node, predicate, comprehension, Exprs, done, more, mark, Steps, end, part, elem}
 use Rattle.tables.specs.Row.{pathKind, Row, row}
-use Rattle.semantics.specs.Log.{e1001, e1002, Finding, finding, Write, bound, Event, bind, answer, find}
+use Rattle.semantics.specs.Log.{e1002, Finding, finding, Write, bound, Event, bind, answer, find}
 use Rattle.semantics.specs.World.{World, rowOf, variable, nameOf, kindOf}
 use Rattle.semantics.specs.Resolve.{Seen, seen, Pair, pair, State, lookup, binds, say, sayIf, enter, bindName, leave, useVar, useName, bindAnew, bindNew, bindPath, bindElem, resolve, resolves, bindPattern}
 use Rattle.resolve.specs.Walk as walk

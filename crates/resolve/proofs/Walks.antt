@@ -9,8 +9,8 @@ use Rattle.heads.specs.Got.{Got, ok, no, bind, bare, isOk}
 use Rattle.expr.proofs.Inverse.{never}
 use Rattle.expr.proofs.Accepted.{inverse}
 use Rattle.expr.proofs.Repeats.{Repeats, more-of, none-of, first-of, rest-of}
-use Rattle.semantics.specs.Resolve.{Pair}
 use Rattle.semantics.specs.Log.{Event}
+use Rattle.semantics.specs.Resolve.{Pair}
 use Rattle.resolve.specs.Walk.{State, say, settle, within, after, events, stateOf, Room, Said, Moves, Stays, Skipped, Ready, Walks, Resolved}
 use Rattle.resolve.specs.declared.Env.{Env}
 use Rattle.resolve.specs.declared.Walk.{Walk}

@@ -4,8 +4,8 @@ use native.Mathlib.Omega.{arith}
 use mathlib.Core.List.{[], flatMap}
 use mathlib.Core.Path.{refl}
 use Rattle.semantics.specs.Log.{answersIn}
-use Rattle.resolve.specs.Walk.{events}
 use Rattle.semantics.specs.Lists.{notes}
+use Rattle.resolve.specs.Walk.{events}
 use Rattle.checker.specs.Filled.{recordedWords, withRecorded}
 use Rattle.checker.proofs.Adding.{Going, begin, turn, finish, next-answer}
 use Rattle.checker.proofs.lists.fill_recorded.Statement.{statement}
