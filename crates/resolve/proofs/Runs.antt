@@ -6,10 +6,11 @@ use Prim.Native.Nat.{ℕ, suc, _≤_, _<_}
 use native.Mathlib.Nat.{le-refl, le-trans}
 use native.Mathlib.Omega.{arith}
 use mathlib.Core.Path.{_≡_, refl, sym, ap, subst, subst₂, _∙_}
-use mathlib.Core.Bool.{Bool, true, false, cond, not, _&&_, _||_}
+use mathlib.Core.Bool.{Bool, true, false, cond, not, _&&_, _||_, and-false}
 use mathlib.Core.List.{List, [], _∷_, _++_, map, append-nil, append-assoc}
 use mathlib.Core.Option.{Option, none, some}
-use lib.Dec.{T, eqb, eqb→eq, eqb-refl}
+use borrow.Author.Tests.{eq-eqb, ne-eqb}
+use lib.Dec.{eqb}
 use lib.ListN.{length}
 use Rattle.scope.specs.Graph.{comprehensionScope}
 use Rattle.expr.specs.Tree.{Expr, var, unresolved, node, predicate, comprehension, Exprs, done, more, mark, Steps, end, part, elem}
@@ -60,26 +61,10 @@ pub record Low (s : State) : Type 0 where
   pub cur : s .cur ≤ s .last
   pub all : Below (s .last) (s .visible)
 
-bool-ext : (a b : Bool) → (T a → T b) → (T b → T a) → a ≡ b
-bool-ext true true f g = refl
-bool-ext true false f g = absurd (f tt)
-bool-ext false true f g = absurd (g tt)
-bool-ext false false f g = refl
-
-differs : (p c : ℕ) → p < c → eqb p c ≡ false
-differs p c h = bool-ext (eqb p c) false (λ t. absurd (let e = eqb→eq p c t in omega arith)) (λ t. absurd t)
-
-equal : (c : ℕ) → eqb c c ≡ true
-equal c = bool-ext (eqb c c) true (λ t. tt) (λ t. eqb-refl c)
-
-and-false : (b : Bool) → b && false ≡ false
-and-false true = refl
-and-false false = refl
-
 binds-below : {n : ℕ} (c x : ℕ) {vis : List Seen} → n < c → Below n vis → binds c x vis ≡ false
 unfolding binds
 binds-below c x h nil = refl
-binds-below c x h (cons {x = y} {p = p} i b) = rw (differs p c (omega arith), and-false (eqb x y)) (binds-below c x h b)
+binds-below c x h (cons {x = y} {p = p} i b) = rw (ne-eqb p c (λ e. omega arith), and-false (eqb x y)) (binds-below c x h b)
 
 unfoldable pub isSome : Option ℕ → Bool
 isSome none = false
@@ -119,7 +104,7 @@ owns-named {own} {k} {s} x v j o =
     let l = map plain (s .visible) ++ k in
     record {
       high = omega (arith, o .high);
-      same = λ y. rw (above-more own (pair x v ∷ []) l (o .high), equal (s .cur), o .same y) (go (eqb y x) (walk.lookup y (above own l)));
+      same = λ y. rw (above-more own (pair x v ∷ []) l (o .high), eq-eqb (s .cur) (s .cur) refl, o .same y) (go (eqb y x) (walk.lookup y (above own l)));
     }
   where
     go : (t : Bool) (o : Option ℕ) → (t && true || isSome o) ≡ isSome (cond t (some v) o)
