@@ -125,13 +125,13 @@ pub record Tells (code a b c d e : ℕ) (m found m' found' : List ℕ) : Type 0 
   pub events : (id : ℕ → ℕ) → events id (saidOf m) found' ≡ events id (saidOf m) found
 
 -- the same where a test holds, and else nothing
-abbrev pub SaysIf : Bool → (tag a b c d e : ℕ) → (m found m' found' : List ℕ) → Type 0
-SaysIf true tag a b c d e m found m' found' = Says tag a b c d e m found m' found'
-SaysIf false tag a b c d e m found m' found' = (m' ≡ m) × (found' ≡ found)
+pub record SaysIf (t : Bool) (tag a b c d e : ℕ) (m found m' found' : List ℕ) : Type 0 where
+  pub yes : t ≡ true → Says tag a b c d e m found m' found'
+  pub no : t ≡ false → (m' ≡ m) × (found' ≡ found)
 
-abbrev pub TellsIf : Bool → (code a b c d e : ℕ) → (m found m' found' : List ℕ) → Type 0
-TellsIf true code a b c d e m found m' found' = Tells code a b c d e m found m' found'
-TellsIf false code a b c d e m found m' found' = (m' ≡ m) × (found' ≡ found)
+pub record TellsIf (t : Bool) (code a b c d e : ℕ) (m found m' found' : List ℕ) : Type 0 where
+  pub yes : t ≡ true → Tells code a b c d e m found m' found'
+  pub no : t ≡ false → (m' ≡ m) × (found' ≡ found)
 
 -- a row as the code tells it: name and kind
 abbrev pub shown : Option Row → Row'
