@@ -7,10 +7,10 @@ use crate::RESOLVES;
 use crate::Row;
 use crate::SLOTS;
 use crate::TOP;
-use crate::WANTS;
 use crate::WARNS;
 use crate::row_of;
 use crate::say;
+use crate::say_wanted;
 use crate::tell;
 use heads::Elem;
 use heads::Maybe;
@@ -36,10 +36,8 @@ pub fn enter(s: &[u8], tab: &[u32], m: &mut [u32], vis: &[u32], found: &mut [u32
     requires { ⌜ Ready 1 (words (now s)) (now tab) (now m) (now vis) (now found) ⌝ }
     ensures { λ r. ⌜ Steps 1 (words (now (s .entry))) (now (tab .entry)) (now (m .entry)) (now (vis .entry)) (now (found .entry)) (now (m .exit)) (now (vis .entry)) (now (found .exit)) (λ id. onNames (enter kind start end)) ⌝ }
 {
-    if tab[WANTS] == 1 {
-        let parent = m[CUR] + 1;
-        say(m, found, 1, kind, parent, start, end, 0);
-    }
+    let parent = m[CUR] + 1;
+    say_wanted(tab, m, found, 1, kind, parent, start, end);
     let t = m[LAST] + 1;
     m[LAST] = t;
     m[CUR] = t;
@@ -50,11 +48,9 @@ pub fn bind_name(s: &[u8], tab: &[u32], m: &mut [u32], vis: &mut [u32], found: &
     requires { ⌜ (x < slotsIn (now tab)) × Ready 3 (words (now s)) (now tab) (now m) (now vis) (now found) ⌝ }
     ensures { λ r. ⌜ Costs 1 3 (words (now (s .entry))) (now (tab .entry)) (now (m .entry)) (now (vis .entry)) (now (found .entry)) (now (m .exit)) (now (vis .exit)) (now (found .exit)) (λ id. onNames (bindName x v kind)) ⌝ }
 {
-    let cur = m[CUR];
-    if tab[WANTS] == 1 {
-        say(m, found, 2, cur, x, v, kind, 0);
-    }
-    let t = bind(vis, tab[SLOTS], m[TOP], x, v, cur);
+    let scope = m[CUR];
+    say_wanted(tab, m, found, 2, scope, x, v, kind);
+    let t = bind(vis, tab[SLOTS], m[TOP], x, v, m[CUR]);
     m[TOP] = t;
 }
 

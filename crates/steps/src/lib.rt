@@ -22,6 +22,7 @@ pub use kinds::at_type;
 pub use row::Row;
 pub use row::row_of;
 pub use said::say;
+pub use said::say_wanted;
 pub use said::tell;
 
 // Where the numbers stand in m.
