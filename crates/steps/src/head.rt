@@ -14,6 +14,7 @@ use crate::leave;
 use crate::row::kind_of;
 use crate::row_of;
 use crate::say;
+use crate::say_wanted;
 use heads::Form;
 use visible::Found;
 use visible::find;
@@ -51,9 +52,7 @@ fn record_var(s: &[u8], tab: &[u32], m: &mut [u32], vis: &[u32], found: &mut [u3
     ensures { λ r. ⌜ Steps 1 (words (now (s .entry))) (now (tab .entry)) (now (m .entry)) (now (vis .entry)) (now (found .entry)) (now (m .exit)) (now (vis .entry)) (now (found .exit)) (λ id. onNames (varRecord (modeOf mode) v k)) ⌝ }
 {
     if mode / RESOLVES % 2 == 1 {
-        if tab[WANTS] == 1 {
-            say(m, found, 4, v, k, 0, 0, 0);
-        }
+        say_wanted(tab, m, found, 4, v, k, 0, 0);
     }
 }
 
