@@ -310,3 +310,9 @@ tells-if {t = true} size p = tells-costs size (p .yes refl)
 tells-if {t = false} size p =
     let e = p .no refl in
     rw (e .0, e .1) (idle-step _ (λ id s h. h))
+
+pub tells-yes : {m found m' found' : List ℕ} {code a b c d x : ℕ} → Tells code a b c d x m found m' found' → TellsIf true code a b c d x m found m' found'
+tells-yes p = record { yes = λ q. p; no = λ q. let z : _≡_ {A = ℕ} 0 1 = cc in absurd (omega arith) }
+
+pub tells-no : {m found : List ℕ} {code a b c d x : ℕ} → TellsIf false code a b c d x m found m found
+tells-no = record { yes = λ q. let z : _≡_ {A = ℕ} 0 1 = cc in absurd (omega arith); no = λ q. (refl, refl) }

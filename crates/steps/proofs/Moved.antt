@@ -1,4 +1,4 @@
--- Laws of what is opened, bound and noted: a scope (`enters`), a name (`pushes`, `names`), a name that its scope binds already (`anew`) or
+-- Laws of what is opened, bound and noted: a scope (`enters`), a name (`binds-in`, `names`), a name that its scope binds already (`anew`) or
 -- that is not visible (`new-bound`, `new-idle`), and a binder's row (`noted-idle`, `noted-lost`).
 use Prim.Native.Nat.{ℕ, zero, suc, _+_, _*_, _<_, _≤_}
 use native.Mathlib.Numerals.{add-one}
@@ -19,8 +19,15 @@ use Rattle.fused.specs.Fused.{Both, isSome, noting}
 use Rattle.visible.specs.Visible.{seens, Descends, Tabled, Bound}
 use Rattle.visible.proofs.Names.{zero-unseen, unseen-zero, descends-above}
 use Rattle.steps.specs.Memory.{atOf, topOf, curOf, lastOf, saidOf, toldOf, lostOf, heldOf, slotsIn, wantsIn, warnsIn, worldAt}
-use Rattle.steps.specs.Hold.{Fits, Holds, Costs, SaysIf, onNames}
-use Rattle.steps.proofs.Held.{Numbers, unset, store, refit, reframe, idle-step, then-steps, instead, says-if, lower}
+use Rattle.steps.specs.Hold.{Fits, Holds, Costs, Ready, SaysIf, onNames}
+use Rattle.steps.proofs.Held.{Numbers, unset, store, refit, reframe, idle-step, then-steps, instead, says-if, said-numbers, lower}
+
+-- what m holds after an event that may be said
+pub if-numbers : {t : Bool} {m found m1 found1 : List ℕ} {tag a b c d x : ℕ} → length m ≡ 64 → SaysIf t tag a b c d x m found m1 found1 → Numbers m m1 (atOf m) (topOf m) (curOf m) (lastOf m) (saidOf m1) (toldOf m) (lostOf m) (heldOf m)
+if-numbers {t = true} size p =
+    let q = said-numbers size (p .yes refl) in
+    record { size = q .size; at = q .at; top = q .top; cur = q .cur; last = q .last; said = refl; told = q .told; lost = q .lost; held = q .held; levels = q .levels }
+if-numbers {t = false} size p = rw (p .no refl .0) unset
 
 -- a scope
 abbrev opened : State → State
@@ -85,6 +92,16 @@ module _ (ws tab m : List ℕ) {vis vis' found : List ℕ} {x v r : ℕ} (size :
               known = rw (q .lost) (h .known);
             };
       }
+
+-- what `bind` asks
+pub binds-in : {ws tab m vis found : List ℕ} {x : ℕ} (m1 : List ℕ) → x < slotsIn tab → Ready 3 ws tab m vis found → topOf m1 ≡ topOf m →
+    (x < slotsIn tab) × ((topOf m1 < 4294967295) × ((slotsIn tab + (topOf m1 + 1) * 4 ≤ length vis) × Tabled (slotsIn tab) (topOf m1) vis))
+binds-in m1 h r q =
+    let a = r .fit .stack in
+    let b = r .fit .within in
+    let c = r .fit .names in
+    let d = r .fine .short in
+    (h, rw q (omega arith, (omega arith, r .fit .tabled)))
 
 pub names : {ws tab m vis found m1 vis1 found1 : List ℕ} {x v k r : ℕ} → length m ≡ 64 → SaysIf (wantsIn tab) 2 (curOf m) x v k 0 m found m1 found1 → Bound (slotsIn tab) (topOf m1) x v (curOf m1) vis vis1 r →
     Costs 1 3 ws tab m vis found (set m1 1 r) vis1 found1 (λ id. onNames (bindName x v k))
