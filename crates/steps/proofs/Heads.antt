@@ -1,8 +1,11 @@
--- Laws of what heads do. Settings as numbers: `mute-low`, `bool-told` and `bool-mute`, `list-mute`, `list-told`, `last-told`, and of rows
--- `row-mute`, `row-value`, `row-arithmetic`, `row-property`, `row-other`, `row-type`; `property-pair`, `operator-pair`, `passed-low`,
--- `passed-high`. Findings of the kind walk: `none-told`, `one-told`. Steps of one walk alone: `idle-as`, `checked`, `unchecked`,
--- `resolved`, `unresolved`. A variable: `quiet-step`, `rowless-step`, `checked-use`, `unchecked-use`. A name: `unwanted-name`, `found-name`,
--- `missing-name`, `missed-use`, `star-use`, `seen-use`. A head: `by-act`, `ready-act`, `named-act`.
+-- Laws of what heads do.
+-- A type against a setting by its number: `mute-low`, `bool-told`, `bool-mute`, `bool-mute-high`, `list-mute`, `list-told`, `last-told`. A row:
+-- `row-value`, `row-general`, `row-boolean`, `row-property`, `row-owned`, `row-arithmetic`, `row-type`. Settings of parts as one number:
+-- `property-pair`, `operator-pair`, `passed-low`, `passed-high`.
+-- Steps of which nothing is to be done (`idle-as`), of findings alone (`none-told`, `one-told`, `as-kinds`), and in a mode in which one of
+-- the walks looks or does not (`checked-step`, `unchecked-step`, `resolved-step`, `unresolved-step`).
+-- A use of a variable: `var-said`, `var-unresolved`, `quiet-use`, `rowless-use`, `checked-use`, `unchecked-use`. Of a name: `unwanted-name`,
+-- `missing-name`, `found-name`; then E1001, `missed-use`, `star-use`, `seen-use`. A head by its act: `named-act`, `ready-act`, `by-act`.
 use Prim.Native.Nat.{ℕ, zero, suc, _+_, _-_, _%_, _/_, _<_, _≤_}
 use native.Mathlib.Numerals.{add-one}
 use native.Mathlib.Omega.{arith}
@@ -29,7 +32,6 @@ use Rattle.steps.specs.Memory.{topOf, slotsIn, starIn, wantsIn, kept, wo
 use Rattle.steps.specs.Hold.{Holds, Steps, Ready, Says, SaysIf, Tells, shown, AtRow, actOf, acts, costIn, costOf, NamedIn, Named, onNames, onKinds, varRecord, nameRecord, pairOf}
 use Rattle.steps.specs.declared.row.Row.the-variants as row'
 use Rattle.steps.specs.declared.head.Act.{Act}
-use Rattle.steps.specs.declared.head.Act.the-variants.{Shows, Uses, Names, Opens}
 use Rattle.steps.proofs.Held.{idle-step, then-steps, more-costs, more-steps, instead, as-steps, wanted, unwanted, says-step, says-if, tells-step}
 
 -- ---- settings as numbers

@@ -237,14 +237,14 @@ abbrev pub ClosedIf : Bool → List ℕ → List ℕ → List ℕ → List ℕ �
 ClosedIf true tab m vis m' vis' top cur = Left tab m vis m' vis' top cur
 ClosedIf false tab m vis m' vis' top cur = (m' ≡ m) × (vis' ≡ vis)
 
-abbrev pub opens : Act → Bool
-opens (Shows t) = false
-opens (Uses v) = false
-opens (Names x) = false
-opens (Opens a b) = true
+abbrev pub opensIn : Act → Bool
+opensIn (Shows t) = false
+opensIn (Uses v) = false
+opensIn (Names x) = false
+opensIn (Opens a b) = true
 
 abbrev pub Closed : (tab m vis m' vis' : List ℕ) → (top cur : ℕ) → Mode → Form → Type 0
-Closed tab m vis m' vis' top cur mode f = ClosedIf (opens (actOf f) && mode .resolves) tab m vis m' vis' top cur
+Closed tab m vis m' vis' top cur mode f = ClosedIf (opensIn (actOf f) && mode .resolves) tab m vis m' vis' top cur
 
 -- the settings that a number has
 abbrev pub pairOf : ℕ → Pair
