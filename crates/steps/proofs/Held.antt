@@ -1,6 +1,6 @@
 -- Laws of steps. Numbers: what m holds after stores (`unset`, `store`). Room: `lower`, `weaken`, `ready-less`, `roomy`, `roomy-in`,
 -- `bonus-le`. Steps: nothing done (`idle-step`), one after another (`then-steps`, `framed`), for more words (`more-steps`), put another way
--- (`as-steps`, `instead`). What is said and told: `says-step`, `says-costs`, `unsaid-step`, `tells-step`, `tells-costs`, with `wanted`,
+-- (`as-steps`, `instead`). What is said and told: `says-step`, `says-costs`, `says-if`, `unsaid-step`, `tells-step`, `tells-costs`, `tells-if`, with `wanted`,
 -- `always` and `unwanted` for what is kept of a log.
 use Prim.Native.Nat.{ℕ, zero, suc, _+_, _-_, _*_, _<_, _≤_}
 use native.Mathlib.Nat.{suc-add, zero-add}
@@ -17,7 +17,7 @@ use Rattle.semantics.specs.Resolve.{State, say}
 use Rattle.fused.specs.Fused.{Both, told}
 use Rattle.visible.specs.Visible.{seens, Descends, Tabled}
 use Rattle.steps.specs.Memory.{atOf, topOf, curOf, lastOf, saidOf, toldOf, lostOf, heldOf, levelOf, slotsIn, wantsIn, events, findings, eventOf, keptOne, kept}
-use Rattle.steps.specs.Hold.{Fine, bonus, Fits, Fit, Holds, Frame, Costs, Steps, Ready, Roomy, Says, Tells, onNames, onKinds}
+use Rattle.steps.specs.Hold.{Fine, bonus, Fits, Fit, Holds, Frame, Costs, Steps, Ready, Roomy, Says, SaysIf, Tells, TellsIf, onNames, onKinds}
 
 -- ---- numbers: n is m after stores
 pub record Numbers (m n : List ℕ) (a t c l s o b h : ℕ) : Type 0 where
@@ -291,3 +291,28 @@ module _ {m found m' found' : List ℕ} {code a b c d x : ℕ} (size : length m 
 
     pub tells-step : Steps 1 ws tab m vis found m' vis found' (λ id. onKinds (finding code a b c d x ∷ []))
     tells-step = more-costs (omega arith) (omega arith) tells-costs
+
+-- the same where a test holds: an event that is no finding, for which `λ id l. refl` says that
+pub says-if : {ws tab m vis found m' found' : List ℕ} {tag a b c d x : ℕ} → length m ≡ 64 → SaysIf (wantsIn tab) tag a b c d x m found m' found' → ((id : ℕ → ℕ) (l : List Event) → keptOne (eventOf id tag a b c d x) l ≡ l) →
+    Costs 1 0 ws tab m vis found m' vis found' (λ id. onNames (say (eventOf id tag a b c d x)))
+says-if {ws} {tab} {m} {vis} {found} {m'} {found'} {tag} {a} {b} {c} {d} {x} size p z = go (wantsIn tab) refl
+  where
+    go : (t : Bool) → wantsIn tab ≡ t → Costs 1 0 ws tab m vis found m' vis found' (λ id. onNames (say (eventOf id tag a b c d x)))
+    go true q = says-costs size (p .yes q) (λ id l. wanted q (eventOf id tag a b c d x) l)
+    go false q =
+        let e = p .no q in
+        rw (e .0, e .1) (unsaid-step (λ id. eventOf id tag a b c d x) (λ id l. unwanted (eventOf id tag a b c d x) q (z id) l))
+
+pub tells-if : {ws tab m vis found m' found' : List ℕ} {t : Bool} {code a b c d x : ℕ} → length m ≡ 64 → TellsIf t code a b c d x m found m' found' →
+    Costs 1 0 ws tab m vis found m' vis found' (λ id. onKinds (cond t (finding code a b c d x ∷ []) []))
+unfolding told
+tells-if {t = true} size p = tells-costs size (p .yes refl)
+tells-if {t = false} size p =
+    let e = p .no refl in
+    rw (e .0, e .1) (idle-step _ (λ id s h. h))
+
+pub tells-yes : {m found m' found' : List ℕ} {code a b c d x : ℕ} → Tells code a b c d x m found m' found' → TellsIf true code a b c d x m found m' found'
+tells-yes p = record { yes = λ q. p; no = λ q. let z : _≡_ {A = ℕ} 0 1 = cc in absurd (omega arith) }
+
+pub tells-no : {m found : List ℕ} {code a b c d x : ℕ} → TellsIf false code a b c d x m found m found
+tells-no = record { yes = λ q. let z : _≡_ {A = ℕ} 0 1 = cc in absurd (omega arith); no = λ q. (refl, refl) }

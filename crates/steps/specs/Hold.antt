@@ -1,7 +1,7 @@
 -- How both walks' state stands in the lent words, and what a step of the code does to it.
 use Prim.Native.Nat.{ℕ, zero, suc, _+_, _-_, _*_, _/_, _%_, _<_, _≤_}
 use mathlib.Core.Path.{_≡_}
-use mathlib.Core.Bool.{Bool, true, false, cond, _&&_}
+use mathlib.Core.Bool.{Bool, true, false, cond, not, _&&_}
 use mathlib.Core.List.{List, [], _∷_}
 use mathlib.Core.Option.{Option, none, some}
 use lib.Dec.{eqb}
@@ -127,10 +127,32 @@ pub record Tells (code a b c d e : ℕ) (m found m' found' : List ℕ) : Type 0 
   pub findings : findings (suc (toldOf m)) found' ≡ finding code a b c d e ∷ findings (toldOf m) found
   pub events : (id : ℕ → ℕ) → events id (saidOf m) found' ≡ events id (saidOf m) found
 
+-- the same where a test holds, and else nothing
+pub record SaysIf (t : Bool) (tag a b c d e : ℕ) (m found m' found' : List ℕ) : Type 0 where
+  pub yes : t ≡ true → Says tag a b c d e m found m' found'
+  pub no : t ≡ false → (m' ≡ m) × (found' ≡ found)
+
+pub record TellsIf (t : Bool) (code a b c d e : ℕ) (m found m' found' : List ℕ) : Type 0 where
+  pub yes : t ≡ true → Tells code a b c d e m found m' found'
+  pub no : t ≡ false → (m' ≡ m) × (found' ≡ found)
+
 -- a row as the code tells it: name and kind
 abbrev pub shown : Option Row → Row'
 shown none = row'.No
 shown (some (row i x k a b)) = row'.Is x k
+
+abbrev pub nameIn : Row' → ℕ
+nameIn (row'.Is x k) = x
+nameIn row'.No = 0
+
+abbrev pub kindIn : Row' → ℕ
+kindIn (row'.Is x k) = k
+kindIn row'.No = 0
+
+-- whether a binder with that row is misplaced where a kind is wanted
+abbrev pub misplacedIn : Bool → ℕ → Row' → Bool
+misplacedIn checks want (row'.Is x k) = checks && not (eqb k want)
+misplacedIn checks want row'.No = false
 
 -- the name and the kind of a row that was told are in range
 abbrev pub InRange : ℕ → Row' → Type 0
@@ -215,14 +237,14 @@ abbrev pub ClosedIf : Bool → List ℕ → List ℕ → List ℕ → List ℕ �
 ClosedIf true tab m vis m' vis' top cur = Left tab m vis m' vis' top cur
 ClosedIf false tab m vis m' vis' top cur = (m' ≡ m) × (vis' ≡ vis)
 
-abbrev pub opens : Act → Bool
-opens (Shows t) = false
-opens (Uses v) = false
-opens (Names x) = false
-opens (Opens a b) = true
+abbrev pub opensIn : Act → Bool
+opensIn (Shows t) = false
+opensIn (Uses v) = false
+opensIn (Names x) = false
+opensIn (Opens a b) = true
 
 abbrev pub Closed : (tab m vis m' vis' : List ℕ) → (top cur : ℕ) → Mode → Form → Type 0
-Closed tab m vis m' vis' top cur mode f = ClosedIf (opens (actOf f) && mode .resolves) tab m vis m' vis' top cur
+Closed tab m vis m' vis' top cur mode f = ClosedIf (opensIn (actOf f) && mode .resolves) tab m vis m' vis' top cur
 
 -- the settings that a number has
 abbrev pub pairOf : ℕ → Pair

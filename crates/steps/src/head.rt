@@ -14,6 +14,7 @@ use crate::leave;
 use crate::row::kind_of;
 use crate::row_of;
 use crate::say;
+use crate::say_wanted;
 use heads::Form;
 use visible::Found;
 use visible::find;
@@ -46,19 +47,34 @@ fn is_quiet(tab: &[u32], mode: u32) -> bool
 }
 
 // What is recorded of a variable whose row has the kind k.
-fn record_var(s: &[u8], tab: &[u32], m: &mut [u32], vis: &[u32], found: &mut [u32], v: u32, k: u32, mode: u32)
+fn record_var(
+    s: &[u8],
+    tab: &[u32],
+    m: &mut [u32],
+    vis: &[u32],
+    found: &mut [u32],
+    v: u32,
+    k: u32,
+    mode: u32,
+)
     requires { ⌜ Ready 1 (words (now s)) (now tab) (now m) (now vis) (now found) ⌝ }
     ensures { λ r. ⌜ Steps 1 (words (now (s .entry))) (now (tab .entry)) (now (m .entry)) (now (vis .entry)) (now (found .entry)) (now (m .exit)) (now (vis .entry)) (now (found .exit)) (λ id. onNames (varRecord (modeOf mode) v k)) ⌝ }
 {
     if mode / RESOLVES % 2 == 1 {
-        if tab[WANTS] == 1 {
-            say(m, found, 4, v, k, 0, 0, 0);
-        }
+        say_wanted(tab, m, found, 4, v, k, 0, 0);
     }
 }
 
 // A use of a variable.
-pub fn use_var(s: &[u8], tab: &[u32], m: &mut [u32], vis: &[u32], found: &mut [u32], v: u32, mode: u32)
+pub fn use_var(
+    s: &[u8],
+    tab: &[u32],
+    m: &mut [u32],
+    vis: &[u32],
+    found: &mut [u32],
+    v: u32,
+    mode: u32,
+)
     requires { ⌜ Ready 2 (words (now s)) (now tab) (now m) (now vis) (now found) ⌝ }
     ensures { λ r. ⌜ Steps 2 (words (now (s .entry))) (now (tab .entry)) (now (m .entry)) (now (vis .entry)) (now (found .entry)) (now (m .exit)) (now (vis .entry)) (now (found .exit)) (λ id. step (modeOf mode) (useVar (worldAt (words (now (s .entry))) (now (tab .entry)) id) v ((worldAt (words (now (s .entry))) (now (tab .entry)) id) .row v)) (atRow (firstOf mode) ((worldAt (words (now (s .entry))) (now (tab .entry)) id) .row v))) ⌝ }
 {
@@ -141,7 +157,11 @@ fn act_of(f: Form) -> Act
         Form::Prop(_) => Act::Shows(0),
         Form::Two(_) => Act::Shows(0),
         Form::Slice(_) => Act::Shows(0),
-        Form::Many(k, _) => if k == 13 { Act::Shows(6) } else { Act::Shows(0) },
+        Form::Many(k, _) => if k == 13 {
+            Act::Shows(6)
+        } else {
+            Act::Shows(0)
+        },
         Form::BinOp(_) => Act::Shows(0),
         Form::UnaryOp(_) => Act::Shows(0),
         Form::Case(_, _) => Act::Shows(0),
@@ -165,7 +185,15 @@ fn show(s: &[u8], tab: &[u32], m: &mut [u32], vis: &[u32], found: &mut [u32], t:
 }
 
 // What a head does before its parts.
-pub fn begin(s: &[u8], tab: &[u32], m: &mut [u32], vis: &[u32], found: &mut [u32], f: Form, mode: u32)
+pub fn begin(
+    s: &[u8],
+    tab: &[u32],
+    m: &mut [u32],
+    vis: &[u32],
+    found: &mut [u32],
+    f: Form,
+    mode: u32,
+)
     requires { ⌜ Named (slotsIn (now tab)) f × Ready (costOf f) (words (now s)) (now tab) (now m) (now vis) (now found) ⌝ }
     ensures { λ r. ⌜ Steps (costOf f) (words (now (s .entry))) (now (tab .entry)) (now (m .entry)) (now (vis .entry)) (now (found .entry)) (now (m .exit)) (now (vis .entry)) (now (found .exit)) (λ id. headOf (worldAt (words (now (s .entry))) (now (tab .entry)) id) (modeOf mode) f (firstOf mode)) ⌝ }
 {
@@ -205,11 +233,7 @@ fn of_operator(o: u32) -> u32
 fn of_property(ident: u32, x: u32) -> u32
     ensures { λ r. ⌜ r ≡ cond (eqb (suc x) ident) 0 2 ⌝ }
 {
-    if (x as u64) + 1 == ident as u64 {
-        0
-    } else {
-        2
-    }
+    if (x as u64) + 1 == ident as u64 { 0 } else { 2 }
 }
 
 // The settings of a head's first part and, 8 times, of the others, where the head stands in the setting `set`.

@@ -24,6 +24,7 @@ pub use row::Row;
 pub use row::kind_of;
 pub use row::row_of;
 pub use said::say;
+pub use said::say_wanted;
 pub use said::tell;
 
 // Where the numbers stand in m.
