@@ -19,8 +19,10 @@ use Rattle.fused.specs.Fused.{Both, isSome, noting}
 use Rattle.visible.specs.Visible.{seens, Descends, Tabled, Bound}
 use Rattle.visible.proofs.Names.{zero-unseen, unseen-zero, descends-above}
 use Rattle.steps.specs.Memory.{atOf, topOf, curOf, lastOf, saidOf, toldOf, lostOf, heldOf, slotsIn, wantsIn, warnsIn, worldAt}
-use Rattle.steps.specs.Hold.{Fits, Holds, Costs, Ready, SaysIf, onNames}
+use Rattle.steps.specs.Hold.{Fits, Holds, Costs, Ready, SaysIf, onNames, shown}
+use Rattle.steps.specs.declared.row.Row.the-variants as row'
 use Rattle.steps.proofs.Held.{Numbers, unset, store, refit, reframe, idle-step, then-steps, instead, says-if, said-numbers, lower}
+use Rattle.steps.proofs.Shown.{is-some, is-none}
 
 -- what m holds after an event that may be said
 pub if-numbers : {t : Bool} {m found m1 found1 : List ℕ} {tag a b c d x : ℕ} → length m ≡ 64 → SaysIf t tag a b c d x m found m1 found1 → Numbers m m1 (atOf m) (topOf m) (curOf m) (lastOf m) (saidOf m1) (toldOf m) (lostOf m) (heldOf m)
@@ -94,14 +96,14 @@ module _ (ws tab m : List ℕ) {vis vis' found : List ℕ} {x v r : ℕ} (size :
       }
 
 -- what `bind` asks
-pub binds-in : {ws tab m vis found : List ℕ} {x : ℕ} (m1 : List ℕ) → x < slotsIn tab → Ready 3 ws tab m vis found → topOf m1 ≡ topOf m →
+pub binds-in : {ws tab m vis found m1 : List ℕ} {x a c l s o b h : ℕ} → x < slotsIn tab → Ready 3 ws tab m vis found → Numbers m m1 a (topOf m) c l s o b h →
     (x < slotsIn tab) × ((topOf m1 < 4294967295) × ((slotsIn tab + (topOf m1 + 1) * 4 ≤ length vis) × Tabled (slotsIn tab) (topOf m1) vis))
-binds-in m1 h r q =
+binds-in h r q =
     let a = r .fit .stack in
     let b = r .fit .within in
     let c = r .fit .names in
     let d = r .fine .short in
-    (h, rw q (omega arith, (omega arith, r .fit .tabled)))
+    (h, rw (q .top) (omega arith, (omega arith, r .fit .tabled)))
 
 pub names : {ws tab m vis found m1 vis1 found1 : List ℕ} {x v k r : ℕ} → length m ≡ 64 → SaysIf (wantsIn tab) 2 (curOf m) x v k 0 m found m1 found1 → Bound (slotsIn tab) (topOf m1) x v (curOf m1) vis vis1 r →
     Costs 1 3 ws tab m vis found (set m1 1 r) vis1 found1 (λ id. onNames (bindName x v k))
@@ -138,12 +140,12 @@ known-falls true (some r) q = sym q
 known-falls false o q = refl
 
 module _ {ws tab m vis found : List ℕ} (v : ℕ) where
-  pub noted-idle : isSome (worldAt ws tab (λ x. x) .row v) ≡ true → Costs 0 0 ws tab m vis found m vis found (λ id. noting (worldAt ws tab id) (v ∷ []))
+  pub noted-idle : {x k : ℕ} → row'.Is x k ≡ shown (worldAt ws tab (λ x. x) .row v) → Costs 0 0 ws tab m vis found m vis found (λ id. noting (worldAt ws tab id) (v ∷ []))
   unfolding allKnown
   noted-idle q =
-      idle-step _ (λ id s h. record { visible = h .visible; cur = h .cur; last = h .last; log = h .log; kinds = h .kinds; known = h .known ∙ known-stays (s .known) (worldAt ws tab (λ x. x) .row v) q })
+      idle-step _ (λ id s h. record { visible = h .visible; cur = h .cur; last = h .last; log = h .log; kinds = h .kinds; known = h .known ∙ known-stays (s .known) (worldAt ws tab (λ x. x) .row v) (is-some (worldAt ws tab (λ x. x) .row v) q) })
 
-  pub noted-lost : length m ≡ 64 → isSome (worldAt ws tab (λ x. x) .row v) ≡ false → Costs 0 0 ws tab m vis found (set m 6 1) vis found (λ id. noting (worldAt ws tab id) (v ∷ []))
+  pub noted-lost : length m ≡ 64 → row'.No ≡ shown (worldAt ws tab (λ x. x) .row v) → Costs 0 0 ws tab m vis found (set m 6 1) vis found (λ id. noting (worldAt ws tab id) (v ∷ []))
   unfolding allKnown
   noted-lost size z =
       let q = store 6 1 (omega arith) size (unset {m = m}) in
@@ -161,6 +163,6 @@ module _ {ws tab m vis found : List ℕ} (v : ℕ) where
               last = q .last ∙ h .last;
               log = rw (q .said) (h .log);
               kinds = rw (q .told) (h .kinds);
-              known = rw (q .lost) (known-falls (s .known) (worldAt ws tab (λ x. x) .row v) z);
+              known = rw (q .lost) (known-falls (s .known) (worldAt ws tab (λ x. x) .row v) (is-none (worldAt ws tab (λ x. x) .row v) z));
             };
       }

@@ -1,5 +1,5 @@
 -- Laws of a row as the code tells it: it is the table's (`all-chains`, `row-near`, `row-shown`, `row-range`), and what it says of the row (`kind-is`, `kind-none`,
--- `is-some`, `is-none`, `name-as`, `name-small`); E2008 by it is the definition's (`misplaced-as`).
+-- `is-some`, `is-none`, `name-as`, `name-below`, `slots-small`); E2008 by it is the definition's (`misplaced-as`).
 use Prim.Native.Nat.{ℕ, zero, suc, _+_, _-_, _*_, _<_, _≤_}
 use native.Mathlib.Omega.{arith}
 use mathlib.Core.Path.{_≡_, refl, ap, sym, _∙_}
@@ -17,7 +17,7 @@ use Rattle.fused.specs.Fused.{isSome, told, when}
 use Rattle.rows.specs.Rows.{idAt, seek, rowTold}
 use Rattle.rows.proofs.Chains.{seek-le}
 use Rattle.steps.specs.Memory.{topOf, atOf, slotsIn, rowsIn, bindingsIn}
-use Rattle.steps.specs.Hold.{Fine, Ready, shown, InRange, nameIn, kindIn, misplacedIn}
+use Rattle.steps.specs.Hold.{Fine, Ready, shown, InRange, shownTo, nameIn, kindIn, misplacedIn}
 use Rattle.steps.specs.declared.row.Row.{Row as Row'}
 use Rattle.steps.specs.declared.row.Row.the-variants as row'
 
@@ -66,9 +66,12 @@ unfolding rowName
 name-as none = refl
 name-as (some (row i y l a b)) = refl
 
-pub name-in : {slots : ℕ} (r : Row') → 0 < slots → InRange slots r → nameIn r < slots
-name-in (row'.Is x k) h q = q .0
-name-in row'.No h q = h
+pub name-below : {slots : ℕ} {o : Option Row} {r : Row'} → 0 < slots → shownTo slots o r → nameIn r < slots
+name-below {slots} {r = r} h q = go r (q .range)
+  where
+    go : (r : Row') → InRange slots r → nameIn r < slots
+    go (row'.Is x k) q = q .0
+    go row'.No q = h
 
 pub slots-small : {j : ℕ} {ws tab m vis found : List ℕ} → Ready j ws tab m vis found → slotsIn tab ≤ 2049
 slots-small r = omega (arith, r .fit .stack, r .fit .within, r .fine .short)

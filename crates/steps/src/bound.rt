@@ -32,7 +32,16 @@ ghost use Rattle.steps.specs.Memory.{topOf, curOf, slotsIn, warnsIn, wor
 ghost use Rattle.steps.specs.Hold.{Ready, Roomy, Costs, Steps, TellsIf, Left, onNames, pathStep, shownTo, nameIn, kindIn, misplacedIn};
 
 // A scope of the kind under the current one, which it becomes.
-pub fn enter(s: &[u8], tab: &[u32], m: &mut [u32], vis: &[u32], found: &mut [u32], kind: u32, start: u32, end: u32)
+pub fn enter(
+    s: &[u8],
+    tab: &[u32],
+    m: &mut [u32],
+    vis: &[u32],
+    found: &mut [u32],
+    kind: u32,
+    start: u32,
+    end: u32,
+)
     requires { ⌜ Ready 1 (words (now s)) (now tab) (now m) (now vis) (now found) ⌝ }
     ensures { λ r. ⌜ Steps 1 (words (now (s .entry))) (now (tab .entry)) (now (m .entry)) (now (vis .entry)) (now (found .entry)) (now (m .exit)) (now (vis .entry)) (now (found .exit)) (λ id. onNames (enter kind start end)) ⌝ }
 {
@@ -44,7 +53,16 @@ pub fn enter(s: &[u8], tab: &[u32], m: &mut [u32], vis: &[u32], found: &mut [u32
 }
 
 // A name is bound in the current scope.
-pub fn bind_name(s: &[u8], tab: &[u32], m: &mut [u32], vis: &mut [u32], found: &mut [u32], x: u32, v: u32, kind: u32)
+pub fn bind_name(
+    s: &[u8],
+    tab: &[u32],
+    m: &mut [u32],
+    vis: &mut [u32],
+    found: &mut [u32],
+    x: u32,
+    v: u32,
+    kind: u32,
+)
     requires { ⌜ (x < slotsIn (now tab)) × Ready 3 (words (now s)) (now tab) (now m) (now vis) (now found) ⌝ }
     ensures { λ r. ⌜ Costs 1 3 (words (now (s .entry))) (now (tab .entry)) (now (m .entry)) (now (vis .entry)) (now (found .entry)) (now (m .exit)) (now (vis .exit)) (now (found .exit)) (λ id. onNames (bindName x v kind)) ⌝ }
 {
@@ -70,7 +88,18 @@ fn is_again(tab: &[u32], m: &[u32], vis: &[u32], x: u32) -> bool
 }
 
 // A name is bound, with E1002 where its scope binds it already.
-pub fn bind_anew(s: &[u8], tab: &[u32], m: &mut [u32], vis: &mut [u32], found: &mut [u32], start: u32, end: u32, x: u32, v: u32, kind: u32)
+pub fn bind_anew(
+    s: &[u8],
+    tab: &[u32],
+    m: &mut [u32],
+    vis: &mut [u32],
+    found: &mut [u32],
+    start: u32,
+    end: u32,
+    x: u32,
+    v: u32,
+    kind: u32,
+)
     requires { ⌜ (x < slotsIn (now tab)) × Ready 3 (words (now s)) (now tab) (now m) (now vis) (now found) ⌝ }
     ensures { λ r. ⌜ Costs 2 3 (words (now (s .entry))) (now (tab .entry)) (now (m .entry)) (now (vis .entry)) (now (found .entry)) (now (m .exit)) (now (vis .exit)) (now (found .exit)) (λ id. onNames (bindAnew (worldAt (words (now (s .entry))) (now (tab .entry)) id) start end x v kind)) ⌝ }
 {
@@ -108,7 +137,16 @@ fn name_in(r: Row) -> u32
 }
 
 // E2008, where kinds are checked, for a binder whose row has another kind than its place wants.
-fn misplace(m: &mut [u32], found: &mut [u32], mode: u32, r: Row, want: u32, one: u32, start: u32, end: u32)
+fn misplace(
+    m: &mut [u32],
+    found: &mut [u32],
+    mode: u32,
+    r: Row,
+    want: u32,
+    one: u32,
+    start: u32,
+    end: u32,
+)
     requires { ⌜ (nameIn r < 4294967295) × Roomy (now m) (now found) ⌝ }
     ensures { λ u. ⌜ TellsIf (misplacedIn (modeOf mode .checks) want r) 2008 start end (suc (nameIn r)) one (kindIn r) (now (m .entry)) (now (found .entry)) (now (m .exit)) (now (found .exit)) ⌝ }
 {
@@ -125,7 +163,16 @@ fn misplace(m: &mut [u32], found: &mut [u32], mode: u32, r: Row, want: u32, one:
 }
 
 // A path's name is bound, where names are resolved.
-fn bind_path_name(s: &[u8], tab: &[u32], m: &mut [u32], vis: &mut [u32], found: &mut [u32], x: u32, v: u32, mode: u32)
+fn bind_path_name(
+    s: &[u8],
+    tab: &[u32],
+    m: &mut [u32],
+    vis: &mut [u32],
+    found: &mut [u32],
+    x: u32,
+    v: u32,
+    mode: u32,
+)
     requires { ⌜ (x < slotsIn (now tab)) × Ready 3 (words (now s)) (now tab) (now m) (now vis) (now found) ⌝ }
     ensures { λ r. ⌜ Costs 2 3 (words (now (s .entry))) (now (tab .entry)) (now (m .entry)) (now (vis .entry)) (now (found .entry)) (now (m .exit)) (now (vis .exit)) (now (found .exit)) (λ id. onNames (when (modeOf mode .resolves) (bindAnew (worldAt (words (now (s .entry))) (now (tab .entry)) id) 0 0 x v 3))) ⌝ }
 {
@@ -135,7 +182,15 @@ fn bind_path_name(s: &[u8], tab: &[u32], m: &mut [u32], vis: &mut [u32], found: 
 }
 
 // A part's path variable.
-pub fn bind_path(s: &[u8], tab: &[u32], m: &mut [u32], vis: &mut [u32], found: &mut [u32], v: u32, mode: u32)
+pub fn bind_path(
+    s: &[u8],
+    tab: &[u32],
+    m: &mut [u32],
+    vis: &mut [u32],
+    found: &mut [u32],
+    v: u32,
+    mode: u32,
+)
     requires { ⌜ Ready 3 (words (now s)) (now tab) (now m) (now vis) (now found) ⌝ }
     ensures { λ r. ⌜ Steps 3 (words (now (s .entry))) (now (tab .entry)) (now (m .entry)) (now (vis .entry)) (now (found .entry)) (now (m .exit)) (now (vis .exit)) (now (found .exit)) (λ id. pathStep (worldAt (words (now (s .entry))) (now (tab .entry)) id) (modeOf mode) (maybe.Var v)) ⌝ }
 {
@@ -146,7 +201,17 @@ pub fn bind_path(s: &[u8], tab: &[u32], m: &mut [u32], vis: &mut [u32], found: &
 }
 
 // A node's or a relationship's name is bound, where names are resolved, if it is not visible.
-fn bind_new(s: &[u8], tab: &[u32], m: &mut [u32], vis: &mut [u32], found: &mut [u32], x: u32, v: u32, kind: u32, mode: u32)
+fn bind_new(
+    s: &[u8],
+    tab: &[u32],
+    m: &mut [u32],
+    vis: &mut [u32],
+    found: &mut [u32],
+    x: u32,
+    v: u32,
+    kind: u32,
+    mode: u32,
+)
     requires { ⌜ (x < slotsIn (now tab)) × Ready 3 (words (now s)) (now tab) (now m) (now vis) (now found) ⌝ }
     ensures { λ r. ⌜ Costs 1 3 (words (now (s .entry))) (now (tab .entry)) (now (m .entry)) (now (vis .entry)) (now (found .entry)) (now (m .exit)) (now (vis .exit)) (now (found .exit)) (λ id. onNames (when (modeOf mode .resolves) (λ y. bindNew (worldAt (words (now (s .entry))) (now (tab .entry)) id) (lookup x (y .visible)) x v kind y))) ⌝ }
 {
@@ -158,7 +223,15 @@ fn bind_new(s: &[u8], tab: &[u32], m: &mut [u32], vis: &mut [u32], found: &mut [
 }
 
 // An element's own binder.
-pub fn bind_elem(s: &[u8], tab: &[u32], m: &mut [u32], vis: &mut [u32], found: &mut [u32], h: Elem, mode: u32)
+pub fn bind_elem(
+    s: &[u8],
+    tab: &[u32],
+    m: &mut [u32],
+    vis: &mut [u32],
+    found: &mut [u32],
+    h: Elem,
+    mode: u32,
+)
     requires { ⌜ (h .kind < 4294967295) × Ready 3 (words (now s)) (now tab) (now m) (now vis) (now found) ⌝ }
     ensures { λ r. ⌜ Steps 3 (words (now (s .entry))) (now (tab .entry)) (now (m .entry)) (now (vis .entry)) (now (found .entry)) (now (m .exit)) (now (vis .exit)) (now (found .exit)) (λ id. elemStep (worldAt (words (now (s .entry))) (now (tab .entry)) id) (modeOf mode) h) ⌝ }
 {

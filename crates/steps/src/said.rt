@@ -31,7 +31,16 @@ pub fn say(m: &mut [u32], found: &mut [u32], tag: u32, a: u32, b: u32, c: u32, d
 }
 
 // An event that is no finding, where every event is wanted.
-pub fn say_wanted(tab: &[u32], m: &mut [u32], found: &mut [u32], tag: u32, a: u32, b: u32, c: u32, d: u32)
+pub fn say_wanted(
+    tab: &[u32],
+    m: &mut [u32],
+    found: &mut [u32],
+    tag: u32,
+    a: u32,
+    b: u32,
+    c: u32,
+    d: u32,
+)
     requires { ⌜ (10 ≤ length (now tab)) × Roomy (now m) (now found) ⌝ }
     ensures { λ r. ⌜ SaysIf (wantsIn (now (tab .entry))) tag a b c d 0 (now (m .entry)) (now (found .entry)) (now (m .exit)) (now (found .exit)) ⌝ }
 {

@@ -15,7 +15,7 @@ bind-name-spec =
     (λ c. search needs)  -- shared-slice-read-bind
     (λ c. search needs)  -- slice-read-bind
     (λ c. search needs)  -- slice-read-bind-2
-    (λ c κs. let p = c .before .before .before .before .before .before .before .before .before .before .before .before .before .before .before .before .before .pre in binds-in _ (p .0) (p .1) (if-numbers (p .1 .fit .size) (c .before .before .before .before .before .before .before .before .say-wanted .ensures) .top))  -- bind-requires
+    (λ c κs. let p = c .before .before .before .before .before .before .before .before .before .before .before .before .before .before .before .before .before .pre in binds-in (p .0) (p .1) (if-numbers (p .1 .fit .size) (c .before .before .before .before .before .before .before .before .say-wanted .ensures)))  -- bind-requires
     (λ c. search needs)  -- slice-write-m
     (λ c. search needs)  -- same-length
     (λ c. search needs)  -- same-length-2
