@@ -1,5 +1,5 @@
--- Laws of steps. Numbers: what m holds after stores (`unset`, `store`). Room: `lower`, `weaken`, `ready-less`, `roomy`, `roomy-in`,
--- `bonus-le`. Steps: nothing done (`idle-step`), one after another (`then-steps`, `framed`), for more words (`more-steps`), put another way
+-- Laws of steps. Numbers: what m holds after stores (`unset`, `store`). Room: `lower`, `weaken`, `ready-less`, `roomy`, `roomy-in`.
+-- Steps: nothing done (`idle-step`), one after another (`then-steps`, `framed`), for more words (`more-steps`), put another way
 -- (`as-steps`, `instead`). What is said and told: `says-step`, `says-costs`, `says-if`, `unsaid-step`, `tells-step`, `tells-costs`, `tells-if`, with `wanted`,
 -- `always` and `unwanted` for what is kept of a log.
 use Prim.Native.Nat.{ℕ, zero, suc, _+_, _-_, _*_, _<_, _≤_}
@@ -17,7 +17,7 @@ use Rattle.semantics.specs.Resolve.{State, say}
 use Rattle.fused.specs.Fused.{Both, told}
 use Rattle.visible.specs.Visible.{seens, Descends, Tabled}
 use Rattle.steps.specs.Memory.{atOf, topOf, curOf, lastOf, saidOf, toldOf, lostOf, heldOf, levelOf, slotsIn, wantsIn, events, findings, eventOf, keptOne, kept}
-use Rattle.steps.specs.Hold.{Fine, bonus, Fits, Fit, Holds, Frame, Costs, Steps, Ready, Roomy, Says, SaysIf, Tells, TellsIf, onNames, onKinds}
+use Rattle.steps.specs.Hold.{Fine, Fits, Fit, Holds, Frame, Costs, Steps, Ready, Roomy, Says, SaysIf, Tells, TellsIf, onNames, onKinds}
 
 -- ---- numbers: n is m after stores
 pub record Numbers (m n : List ℕ) (a t c l s o b h : ℕ) : Type 0 where
@@ -62,13 +62,6 @@ store {m} {n} i x h z q =
     }
 
 -- ---- room
-pub bonus-le : (tab : List ℕ) (n k : ℕ) → n ≤ k → (bonus tab n ≤ bonus tab k) × (bonus tab n ≤ n)
-bonus-le tab n k h = go (wantsIn tab)
-  where
-    go : (b : Bool) → (cond b n 0 ≤ cond b k 0) × (cond b n 0 ≤ n)
-    go true = (h, omega arith)
-    go false = (omega arith, omega arith)
-
 -- fewer words that nothing was done for
 pub lower : {e t i k : ℕ} {ws tab m vis found : List ℕ} → i ≤ e → k ≤ t → Fits e t ws tab m vis found → Fits i k ws tab m vis found
 lower a b f =
@@ -94,12 +87,10 @@ ready-less h r = record { fine = r .fine; fit = lower h h (r .fit) }
 -- what was read and not paid for pays for one thing more
 pub roomy-in : {e t : ℕ} {ws tab m vis found : List ℕ} → Fine ws tab → Fits (suc e) t ws tab m vis found → Roomy m found
 roomy-in {e} {t} {ws} {tab} {m} {vis} {found} h f =
-    let b = bonus-le tab (atOf m) (length ws) (f .within) in
-    let c = bonus-le tab (length ws) (length ws) (omega arith) in
     record {
       size = f .size;
-      small = omega (arith, b .1, f .count, f .within, h .short);
-      room = omega (arith, b .0, f .count, f .within, f .room);
+      small = omega (arith, f .count, f .within, h .short);
+      room = omega (arith, f .count, f .within, f .room);
     }
 
 pub roomy : {j : ℕ} {ws tab m vis found : List ℕ} → Ready (suc j) ws tab m vis found → Roomy m found
@@ -194,7 +185,7 @@ module _ {ws tab m vis found m1 vis1 found1 : List ℕ} {F : (ℕ → ℕ) → B
 -- ---- what fits after stores, and what stays
 pub refit : {ws tab m vis found n vis' found' : List ℕ} {e t i k top cur last said told lost held : ℕ} → Fits e t ws tab m vis found → Numbers m n (atOf m) top cur last said told lost held →
     length vis' ≡ length vis → length found' ≡ length found → Tabled (slotsIn tab) top vis' → Descends cur (seens (slotsIn tab) top vis') → cur ≤ last → last + k ≤ atOf m →
-    (said + told + i) * 3 ≤ atOf m * 3 + bonus tab (atOf m) → slotsIn tab + top * 3 + k ≤ atOf m + 1 → Fits i k ws tab n vis' found'
+    said + told + i ≤ atOf m + 1 → slotsIn tab + top * 3 + k ≤ atOf m + 1 → Fits i k ws tab n vis' found'
 refit f q v w a b c d g h =
     record {
       size = q .size ∙ f .size;

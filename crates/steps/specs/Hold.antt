@@ -37,10 +37,6 @@ pub record Fine (ws tab : List ℕ) : Type 0 where
   pub kinded : (j : ℕ) → j < bindingsIn tab → getD ws (rowsIn tab + j * 5 + 2) 0 ≤ 4
   pub hung : Hung (multIn tab) (shiftIn tab) (bindingsIn tab) (idAt ws (rowsIn tab)) (chainsIn tab)
 
--- where every event is wanted, each word pays for a third of one more: WITH says a carried pair twice again after its three words
-abbrev pub bonus : List ℕ → ℕ → ℕ
-bonus tab n = cond (wantsIn tab) n 0
-
 -- What is always so. Whatever is said, opened or bound is paid for by words that were read, so there is room for it: e words were read that
 -- nothing was said for yet, and t that nothing was opened or bound for.
 pub record Fits (e t : ℕ) (ws tab m vis found : List ℕ) : Type 0 where
@@ -49,11 +45,11 @@ pub record Fits (e t : ℕ) (ws tab m vis found : List ℕ) : Type 0 where
   pub descends : Descends (curOf m) (seens (slotsIn tab) (topOf m) vis)
   pub cur : curOf m ≤ lastOf m
   pub last : lastOf m + t ≤ atOf m
-  pub count : (saidOf m + toldOf m + e) * 3 ≤ atOf m * 3 + bonus tab (atOf m)
+  pub count : saidOf m + toldOf m + e ≤ atOf m + 1
   pub stack : slotsIn tab + topOf m * 3 + t ≤ atOf m + 1
   pub within : atOf m ≤ length ws
   pub names : 4 * (length ws + 2) ≤ 3 * length vis
-  pub room : length ws * 6 + bonus tab (length ws) * 2 ≤ length found
+  pub room : (length ws + 1) * 6 ≤ length found
 
 -- k words were read that nothing was done for yet
 abbrev pub Fit : ℕ → (ws tab m vis found : List ℕ) → Type 0
