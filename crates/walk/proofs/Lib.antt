@@ -1,3 +1,5 @@
 pub mod Codes
 pub mod Plains
 pub mod Stage
+pub mod Modes
+pub mod Paid
