@@ -3,3 +3,4 @@ pub mod Plains
 pub mod Stage
 pub mod Modes
 pub mod Paid
+pub mod Climb
