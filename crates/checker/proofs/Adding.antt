@@ -6,12 +6,12 @@ use mathlib.Core.Path.{_≡_, refl, sym, _∙_}
 use mathlib.Core.List.{List, [], _∷_, _++_, flatMap, append-nil}
 use lib.ListN.{length}
 use lib.Seq.{sets, length-sets}
-use Rattle.resolve.specs.Log.{Event, bindOf, answerOf, bindsIn, answersIn}
+use Rattle.semantics.specs.Log.{Event, bindOf, answerOf, bindsIn, answersIn}
+use Rattle.semantics.specs.Lists.{put, puts, note, notes}
+use Rattle.theorems.proofs.Views.{pick-append}
 use Rattle.resolve.specs.Walk.{events, eventAt}
-use Rattle.checker.specs.Lists.{put, puts, note, notes}
 use Rattle.checker.specs.Filled.{filled}
 use Rattle.checker.specs.Adding.{Holds, Becomes, after}
-use Rattle.checker.proofs.Views.{pick-append}
 use Rattle.checker.proofs.Filling.{over, length-over, over-last, sets-over, filled-nil}
 
 -- an event adds nothing

@@ -7,7 +7,7 @@ use mathlib.Core.List.{List, [], _∷_, _++_}
 use lib.ListN.{length, getD, drop}
 use lib.Seq.{getD-drop}
 use Rattle.scope.specs.Flat.{entriesOf}
-use Rattle.resolve.specs.Log.{Finding, finding}
+use Rattle.semantics.specs.Log.{Finding, finding}
 use Rattle.kinds.specs.Walk.{findingOf, findingsOf, stored, Pushed}
 use Rattle.kinds.proofs.Store.{pushed-then, length-stored}
 

@@ -15,22 +15,22 @@ use Rattle.scope.specs.Flat.{entriesOf, scopeOf, bindingOf, carriedOf}
 use Rattle.expr.proofs.Inverse.{never}
 use Rattle.sheet.specs.Statement.{Statement}
 use Rattle.sheet.specs.Read.{accepted, readSheet}
-use Rattle.resolve.specs.Log.{Finding, finding, found, missing, Write, write, findsIn, findOf}
-use Rattle.resolve.specs.Resolve.{log}
+use Rattle.semantics.specs.Log.{Finding, finding, found, missing, Write, write, findsIn, findOf}
+use Rattle.semantics.specs.Resolve.{log}
+use Rattle.semantics.specs.Lists
+use Rattle.theorems.specs.Site.{Site, Stands, newRoot, partLog}
+use Rattle.theorems.specs.With.{partFindings}
+use Rattle.theorems.specs.InLists.{kindsBefore, kindsAfter}
+use Rattle.theorems.specs.Sheets.{AgreeSheets}
+use Rattle.theorems.proofs.Views.{pick-append}
+use Rattle.theorems.proofs.InLists.{in-lists}
+use Rattle.theorems.proofs.ApartSheets.{apart-sheets}
 use Rattle.kinds.specs.Walk.{findingWords, findingOf}
-use Rattle.checker.specs.Lists
-use Rattle.checker.specs.Site.{Site, Stands, newRoot, partLog}
-use Rattle.checker.specs.With.{partFindings}
-use Rattle.checker.specs.InLists.{kindsBefore, kindsAfter}
-use Rattle.checker.specs.Sheets.{AgreeSheets}
 use Rattle.checker.specs.Filled.{filled, scopeWords, bindingWords, carriedWords, recordedWords, withScopes, withBindings, withCarried, withRecorded, withFindings}
 use Rattle.checker.specs.Checked.{Lent, roomy, countsOf, filledBy, answer, left, answerIn, leftIn}
 use Rattle.checker.specs.Calls.{Call, writeOf, entriesIn, listsOf, pieces, partIn, SameLists}
 use Rattle.checker.specs.declared.Counts.{Counts}
 use Rattle.checker.specs.declared.Checked.the-variants as checked
-use Rattle.checker.proofs.Views.{pick-append}
-use Rattle.checker.proofs.InLists.{in-lists}
-use Rattle.checker.proofs.ApartSheets.{apart-sheets}
 
 -- Entries at the front of words read back, if each does.
 module _ {A : Type 0} (width : ℕ) (one : List ℕ → A) (words : A → List ℕ) (back : (a : A) (r : List ℕ) → one (words a ++ r) ≡ a)

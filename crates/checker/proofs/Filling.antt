@@ -8,7 +8,7 @@ use mathlib.Core.Option.{none, some}
 use lib.ListN.{length, set, drop, length-append, length-drop}
 use lib.Seq.{sets, sets-eq, drop-at, drop-drop}
 use Rattle.scope.specs.Graph.{Scope, scope, Entry, entry, Carried, carried}
-use Rattle.resolve.specs.Log.{Write, write, found, missing, Finding, finding}
+use Rattle.semantics.specs.Log.{Write, write, found, missing, Finding, finding}
 use Rattle.kinds.specs.Walk.{findingWords, stored}
 use Rattle.checker.specs.Filled.{filled, scopeWords, bindingWords, carriedWords, recordedWords, withScopes, withBindings, withCarried, withRecorded, withFindings}
 

@@ -14,19 +14,19 @@ use Rattle.sheet.specs.Read.{Sheet, accepted, refused, readSheet}
 use Rattle.sheet.specs.Answer.{openedAs}
 use Rattle.sheet.specs.declared.trailer.Opened.the-variants as opened
 use Rattle.sheet.specs.declared.trailer.Places.{Places}
-use Rattle.resolve.specs.Log.{Event, scopesIn, bindsIn, carriesIn, answersIn, findsIn}
-use Rattle.resolve.specs.Resolve.{worldOf, bytesOf, log}
-use Rattle.kinds.specs.Kinds.{kinds}
+use Rattle.semantics.specs.Log.{Event, scopesIn, bindsIn, carriesIn, answersIn, findsIn}
+use Rattle.semantics.specs.World.{worldOf}
+use Rattle.semantics.specs.Resolve.{log}
+use Rattle.semantics.specs.Kinds.{kinds}
+use Rattle.semantics.specs.Lists.{puts, notes, lists}
+use Rattle.theorems.proofs.Sizes.{fits}
 use Rattle.kinds.proofs.Same.{same-kinds}
-use Rattle.kinds.specs.Kinds.{named-id}
-use Rattle.checker.specs.Lists.{puts, notes, lists}
 use Rattle.checker.specs.Room.{enough}
 use Rattle.checker.specs.Filled.{withScopes, withBindings, withCarried, withRecorded, withFindings}
 use Rattle.checker.specs.Accepted.{logOf, kindsOf, foundIn}
 use Rattle.checker.specs.Checked.{Lent, roomy, countsOf, filledBy, answer, left, answerIn, leftIn, Fills}
 use Rattle.checker.specs.declared.Counts.{Counts}
 use Rattle.checker.specs.declared.Checked.the-variants as checked
-use Rattle.checker.proofs.Sizes.{fits}
 use Rattle.checker.proofs.Opening.{Held}
 
 both : (a b : Bool) → (a && b) ≡ true → (a ≡ true) × (b ≡ true)
@@ -74,8 +74,8 @@ long n l h =
 
 -- the kinds walk doesn't look at the warning choice
 kinds-warn : (warns : Bool) (st : Statement) → kinds (worldOf false st) (st .head) ≡ kinds (worldOf warns st) (st .head)
-unfolding worldOf named-id bytesOf
-kinds-warn warns st = same-kinds (worldOf false st) (worldOf warns st) refl (λ x. refl) (st .head)
+unfolding worldOf
+kinds-warn warns st = same-kinds (worldOf false st) (worldOf warns st) (λ v. refl) (λ x. refl) (st .head)
 
 module _ (warns : Bool) {s : List ℕ} {p : Places} (h : Held s p) where
   -- no more events and findings than words

@@ -1,22 +1,20 @@
 -- The resolve walk over an accepted sheet: what head and arms ask, and the log that they leave.
 use Prim.Native.Nat.{ℕ, _+_, _-_, _*_, _≤_}
 use native.Mathlib.Omega.{arith}
-use mathlib.Core.Path.{_≡_, refl, ap, sym, _∙_}
-use mathlib.Core.Bool.{Bool, true}
+use mathlib.Core.Path.{_≡_, ap, sym, _∙_}
+use mathlib.Core.Bool.{Bool}
 use mathlib.Core.List.{List, [], _∷_, map}
 use lib.ListN.{length, take, drop, length-take}
 use Rattle.words.specs.Words.{words}
 use Rattle.words.specs.Fnv.{useId}
-use Rattle.heads.specs.Got.{Got, ok, many, bare, isOk}
-use Rattle.clauses.specs.Tree.{Clause, Arm}
+use Rattle.heads.specs.Got.{ok, many}
 use Rattle.clauses.specs.Read.{readClause, readArm}
 use Rattle.tables.specs.Index.{indexOf}
 use Rattle.sheet.specs.Statement.{Statement}
 use Rattle.sheet.specs.Read.{Sheet, readSheet}
 use Rattle.sheet.specs.declared.trailer.Places.{Places}
-use Rattle.sheet.proofs.Walked.{WalkedSheet}
-use Rattle.resolve.specs.Resolve.{worldOf, log}
-use Rattle.resolve.specs.Walk.{Facts, State, factsOf, factsAt, tablesAt, after, events, stateOf, Tabled, Room, Ready, Resolved}
+use Rattle.semantics.specs.Resolve.{log}
+use Rattle.resolve.specs.Walk.{Facts, State, factsOf, factsAt, tablesAt, after, events, stateOf, Tabled, Ready, Resolved}
 use Rattle.resolve.specs.Lowering.{runCs, runAs, rooted}
 use Rattle.resolve.specs.declared.Env.{Env}
 use Rattle.resolve.specs.declared.Walk.{Walk}
@@ -25,7 +23,7 @@ use Rattle.resolve.proofs.Decode.{length-events}
 use Rattle.resolve.proofs.Lowered.{whole}
 use Rattle.resolve.proofs.Moved.{log-length}
 use Rattle.kinds.proofs.Accepted.{table-at, well-rows}
-use Rattle.checker.specs.Accepted.{namesOf, logOf, Opens, Wide, Named}
+use Rattle.checker.specs.Accepted.{namesOf, logOf, Wide, Named}
 use Rattle.checker.proofs.Opening.{Held}
 use Rattle.checker.proofs.Finishing.{log-few}
 
@@ -40,11 +38,11 @@ module _ (warns : Bool) {s : List ℕ} {p : Places} (h : Held s p) {ids : List �
   st = h .statement
 
   abbrev facts : Facts
-  facts = factsOf (worldOf warns st)
+  facts = factsOf warns st
 
   -- in the words of a part that ends after the bindings, the facts are the statement's
   facts-are : (to : ℕ) → p .rows + p .bindings * 5 ≤ to → factsAt (take to (words s)) env ids ≡ facts
-  unfolding factsOf worldOf
+  unfolding factsOf
   facts-are to l =
       let i : take (p .names) ids ≡ map useId (st .names) = n .same ∙ ap (λ (x : Sheet Statement). map useId (namesOf x)) (h .reads) in
       let j : star ≡ indexOf (42 ∷ []) (st .names) = e ∙ ap (λ (x : Sheet Statement). indexOf (42 ∷ []) (namesOf x)) (h .reads) in

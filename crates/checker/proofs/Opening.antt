@@ -20,17 +20,18 @@ use Rattle.sheet.specs.declared.trailer.Opened.the-variants as opened
 use Rattle.sheet.proofs.Accepted.{accepted-words}
 use Rattle.sheet.proofs.NameBytes.{nameBytes, names-give}
 use Rattle.sheet.proofs.Walked.{WalkedSheet, walked}
-use Rattle.resolve.specs.Log.{findsIn}
-use Rattle.resolve.specs.Resolve.{worldOf, log}
-use Rattle.kinds.specs.Kinds.{kinds}
+use Rattle.semantics.specs.Log.{findsIn}
+use Rattle.semantics.specs.World.{worldOf}
+use Rattle.semantics.specs.Resolve.{log}
+use Rattle.semantics.specs.Kinds.{kinds}
+use Rattle.semantics.specs.Lists.{lists}
+use Rattle.theorems.proofs.Sizes.{fits}
 use Rattle.kinds.specs.Walk as kind-walk
 use Rattle.kinds.specs.Walk.{Pushed, found, worldAt, tablesAt}
 use Rattle.kinds.specs.declared.Env as kind-env
 use Rattle.kinds.specs.declared.Walked.{Walked}
 use Rattle.kinds.proofs.Accepted.{table-at, well-rows}
 use Rattle.kinds.proofs.Same.{true-world}
-use Rattle.checker.specs.Lists.{lists}
-use Rattle.checker.proofs.Sizes.{fits}
 use Rattle.checker.specs.Accepted.{isAccepted, namesOf, kindsOf, Opens, Wide, Named, Placed}
 
 -- a sheet that was opened is accepted, and of two tables with an entry for each word one has the places of its names, the other their
@@ -91,10 +92,9 @@ module _ {s : List ℕ} {p : Places} (h : Held s p) {ws : List ℕ} (cut : ws �
       }
 
   pub kinds-done : (ident : ℕ) (old new : List ℕ) (r : Walked) → ident ≡ indexOf (105 ∷ 100 ∷ []) (namesOf (readSheet s)) → kind-walk.Checked ws (p .head) 0 old new (kinds (worldAt ws (kindEnv p ident))) (many (readClause (tablesAt ws (kindEnv p ident))) (p .clauses) (drop (p .head) ws)) r → Pushed old new 0 (kindsOf (readSheet s)) (r .count)
-  unfolding worldOf
   kinds-done ident old new r e v =
       let w = h .walked in
-      let t = true-world (worldOf false (h .statement)) ws (kindEnv p ident) (rw (h .reads) at e) (w .tabled .apart) (rw cut (table-at w (p .tail) (omega (arith, w .table, w .places .head)))) (h .statement .head) in
+      let t = true-world false (h .statement) ws (kindEnv p ident) (rw (h .reads) at e) (w .tabled .apart) (rw cut (table-at w (p .tail) (omega (arith, w .table, w .places .head)))) (h .statement .head) in
       let f : found (kinds (worldAt ws (kindEnv p ident))) (many (readClause (tablesAt ws (kindEnv p ident))) (p .clauses) (drop (p .head) ws)) ≡ kindsOf (readSheet s) = ap (found (kinds (worldAt ws (kindEnv p ident)))) (head-is ident) ∙ t ∙ sym (ap kindsOf (h .reads)) in
       record { count = rw (← f) (v .count); wrote = rw (← f) (v .wrote) }
 

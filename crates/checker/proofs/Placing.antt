@@ -13,8 +13,8 @@ use lib.Seq.{sets, drop-at, getD-drop, getD-append-add}
 use Rattle.scope.specs.Flat.{entriesOf, bindingOf, bindingsOf}
 use Rattle.scope.specs.Graph.{Entry, entry}
 use Rattle.scope.proofs.Entries.{from, first, next, last}
-use Rattle.resolve.specs.Log.{bound, Answer, Write, write}
-use Rattle.checker.specs.Lists.{put, note}
+use Rattle.semantics.specs.Log.{bound, Answer, Write, write}
+use Rattle.semantics.specs.Lists.{put, note}
 use Rattle.checker.specs.Filled.{filled, answerWords, bindingWords, recordedWords}
 use Rattle.checker.specs.Adding.{Holds, Becomes, place, isBinding, idsOf}
 use Rattle.checker.proofs.Filling.{over, filled-append, sized-binding, sized-recorded}

@@ -11,10 +11,10 @@ use lib.ListN.{length, set}
 use lib.Seq.{sets}
 use Rattle.scope.specs.Flat.{parentOf}
 use Rattle.scope.specs.Graph.{scope, carried}
-use Rattle.resolve.specs.Log.{Event, open', bind, carry, answer, find, bound, finding, write, found, missing, scopeOf, bindOf, carryOf, answerOf, findOf}
+use Rattle.semantics.specs.Log.{Event, open', bind, carry, answer, find, bound, finding, write, found, missing, scopeOf, bindOf, carryOf, answerOf, findOf}
+use Rattle.semantics.specs.Lists.{put, puts, note, notes}
 use Rattle.resolve.specs.Walk.{answered}
 use Rattle.kinds.specs.Walk.{findingWords}
-use Rattle.checker.specs.Lists.{put, puts, note, notes}
 use Rattle.checker.specs.Filled.{parentWord, scopeWords, bindingWords, carriedWords, recordedWords}
 use Rattle.checker.specs.Adding.{said, Becomes, after}
 use Rattle.checker.specs.declared.lists.Logged.{Logged}

@@ -11,10 +11,11 @@ use Rattle.sheet.specs.Trailer.{placesOf}
 use Rattle.sheet.specs.Statement.{Statement}
 use Rattle.sheet.specs.Read.{Sheet, accepted, refused, readSheet}
 use Rattle.sheet.specs.declared.trailer.Places.{Places}
-use Rattle.resolve.specs.Log.{Event, Finding}
-use Rattle.resolve.specs.Resolve.{worldOf, log}
-use Rattle.kinds.specs.Kinds.{kinds}
-use Rattle.checker.specs.Lists.{findings}
+use Rattle.semantics.specs.Log.{Event, Finding}
+use Rattle.semantics.specs.World.{worldOf}
+use Rattle.semantics.specs.Resolve.{log}
+use Rattle.semantics.specs.Kinds.{kinds}
+use Rattle.semantics.specs.Lists.{findings}
 
 abbrev pub isAccepted : Sheet Statement → Bool
 isAccepted (accepted st) = true

@@ -7,7 +7,7 @@ use lib.Dec.{eqb}
 use lib.ListN.{length, getD}
 use Rattle.scope.specs.Flat.{entriesOf}
 use Rattle.scope.specs.Graph.{Entry, entry}
-use Rattle.resolve.specs.Log.{Event}
+use Rattle.semantics.specs.Log.{Event}
 use Rattle.resolve.specs.Walk.{eventOf}
 use Rattle.checker.specs.Filled.{filled}
 use Rattle.checker.specs.declared.lists.Logged.{Logged}

@@ -9,14 +9,14 @@ use lib.ListN.{length, getD, take, drop}
 use Rattle.scope.specs.Graph.{Scope, Entry, Carried}
 use Rattle.scope.specs.Flat.{entriesOf, scopesOf, bindingsOf, carriedsOf}
 use Rattle.sheet.specs.Statement.{Statement}
-use Rattle.resolve.specs.Log.{Finding, Answer, found, missing, Write, write, answersIn, findsIn}
-use Rattle.resolve.specs.Resolve.{log}
+use Rattle.semantics.specs.Log.{Finding, Answer, found, missing, Write, write, answersIn, findsIn}
+use Rattle.semantics.specs.Resolve.{log}
+use Rattle.semantics.specs.Lists
+use Rattle.semantics.specs.Lists.{answerFor}
+use Rattle.theorems.specs.Compare.{blankScope, blankFinding, numberScope, numberEntry, from, moved}
+use Rattle.theorems.specs.Site.{Site, partLog}
+use Rattle.theorems.specs.InLists.{kindsAfter}
 use Rattle.kinds.specs.Walk.{findingsOf}
-use Rattle.checker.specs.Lists
-use Rattle.checker.specs.Lists.{answerFor}
-use Rattle.checker.specs.Compare.{blankScope, blankFinding, numberScope, numberEntry, from, moved}
-use Rattle.checker.specs.Site.{Site, partLog}
-use Rattle.checker.specs.InLists.{kindsAfter}
 use Rattle.checker.specs.Checked.{Lent, answerIn, leftIn}
 use Rattle.checker.specs.declared.Counts.{Counts}
 use Rattle.checker.specs.declared.Checked.the-variants as checked

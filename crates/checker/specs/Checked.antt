@@ -8,7 +8,7 @@ use lib.ListN.{length}
 use Rattle.words.specs.Words.{words}
 use Rattle.sheet.specs.Statement.{Statement}
 use Rattle.sheet.specs.Read.{Sheet, accepted, refused, readSheet}
-use Rattle.checker.specs.Lists.{scopes, bindings, carriedList, recorded, findings}
+use Rattle.semantics.specs.Lists.{scopes, bindings, carriedList, recorded, findings}
 use Rattle.checker.specs.Room.{enough}
 use Rattle.checker.specs.Filled.{withScopes, withBindings, withCarried, withRecorded, withFindings}
 use Rattle.checker.specs.declared.Counts.{Counts}

@@ -4,7 +4,7 @@ use mathlib.Core.List.{List, [], _∷_, _++_, flatMap}
 use mathlib.Core.Option.{Option, none, some}
 use lib.ListN.{length, drop}
 use Rattle.scope.specs.Graph.{Scope, scope, Entry, entry, Carried, carried}
-use Rattle.resolve.specs.Log.{Answer, found, missing, Write, write, Finding}
+use Rattle.semantics.specs.Log.{Answer, found, missing, Write, write, Finding}
 use Rattle.kinds.specs.Walk.{findingWords}
 
 -- a list that begins with these words, and "entries past a count are untouched"

@@ -1,13 +1,4 @@
-pub mod Lists
 pub mod Room
-pub mod Compare
-pub mod Site
-pub mod With
-pub mod InLists
-pub mod Sheets
-pub mod Agree
-pub mod Fits
-pub mod Uses
 pub mod Filled
 pub mod Adding
 pub mod Checked

@@ -26,7 +26,7 @@ ghost use lib.ListN.{length};
 ghost use Rattle.words.specs.Words.{words};
 ghost use Rattle.tables.specs.Index.{indexOf};
 ghost use Rattle.sheet.specs.Read.{readSheet};
-ghost use Rattle.resolve.specs.Log.{findsIn};
+ghost use Rattle.semantics.specs.Log.{findsIn};
 ghost use Rattle.resolve.specs.Walk.{events};
 ghost use Rattle.checker.specs.Room.{enough};
 ghost use Rattle.checker.specs.Filled.{withFindings};

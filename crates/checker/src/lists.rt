@@ -8,11 +8,11 @@ ghost use lib.Dec.{eqb};
 ghost use lib.ListN.{length};
 ghost use lib.Seq.{sets};
 ghost use Rattle.scope.specs.Flat.{bindingsOf};
-ghost use Rattle.resolve.specs.Log.{Answer, bound, write, scopeOf, bindOf, carryOf, answerOf, findOf, scopesIn, bindsIn, carriesIn, answersIn, findsIn};
+ghost use Rattle.semantics.specs.Log.{Answer, bound, write, scopeOf, bindOf, carryOf, answerOf, findOf, scopesIn, bindsIn, carriesIn, answersIn, findsIn};
+ghost use Rattle.semantics.specs.Lists.{put, puts, note, notes};
 ghost use Rattle.resolve.specs.Walk.{events, eventAt};
 ghost use Rattle.kinds.specs.Walk.{findingWords};
 ghost use Rattle.kinds.specs.Walk.{findingsOf, stored};
-ghost use Rattle.checker.specs.Lists.{put, puts, note, notes};
 ghost use Rattle.checker.specs.Filled.{answerWords, scopeWords, bindingWords, carriedWords, recordedWords, withScopes, withBindings, withCarried, withRecorded, withFindings};
 ghost use Rattle.checker.specs.Adding.{said, Becomes, after, place, isBinding, idsOf};
 

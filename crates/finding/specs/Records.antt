@@ -3,8 +3,8 @@ use Prim.Native.Nat.{ℕ, zero, suc, _+_, _*_}
 use mathlib.Core.List.{List, [], _∷_, _++_, map}
 use lib.ListN.{length, getD, set, drop}
 use lib.Seq.{sets}
-use Rattle.resolve.specs.Log.{finding}
-use Rattle.resolve.specs.Log as log
+use Rattle.semantics.specs.Log.{finding}
+use Rattle.semantics.specs.Log as log
 use Rattle.finding.specs.declared.Finding.{Finding}
 
 -- a record of zeros, for what lies past the end

@@ -8,7 +8,7 @@ use mathlib.Core.List.{List, [], _++_}
 use lib.ListN.{getD, drop}
 use Rattle.heads.specs.Got.{Got, ok, no, bind, bare, isOk}
 use Rattle.expr.proofs.Accepted.{inverse, ok-bare, Begins, begin-room, begin-is}
-use Rattle.resolve.specs.Log.{Finding}
+use Rattle.semantics.specs.Log.{Finding}
 use Rattle.kinds.specs.Walk.{found, Ready, Walks, Checked}
 use Rattle.kinds.specs.declared.Env.{Env}
 use Rattle.kinds.specs.declared.Walked.{Walked}

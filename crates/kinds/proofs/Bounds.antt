@@ -8,9 +8,9 @@ use mathlib.Core.Option.{Option, none, some}
 use borrow.Author.Tests.{ne-eqb}
 use lib.Dec.{eqb}
 use Rattle.tables.specs.Row.{valueKind, Row, row}
-use Rattle.resolve.specs.Log.{finding}
+use Rattle.semantics.specs.Log.{finding}
+use Rattle.semantics.specs.Kinds.{Setting, general, arithmetic, property, boolean, listed, noType, kindType, atType, atRow, misplaced}
 use Rattle.resolve.specs.Table.{boundOf}
-use Rattle.kinds.specs.Kinds.{Setting, general, arithmetic, property, boolean, listed, noType, kindType, atType, atRow, misplaced}
 use Rattle.kinds.specs.Walk.{Pushed, boundType, atBound, misplacedBound}
 
 pub bound-row : (c : Setting) (o : Option Row) → atBound c (boundOf o) ≡ atRow c o

@@ -13,9 +13,9 @@ use Rattle.expr.specs.Read.{noMore, times, marks, pattern, maybePattern}
 use Rattle.expr.proofs.Accepted.{Begins}
 use Rattle.clauses.specs.Tree.{Projection, projection, Yield, Opening, match, create, merge, Reading, where', set, remove, delete, Clause, opening, reading, with', return, unwind, call, exprs}
 use Rattle.clauses.specs.Read.{filterExprs, aliasOf, clauseExpr, readProjection, readYield, countedExprs, countedMarks, readMatch, readOpening, readWhere, readWith, readReturn, readUnwind, readMarked, readDelete, readCall, readBody, readClause}
-use Rattle.resolve.specs.Log.{Finding}
-use Rattle.resolve.specs.Resolve.{World}
-use Rattle.kinds.specs.Kinds.{general, plain, kindsE, kindsEs, kindsS, kindsC, kinds}
+use Rattle.semantics.specs.Log.{Finding}
+use Rattle.semantics.specs.World.{World}
+use Rattle.semantics.specs.Kinds.{general, plain, kindsE, kindsEs, kindsS, kindsC, kinds}
 use Rattle.kinds.specs.Walk.{found, tablesAt, matchSteps, unwindExpr, ofE, ofEs, ofProjection, ofProjections}
 use Rattle.kinds.specs.declared.Env.{Env}
 use Rattle.kinds.proofs.Alike.{Alike, alike-map, alike-maps, alike-bind, alike-pick, alike-no}

@@ -7,7 +7,7 @@ use mathlib.Core.List.{List, [], _∷_, _++_, append-assoc, append-nil}
 use lib.ListN.{length, set}
 use lib.Seq.{sets, length-sets}
 use Rattle.scope.specs.Flat.{entriesOf}
-use Rattle.resolve.specs.Log.{Finding, finding}
+use Rattle.semantics.specs.Log.{Finding, finding}
 use Rattle.kinds.specs.Walk.{findingWords, findingOf, findingsOf, stored}
 
 past-one : (x : ℕ) (k : ℕ) (ws l : List ℕ) → sets (x ∷ l) (suc k) ws ≡ x ∷ sets l k ws

@@ -1,12 +1,12 @@
 -- The findings of an expression by its parts: those of the head itself, of its pattern, of its expressions and of its items.
-use Prim.Native.Nat.{ℕ, zero, suc, _≤_}
+use Prim.Native.Nat.{ℕ, _≤_}
 use native.Mathlib.Omega.{arith}
-use mathlib.Core.Path.{_≡_, refl, sym, _∙_}
+use mathlib.Core.Path.{_≡_, refl}
 use mathlib.Core.Bool.{Bool, true, false, cond, _&&_}
-use mathlib.Core.List.{List, [], _∷_, _++_, append-assoc, append-nil}
-use mathlib.Core.Option.{Option, none, some}
-use lib.Dec.{eqb, leb, eqb·suc-suc, eqb·suc-zero, eqb·zero-suc}
-use lib.ListN.{length, getD}
+use mathlib.Core.List.{List, [], _∷_, _++_, append-nil}
+use mathlib.Core.Option.{Option}
+use lib.Dec.{eqb, leb}
+use lib.ListN.{length}
 use Rattle.heads.specs.Got.{Got, ok, no, bind, bare}
 use Rattle.heads.specs.Form.{kidsOf, itemsOf, hasPattern}
 use Rattle.heads.specs.Head.{Tables}
@@ -14,19 +14,19 @@ use Rattle.heads.specs.declared.Form.{Form}
 use Rattle.heads.specs.declared.Form.the-variants.{Leaf, Var, Unresolved, Prop, Two, Slice, Many, BinOp, UnaryOp, Case, IsNull, PatternPredicate, ListComprehension, PatternComprehension, ListPredicate, MapProjection}
 use Rattle.heads.specs.declared.Maybe.{Maybe}
 use Rattle.heads.specs.declared.Maybe.the-variants as maybe
-use Rattle.expr.specs.Tree.{Expr, node, Exprs, done, more, mark, Steps, end, tree}
+use Rattle.expr.specs.Tree.{Expr, node, Exprs, done, more, Steps, end, tree}
 use Rattle.expr.specs.Read.{Reader, noMore, times, marks, maybePattern, afterForm}
 use Rattle.expr.proofs.Split.{joinE, times-split}
 use Rattle.expr.proofs.Inverse.{never}
 use Rattle.expr.proofs.Accepted.{inverse}
 use Rattle.tables.specs.Row.{pathKind, valueKind, Row, row}
-use Rattle.resolve.specs.Log.{e2007, e2008, e2011, Finding, finding}
-use Rattle.resolve.specs.Resolve.{World, rowOf, bytesOf}
+use Rattle.semantics.specs.Log.{e2007, e2008, e2011, Finding, finding}
+use Rattle.semantics.specs.World.{World}
+use Rattle.semantics.specs.Kinds.{Setting, general, arithmetic, property, boolean, listed, Pair, both, plain, noType, intType, stringType, kindType, typeOf, settings, atType, atRow, rowFor, kindsE, kindsEs, kindsS}
 use Rattle.resolve.specs.Table.{BoundAt, boundOf}
 use Rattle.resolve.specs.declared.rows.Bound.{Bound}
 use Rattle.resolve.specs.declared.rows.Bound.the-variants as bound
-use Rattle.kinds.specs.Kinds.{Setting, general, arithmetic, property, boolean, listed, Pair, both, plain, isId, noType, intType, stringType, kindType, typeOf, settings, atType, atRow, misplaced, rowFor, named-id, kindsE, kindsEs, kindsS}
-use Rattle.kinds.specs.Walk.{settingOf, isGeneral, stored, idNames, Pushed, atBound, misplacedBound, varOf, shownOf, ownFor, ownOf, found, ofE, ofEs}
+use Rattle.kinds.specs.Walk.{settingOf, isGeneral, stored, Pushed, atBound, misplacedBound, varOf, shownOf, ownFor, ownOf, found, ofE, ofEs}
 use Rattle.kinds.specs.declared.settings.Setting as settings'
 use Rattle.kinds.specs.declared.settings.Setting.the-variants as setting
 use Rattle.kinds.proofs.Bounds.{bound-row}
@@ -81,15 +81,7 @@ no-type property = refl
 no-type boolean = refl
 no-type (listed d o) = refl
 
--- the name `id` is the one with the index + 1, and none is for 0
-pub id-name : (n x : ℕ) → isId (getD (idNames n) x []) ≡ eqb (suc x) n
-unfolding idNames isId
-id-name zero x = sym (eqb·suc-zero x)
-id-name (suc zero) zero = refl
-id-name (suc zero) (suc x) = sym (eqb·suc-suc (suc x) 0 ∙ eqb·suc-zero x)
-id-name (suc (suc n)) zero = sym (eqb·suc-suc 0 (suc n) ∙ eqb·zero-suc n)
-id-name (suc (suc n)) (suc x) = id-name (suc n) x ∙ sym (eqb·suc-suc (suc x) (suc n))
-
+-- settings go by which name is `id`
 pub settings-same : (p q : ℕ → Bool) → ((x : ℕ) → p x ≡ q x) → (f : Form) (c : Setting) → settings p f c ≡ settings q f c
 unfolding settings
 settings-same p q e (Leaf k) c = refl
@@ -108,14 +100,6 @@ settings-same p q e (ListComprehension g) c = refl
 settings-same p q e (PatternComprehension a b g) c = refl
 settings-same p q e (ListPredicate g) c = refl
 settings-same p q e (MapProjection n) c = refl
-
--- the world that a section's words give has `id` where the code says
-pub id-at : (w : World) (ident : ℕ) → w .names ≡ idNames ident → (x : ℕ) → named-id w x ≡ eqb (suc x) ident
-unfolding named-id bytesOf
-id-at w ident e x = rw e (id-name ident x)
-
-pub settings-at : (w : World) (ident : ℕ) → w .names ≡ idNames ident → (f : Form) (c : Setting) → settings (named-id w) f c ≡ settings (λ x. eqb (suc x) ident) f c
-settings-at w ident e f c = settings-same _ _ (id-at w ident e) f c
 
 -- where nothing can be read, nothing was
 no-steps : (w : Tables) (P : Reader) (r : List ℕ) {s : Steps} {r2 : List ℕ} → maybePattern false w P r ≡ ok s r2 → s ≡ end
@@ -143,19 +127,19 @@ one-kid P r es r2 c e = turn (P r) e
 
 module _ (w : World) where
   -- a node without a pattern
-  node-found : (f : Form) (es ms : Exprs) (c : Setting) → kindsEs w ms (after es (settings (named-id w) f c)) ≡ kindsEs w ms plain → kindsE w (node f (joinE es ms)) c ≡ atType c (typeOf f) ++ (kindsS w end ++ (kindsEs w es (settings (named-id w) f c) ++ kindsEs w ms plain))
+  node-found : (f : Form) (es ms : Exprs) (c : Setting) → kindsEs w ms (after es (settings (w .isId) f c)) ≡ kindsEs w ms plain → kindsE w (node f (joinE es ms)) c ≡ atType c (typeOf f) ++ (kindsS w end ++ (kindsEs w es (settings (w .isId) f c) ++ kindsEs w ms plain))
   unfolding kindsE
-  node-found f es ms c e = rw (kinds-join w es ms (settings (named-id w) f c), e)
+  node-found f es ms c e = rw (kinds-join w es ms (settings (w .isId) f c), e)
 
-  node-done : (f : Form) (es : Exprs) (c : Setting) → kindsE w (node f (joinE es done)) c ≡ atType c (typeOf f) ++ (kindsS w end ++ (kindsEs w es (settings (named-id w) f c) ++ kindsEs w done plain))
+  node-done : (f : Form) (es : Exprs) (c : Setting) → kindsE w (node f (joinE es done)) c ≡ atType c (typeOf f) ++ (kindsS w end ++ (kindsEs w es (settings (w .isId) f c) ++ kindsEs w done plain))
   unfolding kindsE
   node-done f es c = node-found f es done c refl
 
   -- an expression by what its parts read
-  parts-found : (t : Tables) (P : Reader) (f : Form) (r r2 r3 r4 : List ℕ) (s : Steps) (es ms : Exprs) (c : Setting) → maybePattern (hasPattern f) t P r ≡ ok s r2 → times (kidsOf f) P noMore r2 ≡ ok es r3 → marks 0 (itemsOf f) P r3 ≡ ok ms r4 → kindsE w (tree f s (joinE es ms)) c ≡ ownOf w f c ++ (kindsS w s ++ (kindsEs w es (settings (named-id w) f c) ++ kindsEs w ms plain))
+  parts-found : (t : Tables) (P : Reader) (f : Form) (r r2 r3 r4 : List ℕ) (s : Steps) (es ms : Exprs) (c : Setting) → maybePattern (hasPattern f) t P r ≡ ok s r2 → times (kidsOf f) P noMore r2 ≡ ok es r3 → marks 0 (itemsOf f) P r3 ≡ ok ms r4 → kindsE w (tree f s (joinE es ms)) c ≡ ownOf w f c ++ (kindsS w s ++ (kindsEs w es (settings (w .isId) f c) ++ kindsEs w ms plain))
   unfolding tree typeOf settings rowFor kindsE joinE
   parts-found t P (Leaf k) r r2 r3 r4 s es ms c a b d = rw (no-steps t P r a, no-marks P r3 d) (node-done (Leaf k) es c)
-  parts-found t P (Var v) r r2 r3 r4 s es ms c a b d = rw (no-steps t P r a, no-kids P r2 b, no-marks P r3 d, bound-row c (rowOf v (w .table)), append-nil)
+  parts-found t P (Var v) r r2 r3 r4 s es ms c a b d = rw (no-steps t P r a, no-kids P r2 b, no-marks P r3 d, bound-row c (w .row v), append-nil (atRow c (w .row v)))
   parts-found t P (Unresolved x) r r2 r3 r4 s es ms c a b d = rw (no-steps t P r a, no-kids P r2 b, no-marks P r3 d, no-type c)
   parts-found t P (Prop x) r r2 r3 r4 s es ms c a b d = rw (no-steps t P r a, no-marks P r3 d) (node-done (Prop x) es c)
   parts-found t P (Two k) r r2 r3 r4 s es ms c a b d = rw (no-steps t P r a, no-marks P r3 d) (node-done (Two k) es c)
@@ -172,7 +156,7 @@ module _ (w : World) where
   parts-found t P (MapProjection n) r r2 r3 r4 s es ms c a b d = rw (no-steps t P r a) (node-found (MapProjection n) es ms c (rw (one-kid P r2 es r3 property b)))
 
 -- an expression that is accepted, by what follows its head
-pub after-found : (t : Tables) (P : Reader) (f : Form) (r r2 : List ℕ) → bare (maybePattern (hasPattern f) t P r) ≡ ok tt r2 → (r3 : List ℕ) → bare (times (kidsOf f) P noMore r2) ≡ ok tt r3 → (r4 : List ℕ) → bare (marks 0 (itemsOf f) P r3) ≡ ok tt r4 → (w : World) (c : Setting) (p : Pair) → p ≡ settings (named-id w) f c → found (ofE w c) (afterForm t P f r) ≡ ownOf w f c ++ (found (kindsS w) (maybePattern (hasPattern f) t P r) ++ (found (λ es. kindsEs w es p) (times (kidsOf f) P noMore r2) ++ found (ofEs w general general) (marks 0 (itemsOf f) P r3)))
+pub after-found : (t : Tables) (P : Reader) (f : Form) (r r2 : List ℕ) → bare (maybePattern (hasPattern f) t P r) ≡ ok tt r2 → (r3 : List ℕ) → bare (times (kidsOf f) P noMore r2) ≡ ok tt r3 → (r4 : List ℕ) → bare (marks 0 (itemsOf f) P r3) ≡ ok tt r4 → (w : World) (c : Setting) (p : Pair) → p ≡ settings (w .isId) f c → found (ofE w c) (afterForm t P f r) ≡ ownOf w f c ++ (found (kindsS w) (maybePattern (hasPattern f) t P r) ++ (found (λ es. kindsEs w es p) (times (kidsOf f) P noMore r2) ++ found (ofEs w general general) (marks 0 (itemsOf f) P r3)))
 unfolding afterForm
 after-found t P f r r2 e2 r3 e3 r4 e4 w c p q =
     let i2 = inverse (maybePattern (hasPattern f) t P r) r2 e2 in

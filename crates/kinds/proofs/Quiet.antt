@@ -22,8 +22,8 @@ use Rattle.flat.specs.declared.Quiet.the-variants as quiet
 use Rattle.flat.proofs.Few.{row-few}
 use Rattle.flat.proofs.Flat.{calm-simple, plain-expr, flat-ok}
 use Rattle.tables.specs.Row.{Row, row}
-use Rattle.resolve.specs.Resolve.{World, rowOf}
-use Rattle.kinds.specs.Kinds.{general, plain, atRow, kindsEs, kindWalk}
+use Rattle.semantics.specs.World.{World}
+use Rattle.semantics.specs.Kinds.{general, plain, atRow, kindsEs, kindWalk}
 use Rattle.kinds.specs.Walk.{found, ofEs}
 use Rattle.kinds.proofs.Split.{plain-join}
 
@@ -47,7 +47,7 @@ no-row (some (row i x k a b)) = refl
 calm-found : (w : World) {f : Form} {k : ℕ} → Calm f k → (es os : Exprs) → (k ≡ 0 → joinE es os ≡ os) → kindsEs w (more (tree f end es) os) plain ≡ kindsEs w (joinE es os) plain
 unfolding kindWalk tree
 calm-found w Calm.leaf es os z = sym (plain-join w es os)
-calm-found w (Calm.variable {v}) es os z = rw (z refl, no-row (rowOf v (w .table)))
+calm-found w (Calm.variable {v}) es os z = rw (z refl, no-row (w .row v))
 calm-found w Calm.name es os z = rw (z refl)
 calm-found w Calm.many es os z = sym (plain-join w es os)
 calm-found w Calm.is-null es os z = sym (plain-join w es os)

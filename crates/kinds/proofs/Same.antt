@@ -2,7 +2,7 @@
 -- give, with the index of `id`, has the findings of the statement's.
 use Prim.Native.Nat.{ℕ, suc}
 use mathlib.Core.Path.{_≡_, refl, ap, _∙_}
-use mathlib.Core.Bool.{true}
+use mathlib.Core.Bool.{Bool, true}
 use mathlib.Core.List.{List, [], _∷_}
 use lib.Dec.{eqb}
 use lib.ListN.{getD}
@@ -13,27 +13,28 @@ use Rattle.clauses.specs.Tree.{Clause, opening, reading, with', return, unwind,
 use Rattle.tables.specs.Distinct.{nameIn, distinct}
 use Rattle.tables.specs.Index.{indexOf}
 use Rattle.tables.proofs.Index.{index-is}
-use Rattle.resolve.specs.Resolve.{World, bytesOf}
+use Rattle.sheet.specs.Statement.{Statement}
+use Rattle.semantics.specs.World.{World, rowOf, bytesOf, worldOf}
+use Rattle.semantics.specs.Kinds.{Setting, general, Pair, both, plain, settings, rowFor, kindsE, kindsEs, kindsS, kindsC, kinds}
 use Rattle.resolve.specs.Table.{tableAt}
-use Rattle.kinds.specs.Kinds.{Setting, general, Pair, both, plain, settings, rowFor, named-id, kindsE, kindsEs, kindsS, kindsC, kinds}
 use Rattle.kinds.specs.Walk.{worldAt}
 use Rattle.kinds.specs.declared.Env.{Env}
 use Rattle.kinds.proofs.Tests.{id-is}
-use Rattle.kinds.proofs.Found.{settings-same, id-at}
+use Rattle.kinds.proofs.Found.{settings-same}
 
-module _ (v w : World) (t : v .table ≡ w .table) (i : (x : ℕ) → named-id v x ≡ named-id w x) where
+module _ (v w : World) (t : (x : ℕ) → v .row x ≡ w .row x) (i : (x : ℕ) → v .isId x ≡ w .isId x) where
   row-same : (m : Maybe) → rowFor v m ≡ rowFor w m
   unfolding rowFor
-  row-same (maybe.Var x) = rw t
+  row-same (maybe.Var x) = t x
   row-same maybe.Nothing = refl
 
   mutual
     unfolding kindsE
 
     pub same-expr : (e : Expr) (c : Setting) → kindsE v e c ≡ kindsE w e c
-    same-expr (var x) c = rw t
+    same-expr (var x) c = rw (t x)
     same-expr (unresolved x) c = refl
-    same-expr (node f es) c = rw (settings-same (named-id v) (named-id w) i f c, same-exprs es (settings (named-id w) f c))
+    same-expr (node f es) c = rw (settings-same (v .isId) (w .isId) i f c, same-exprs es (settings (w .isId) f c))
     same-expr (predicate s) c = rw (same-steps s)
     same-expr (comprehension a b s es) c = rw (same-steps s, same-exprs es plain)
 
@@ -61,11 +62,10 @@ module _ (v w : World) (t : v .table ≡ w .table) (i : (x : ℕ) → named-id v
   same-kinds [] = refl
   same-kinds (c ∷ cs) = rw (same-clause c, same-kinds cs)
 
--- the name with an index is `id` in the one world exactly where it is in the other
-id-true : (w : World) (ws : List ℕ) (e : Env) → e .ident ≡ indexOf (105 ∷ 100 ∷ []) (w .names) → distinct nameIn (w .names) ≡ true → (x : ℕ) → named-id (worldAt ws e) x ≡ named-id w x
-unfolding named-id bytesOf
-id-true w ws e i d x =
-    id-at (worldAt ws e) (e .ident) refl x ∙ ap (eqb (suc x)) i ∙ index-is (105 ∷ 100 ∷ []) (w .names) d 105 (100 ∷ []) refl x ∙ id-is (getD (w .names) x [])
-
-pub true-world : (w : World) (ws : List ℕ) (e : Env) → e .ident ≡ indexOf (105 ∷ 100 ∷ []) (w .names) → distinct nameIn (w .names) ≡ true → tableAt ws (e .rows) (e .bindings) ≡ w .table → (cs : List Clause) → kinds (worldAt ws e) cs ≡ kinds w cs
-true-world w ws e i d t cs = same-kinds (worldAt ws e) w t (id-true w ws e i d) cs
+-- the words give the statement's rows, and have `id` where its names have it
+pub true-world : (warns : Bool) (st : Statement) (ws : List ℕ) (e : Env) → e .ident ≡ indexOf (105 ∷ 100 ∷ []) (st .names) → distinct nameIn (st .names) ≡ true → tableAt ws (e .rows) (e .bindings) ≡ st .bindings → (cs : List Clause) → kinds (worldAt ws e) cs ≡ kinds (worldOf warns st) cs
+unfolding worldOf bytesOf
+true-world warns st ws e i d t cs =
+    same-kinds (worldAt ws e) (worldOf warns st) (λ v. ap (rowOf v) t)
+    (λ x. ap (eqb (suc x)) i ∙ index-is (105 ∷ 100 ∷ []) (st .names) d 105 (100 ∷ []) refl x ∙ id-is (getD (st .names) x []))
+    cs

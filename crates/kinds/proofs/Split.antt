@@ -4,8 +4,8 @@ use mathlib.Core.List.{_++_, append-assoc}
 use Rattle.heads.specs.declared.Elem.{Elem}
 use Rattle.expr.specs.Tree.{Exprs, done, more, mark, Steps, end, part, elem}
 use Rattle.expr.proofs.Split.{joinE, joinS, elemThen}
-use Rattle.resolve.specs.Resolve.{World}
-use Rattle.kinds.specs.Kinds.{Pair, both, plain, kindsE, kindsEs, kindsS}
+use Rattle.semantics.specs.World.{World}
+use Rattle.semantics.specs.Kinds.{Pair, both, plain, kindsE, kindsEs, kindsS}
 use Rattle.kinds.specs.Walk.{ofElem}
 
 -- the settings after a row

@@ -14,11 +14,11 @@ use Rattle.expr.specs.Tree.{mark, part}
 use Rattle.expr.specs.Read.{Reader, noMore, noSteps, times, markFull, elemOne, elems, partFull}
 use Rattle.expr.proofs.Accepted.{mark-is, mark-fine, part-is, elems-fine, elem-is, property-fine}
 use Rattle.tables.specs.Row.{pathKind, Row}
-use Rattle.resolve.specs.Log.{Finding}
-use Rattle.resolve.specs.Resolve.{World}
+use Rattle.semantics.specs.Log.{Finding}
+use Rattle.semantics.specs.World.{World}
+use Rattle.semantics.specs.Kinds.{general, misplaced, rowFor, kindsE, kindsS}
 use Rattle.resolve.specs.Table.{BoundAt}
 use Rattle.resolve.specs.declared.rows.Bound.{Bound}
-use Rattle.kinds.specs.Kinds.{general, misplaced, rowFor, kindsE, kindsS}
 use Rattle.kinds.specs.Walk.{Pushed, misplacedBound, Walks, found, ofEs, ofElem}
 use Rattle.kinds.proofs.Walks.{headed, told}
 use Rattle.kinds.proofs.Bounds.{bound-misplaced}

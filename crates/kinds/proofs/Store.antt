@@ -6,7 +6,7 @@ use mathlib.Core.Path.{_≡_, refl, ap, sym, _∙_}
 use mathlib.Core.List.{List, [], _∷_, _++_}
 use lib.ListN.{length, set, length-append}
 use lib.Seq.{sets, length-sets}
-use Rattle.resolve.specs.Log.{Finding, finding}
+use Rattle.semantics.specs.Log.{Finding, finding}
 use Rattle.kinds.specs.Walk.{findingWords, stored, Pushed}
 
 pub none-pushed : (l : List ℕ) (n : ℕ) → Pushed l l n [] n

@@ -7,7 +7,8 @@ use borrow.Author.Tests.{le-leb, lt-leb}
 use lib.Dec.{eqb, leb}
 use Rattle.tables.specs.Distinct.{sameBytes}
 use Rattle.tables.proofs.Fresh.{same-comm}
-use Rattle.kinds.specs.Kinds.{isArithmetic, isId}
+use Rattle.semantics.specs.World.{idName}
+use Rattle.semantics.specs.Kinds.{isArithmetic}
 
 pub low : (o : ℕ) → o ≤ 5 → true ≡ isArithmetic o
 unfolding isArithmetic
@@ -21,8 +22,8 @@ pub high : (o : ℕ) → 5 < o → 8 ≤ o → leb o 11 ≡ isArithmetic o
 unfolding isArithmetic
 high o h k = rw (lt-leb o 5 h, le-leb 8 o k)
 
-pub id-is : (y : List ℕ) → sameBytes (105 ∷ 100 ∷ []) y ≡ isId y
-unfolding sameBytes isId
+pub id-is : (y : List ℕ) → sameBytes (105 ∷ 100 ∷ []) y ≡ idName y
+unfolding sameBytes idName
 id-is [] = refl
 id-is (b ∷ []) = and-false (eqb 105 b)
 id-is (b ∷ c ∷ []) = same-comm (105 ∷ 100 ∷ []) (b ∷ c ∷ []) ∙ rw (and-true (eqb c 100))

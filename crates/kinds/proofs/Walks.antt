@@ -8,7 +8,7 @@ use lib.ListN.{length, drop, length-append}
 use Rattle.heads.specs.Got.{Got, ok, no, bind, bare, isOk}
 use Rattle.expr.proofs.Accepted.{inverse}
 use Rattle.expr.proofs.Repeats.{Repeats, more-of, none-of, first-of, rest-of}
-use Rattle.resolve.specs.Log.{Finding}
+use Rattle.semantics.specs.Log.{Finding}
 use Rattle.kinds.specs.Walk.{stored, Pushed, found, Ready, Walks}
 use Rattle.kinds.specs.declared.Env.{Env}
 use Rattle.kinds.specs.declared.Walked.{Walked}

@@ -1,5 +1,5 @@
 -- What the code of the kinds walk works on and leaves, in the definition's terms.
-use Prim.Native.Nat.{ℕ, zero, suc, _+_, _-_, _*_, _≤_}
+use Prim.Native.Nat.{ℕ, suc, _+_, _-_, _*_, _≤_}
 use mathlib.Core.Path.{_≡_}
 use mathlib.Core.Bool.{Bool, true, false, cond}
 use mathlib.Core.List.{List, [], _∷_, _++_}
@@ -21,12 +21,12 @@ use Rattle.expr.specs.Read.{Reader, noMore, times, maybePattern, readExpr}
 use Rattle.clauses.specs.Tree.{Projection, projection, exprs}
 use Rattle.clauses.specs.Read.{clauseExpr}
 use Rattle.tables.specs.Row.{pathKind, valueKind, Row}
-use Rattle.resolve.specs.Log.{e2007, e2008, e5010, e5011, Finding, finding}
-use Rattle.resolve.specs.Resolve.{World}
+use Rattle.semantics.specs.Log.{e2007, e2008, e5010, e5011, Finding, finding}
+use Rattle.semantics.specs.World.{World, rowOf}
+use Rattle.semantics.specs.Kinds.{Setting, general, arithmetic, property, boolean, listed, Pair, both, plain, noType, mapType, patternType, kindType, leafTypes, atType, misplaced, rowFor, kindsE, kindsEs, kindsS}
 use Rattle.resolve.specs.Table.{tableAt, wellRows, boundOf}
 use Rattle.resolve.specs.declared.rows.Bound.{Bound}
 use Rattle.resolve.specs.declared.rows.Bound.the-variants as bound
-use Rattle.kinds.specs.Kinds.{Setting, general, arithmetic, property, boolean, listed, Pair, both, plain, noType, mapType, patternType, kindType, leafTypes, atType, misplaced, rowFor, kindsE, kindsEs, kindsS}
 use Rattle.kinds.specs.declared.settings.Setting as settings
 use Rattle.kinds.specs.declared.settings.Setting.the-variants as setting
 use Rattle.kinds.specs.declared.settings.Settings.{Settings}
@@ -75,15 +75,16 @@ pub record Pushed (old new : List ℕ) (n : ℕ) (fs : List Finding) (r : ℕ) :
   pub count : r ≡ n + length fs
   pub wrote : new ≡ stored old n fs
 
--- names of which only the one with this index + 1 is `id`, and none for 0
-unfoldable pub idNames : ℕ → List (List ℕ)
-idNames zero = []
-idNames (suc zero) = (105 ∷ 100 ∷ []) ∷ []
-idNames (suc (suc n)) = [] ∷ idNames (suc n)
-
--- the world that a section's words give
+-- the world that a section's words give: the bindings, and the index + 1 of `id` or 0. The kinds walk looks at nothing else
 abbrev pub worldAt : List ℕ → Env → World
-worldAt ws e = record { names = idNames (e .ident); table = tableAt ws (e .rows) (e .bindings); warns = false }
+worldAt ws e =
+    record {
+      id = λ x. 0;
+      isStar = λ x. false;
+      isId = λ x. eqb (suc x) (e .ident);
+      row = λ v. rowOf v (tableAt ws (e .rows) (e .bindings));
+      warns = false;
+    }
 
 -- the type of a binding by its kind, and what is said of a variable's row as the code finds it
 abbrev pub boundType : ℕ → ℕ

@@ -14,7 +14,7 @@ ghost use lib.ListN.{drop};
 ghost use Rattle.words.specs.Words.{words};
 ghost use Rattle.heads.specs.Got.{many, counted};
 ghost use Rattle.clauses.specs.Read.{filterExprs, readProjection, readWith, countedExprs, countedMarks, readCall, readBody, readClause};
-ghost use Rattle.kinds.specs.Kinds.{general, kindsS, kindsC, kinds};
+ghost use Rattle.semantics.specs.Kinds.{general, kindsS, kindsC, kinds};
 ghost use Rattle.kinds.specs.Walk.{worldAt, tablesAt, ofE, ofEs, matchSteps, unwindExpr, ofProjection, ofProjections, Ready, Checked};
 
 // A projection: an alias or none, and an expression.

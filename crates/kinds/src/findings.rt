@@ -13,9 +13,9 @@ ghost use Prim.Native.Nat.{_+_, _*_, _≤_};
 ghost use lib.ListN.{length, getD};
 ghost use Rattle.words.specs.Words.{words};
 ghost use Rattle.tables.specs.Row.{valueKind};
-ghost use Rattle.resolve.specs.Log.{e5010, e5011, finding};
+ghost use Rattle.semantics.specs.Log.{e5010, e5011, finding};
+ghost use Rattle.semantics.specs.Kinds.{boolean, listed, leafTypes, atType, rowFor};
 ghost use Rattle.resolve.specs.Table.{tableAt, wellRows, BoundAt, boundFits};
-ghost use Rattle.kinds.specs.Kinds.{boolean, listed, leafTypes, atType, rowFor};
 ghost use Rattle.kinds.specs.Walk.{settingOf, Pushed, worldAt, boundType, atBound, misplacedBound, varOf, shownOf, ownOf};
 
 // A finding, stored after those there are.

@@ -28,7 +28,7 @@ use words::word;
 ghost use lib.ListN.{drop};
 ghost use Rattle.words.specs.Words.{words};
 ghost use Rattle.expr.specs.Read.{noMore, noSteps, times, markFull, marks, elemOne, elems, partFull, parts, maybePattern};
-ghost use Rattle.kinds.specs.Kinds.{general, kindsS};
+ghost use Rattle.semantics.specs.Kinds.{general, kindsS};
 ghost use Rattle.kinds.specs.Walk.{settingOf, worldAt, tablesAt, readerAt, ofE, ofEs, ofElem, Ready, Checked};
 
 // The section's tables: how many names, the first word and the number of the bindings, and the index + 1 of the name `id`, or 0.

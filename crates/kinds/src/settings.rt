@@ -4,8 +4,8 @@ ghost use mathlib.Core.Path.{_≡_};
 ghost use mathlib.Core.Bool.{cond};
 ghost use Prim.Native.Nat.{suc};
 ghost use lib.Dec.{eqb};
-ghost use Rattle.resolve.specs.Log.{e5010};
-ghost use Rattle.kinds.specs.Kinds.{passes, general, arithmetic, property, listed, isArithmetic, settings};
+ghost use Rattle.semantics.specs.Log.{e5010};
+ghost use Rattle.semantics.specs.Kinds.{passes, general, arithmetic, property, listed, isArithmetic, settings};
 ghost use Rattle.kinds.specs.Walk.{settingOf, isGeneral, pairOf};
 
 // Where an expression stands; Indexable, with the first detail of its finding, and Iterable want a list.

@@ -9,7 +9,7 @@ use lib.ListN.{length, take, drop, length-append, length-take, length-drop}
 use Rattle.words.specs.Decimal.{width}
 use Rattle.words.proofs.Digits.{width-le, length-decimal}
 use Rattle.tables.specs.Name.{textAt, lengthAt, nameAt}
-use Rattle.resolve.specs.Log.{Finding}
+use Rattle.semantics.specs.Log.{Finding}
 use Rattle.texts.specs.Codes.{textFor}
 use Rattle.texts.specs.declared.codes.Said.{Said}
 use Rattle.texts.specs.declared.codes.Said.the-variants as said

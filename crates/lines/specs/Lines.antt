@@ -3,7 +3,7 @@ use Prim.Native.Nat.{ℕ, zero, suc}
 use mathlib.Core.List.{List, [], _++_, flatMap}
 use lib.ListN.{length, getD}
 use Rattle.words.specs.Decimal.{decimal}
-use Rattle.resolve.specs.Log.{Finding, finding}
+use Rattle.semantics.specs.Log.{Finding, finding}
 use Rattle.texts.specs.Bytes.{bytes}
 use Rattle.texts.specs.Texts.{textOf}
 use Rattle.texts.specs.Codes.{textFor}

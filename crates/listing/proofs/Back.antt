@@ -6,7 +6,7 @@ use mathlib.Core.Path.{_≡_}
 use mathlib.Core.List.{List, []}
 use lib.ListN.{length}
 use Rattle.scope.specs.Flat.{entriesOf}
-use Rattle.resolve.specs.Log.{Finding}
+use Rattle.semantics.specs.Log.{Finding}
 use Rattle.kinds.specs.Walk.{findingsOf}
 use Rattle.kinds.proofs.Decoded.{decoded}
 use Rattle.checker.specs.Filled.{withFindings}

@@ -15,9 +15,9 @@ use Rattle.sheet.specs.Read.{Sheet, accepted, refused, then', readSheet}
 use Rattle.sheet.specs.Answer.{openedAs}
 use Rattle.sheet.specs.declared.trailer.Places.{Places}
 use Rattle.sheet.specs.declared.trailer.Opened.the-variants as opened
+use Rattle.semantics.specs.Lists.{findings}
 use Rattle.kinds.specs.Walk.{findingsOf}
 use Rattle.checker.specs.Accepted.{namesOf, foundIn, Opens, Placed, Wide}
-use Rattle.checker.specs.Lists.{findings}
 use Rattle.checker.specs.Filled.{withFindings}
 use Rattle.checker.proofs.Filling.{length-findings}
 use Rattle.checker.proofs.Opening.{held, first}

@@ -28,10 +28,10 @@ use Rattle.sheet.specs.Write.{bytesOf}
 use Rattle.scope.specs.Graph.{Scope, scope, Entry, entry, Carried, carried}
 use Rattle.scope.specs.Lookup.{Looked, at, nothing, boundIn, carries as carriesName, parentAt, kindAt, answerAt, passes, climb, lookupIn}
 use Rattle.scope.specs.Offset.{covers, width, better, narrowest, scopeAtOffset}
-use Rattle.resolve.specs.Log.{Finding, finding, logs}
-use Rattle.resolve.specs.Resolve.{walk}
-use Rattle.kinds.specs.Kinds.{kindWalk}
-use Rattle.checker.specs.Lists.{scopes, bindings, carriedList, findings, lists}
+use Rattle.semantics.specs.Log.{Finding, finding, logs}
+use Rattle.semantics.specs.Resolve.{walk}
+use Rattle.semantics.specs.Kinds.{kindWalk}
+use Rattle.semantics.specs.Lists.{scopes, bindings, carriedList, findings, lists}
 use Rattle.texts.specs.Bytes.{bytes}
 use Rattle.texts.specs.Texts.{typeName, kindName, textOf}
 use Rattle.texts.specs.Codes.{of2007, of2008, of5010, unused, textFor}

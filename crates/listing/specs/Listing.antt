@@ -3,7 +3,7 @@ use Prim.Native.Nat.{ℕ}
 use mathlib.Core.Bool.{Bool}
 use mathlib.Core.List.{List}
 use Rattle.sheet.specs.Read.{Sheet, accepted, then', readSheet}
-use Rattle.checker.specs.Lists.{findings}
+use Rattle.semantics.specs.Lists.{findings}
 use Rattle.lines.specs.Lines.{listed}
 
 unfoldable pub listing : Bool → List ℕ → Sheet (List ℕ)

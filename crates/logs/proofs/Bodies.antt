@@ -16,7 +16,7 @@ use Rattle.expr.proofs.Inverse.{never}
 use Rattle.expr.proofs.Accepted.{inverse, ok-bare, two-first, two-second, two-bare}
 use Rattle.clauses.specs.Tree.{Projection, projection, create, merge, where', set, remove, delete, Clause, opening, reading, with', return}
 use Rattle.clauses.specs.Read.{clauseExpr, readProjection, filterExprs, countedExprs, countedMarks, readMatch, readOpening, readWhere, readWith, readReturn, readUnwind, readMarked, readDelete, readCall, readBody}
-use Rattle.resolve.specs.Resolve.{opens}
+use Rattle.semantics.specs.World.{opens}
 use Rattle.resolve.specs.Walk.{Facts, State, settle, after, stateOf, factsAt, tablesAt, runE, runEs, Moves, Ready, Walks, Resolved}
 use Rattle.resolve.specs.Lowering.{runP, runPs, runCarried, runOpening, runReturn, runC}
 use Rattle.resolve.specs.declared.Env.{Env}

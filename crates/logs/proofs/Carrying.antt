@@ -22,11 +22,12 @@ use Rattle.expr.proofs.Repeats.{manyOfRow}
 use Rattle.clauses.specs.Tree.{Projection, projection}
 use Rattle.clauses.specs.Read.{aliasOf, clauseExpr, readProjection}
 use Rattle.tables.specs.Row.{Row, row}
-use Rattle.resolve.specs.Log.{Event, open', carry, bind as bind', bound as bound'}
-use Rattle.resolve.specs.Resolve.{Seen, seen, Direct, other, direct, ifRow, rowOf, rowKind}
+use Rattle.semantics.specs.Log.{Event, open', carry, bind as bind', bound as bound'}
+use Rattle.semantics.specs.World.{Direct, other, direct, rowOf, rowKind}
+use Rattle.semantics.specs.Resolve.{Pair, pair, ifRow}
 use Rattle.resolve.specs.Table.{tableAt, wellRows, boundOf, BoundAt}
 use Rattle.resolve.specs.Walk.{Facts, State, above, below, say, see, enter, seens, seenAt, stateOf, after, factsAt, tablesAt, turnOf, innerOf, Room, Said, Entered, Moves, Stays, Ready, Walks, Resolved}
-use Rattle.resolve.specs.Lowering.{carryPairs, carriesBy, bindSeen, carryP, carryPs, directOf, rebase, bindFrom, runCarried}
+use Rattle.resolve.specs.Lowering.{carryPairs, carriesBy, bindPair, carryP, carryPs, directOf, rebase, bindFrom, runCarried}
 use Rattle.resolve.specs.declared.Env.{Env}
 use Rattle.resolve.specs.declared.Walk.{Walk}
 use Rattle.resolve.specs.declared.Turn.{Turn}
@@ -37,7 +38,7 @@ use Rattle.resolve.proofs.Adds.{enter-count, pairs-adds, carry-adds, carries-ad
 use Rattle.resolve.proofs.Decode.{length-seens, said-then}
 use Rattle.resolve.proofs.Heights.{Rises}
 use Rattle.resolve.proofs.Rounds.{byTurn, after-turn}
-use Rattle.resolve.proofs.Runs.{above-more, length-above}
+use Rattle.resolve.proofs.Above.{above-more, length-above}
 use Rattle.resolve.proofs.Stacks.{below-seens}
 use Rattle.resolve.proofs.Moved.{log-length, entered-moves, said-moves, moves-then, room-on}
 use Rattle.resolve.proofs.Walks.{Grows, after-adds, ready-on, Rounds, leapt, told, risen, room-first}
@@ -48,15 +49,15 @@ use Rattle.logs.proofs.Rows.{projection-begins}
 -- ---- one projection
 
 -- a variable that has a row, under the row's name, which the code has with 1 added
-named : {x k : ℕ} (v : ℕ) (o : Option Row) → bound.Is x k ≡ boundOf o → seen (x - 1) v ∷ [] ≡ ifRow o v
+named : {x k : ℕ} (v : ℕ) (o : Option Row) → bound.Is x k ≡ boundOf o → pair (x - 1) v ∷ [] ≡ ifRow o v
 unfolding ifRow
 named v none e = never (cc)
 named {x} v (some (row i y l a b)) e =
     let q : x ≡ suc y = cc in
     let p : x - 1 ≡ y = omega arith in
-    ap (λ (n : ℕ). seen n v ∷ []) p
+    ap (λ (n : ℕ). pair n v ∷ []) p
 
-pub row-carried : {o : Option Row} {b : Bound} {x k : ℕ} (v : ℕ) → BoundAt o b → b ≡ bound.Is x k → seen (x - 1) v ∷ [] ≡ ifRow o v
+pub row-carried : {o : Option Row} {b : Bound} {x k : ℕ} (v : ℕ) → BoundAt o b → b ≡ bound.Is x k → pair (x - 1) v ∷ [] ≡ ifRow o v
 row-carried {o} v f e = named v o (sym e ∙ f .same)
 
 -- an alias, which the code has with 1 added
@@ -64,15 +65,15 @@ pub alias-some : (a : ℕ) → (a ≡ 0 → ⊥) → aliasOf a ≡ some (a - 1)
 alias-some a h = let e : a ≡ suc (a - 1) = omega arith in ap aliasOf e
 
 -- any other expression carries nothing
-pub other-carries : (t : List Row) (o : Option ℕ) (vis : List Seen) → carriesBy t o other vis ≡ []
+pub other-carries : (t : List Row) (o : Option ℕ) (vis : List Pair) → carriesBy t o other vis ≡ []
 unfolding carriesBy
 other-carries t none vis = refl
 other-carries t (some x) vis = refl
 
-pub pairs-rise : (l : List Seen) (σ : State) → Rises σ (carryPairs l σ)
+pub pairs-rise : (l : List Pair) (σ : State) → Rises σ (carryPairs l σ)
 unfolding carryPairs see say
 pairs-rise [] σ = le-refl _
-pairs-rise (seen x v ∷ l) σ = omega (arith, pairs-rise l (see x v (say (carry (carried (σ .cur) x v) ∷ []) σ)))
+pairs-rise (pair x v ∷ l) σ = omega (arith, pairs-rise l (see x v (say (carry (carried (σ .cur) x v) ∷ []) σ)))
 
 -- an expression carries by what its head asks
 module _ (f : Facts) (n : ℕ) (a : Option ℕ) (σ : State) where
@@ -112,13 +113,13 @@ module _ (t : Tables) (ws : List ℕ) (at : ℕ) (o : isOk (readProjection t (dr
       ∙ by-turn f n (aliasOf x) σ t (readExpr t 47) h (turnOf h) r (rw m at expr-fine)
 
 -- a walk over it, which carries the pairs l
-module _ {ws : List ℕ} {e : Env} {ids vis log : List ℕ} {mark : ℕ} {w : Walk} (m : mark ≤ w .top) (o : Ready ws e ids vis log w (carryP (factsAt ws e ids) mark) (readProjection (tablesAt ws e) (drop (w .at) ws))) (x : ℕ) (q : x ≡ getD ws (w .at) 0) (h : Form) (r : List ℕ) (i : readForm (e .names) (drop (w .at + 1) ws) ≡ ok h r) (l : List Seen) (k : l ≡ carriesBy (tableAt ws (e .rows) (e .bindings)) (aliasOf x) (directOf (turnOf h)) (above (w .base) (seens mark vis))) where
+module _ {ws : List ℕ} {e : Env} {ids vis log : List ℕ} {mark : ℕ} {w : Walk} (m : mark ≤ w .top) (o : Ready ws e ids vis log w (carryP (factsAt ws e ids) mark) (readProjection (tablesAt ws e) (drop (w .at) ws))) (x : ℕ) (q : x ≡ getD ws (w .at) 0) (h : Form) (r : List ℕ) (i : readForm (e .names) (drop (w .at + 1) ws) ≡ ok h r) (l : List Pair) (k : l ≡ carriesBy (tableAt ws (e .rows) (e .bindings)) (aliasOf x) (directOf (turnOf h)) (above (w .base) (seens mark vis))) where
   same : carryPairs l (stateOf vis log w) ≡ after (carryP (factsAt ws e ids) mark) (readProjection (tablesAt ws e) (drop (w .at) ws)) (stateOf vis log w)
   same =
       let σ = stateOf vis log w in
       sym (carry-is (tablesAt ws e) ws (w .at) (o .fine) x q (factsAt ws e ids) mark h r i σ
-      ∙ ap (λ (b : List Seen). carryPairs (carriesBy (tableAt ws (e .rows) (e .bindings)) (aliasOf x) (directOf (turnOf h)) (above (w .base) b)) σ) (below-seens mark (w .top) vis m)
-      ∙ ap (λ (b : List Seen). carryPairs b σ) (sym k))
+      ∙ ap (λ (b : List Pair). carryPairs (carriesBy (tableAt ws (e .rows) (e .bindings)) (aliasOf x) (directOf (turnOf h)) (above (w .base) b)) σ) (below-seens mark (w .top) vis m)
+      ∙ ap (λ (b : List Pair). carryPairs b σ) (sym k))
 
   pub pair-room : (p : ℕ) → Room (length (carryPairs l (stateOf vis log w) .log)) vis log (placed p w)
   pair-room p = room-first o p (carryPairs l (stateOf vis log w)) (pairs-adds l (stateOf vis log w)) (omega (arith, ap (λ (τ : State). length (τ .log)) same))
@@ -143,20 +144,20 @@ carry-rounds f n t =
 
 module _ (t : List Row) (s mark : ℕ) (vis : List ℕ) where
   abbrev pub boundUp : ℕ → List Event
-  boundUp i = map (bindSeen t s) (reverse (above mark (seens i vis)))
+  boundUp i = map (bindPair t s) (reverse (above mark (seens i vis)))
 
   pub bound-none : boundUp mark ≡ []
   unfolding above
   bound-none =
       let e : length (seens mark vis) - mark ≡ 0 = omega (arith, length-seens mark vis) in
-      ap (λ (k : ℕ). map (bindSeen t s) (reverse (take k (seens mark vis)))) e
+      ap (λ (k : ℕ). map (bindPair t s) (reverse (take k (seens mark vis)))) e
 
   pub bound-count : (i : ℕ) → length (boundUp i) ≡ i - mark
   bound-count i =
-      omega (arith, length-map (reverse (above mark (seens i vis))) (bindSeen t s), length-reverse (above mark (seens i vis)), length-above mark (seens i vis), length-seens i vis)
+      omega (arith, length-map (reverse (above mark (seens i vis))) (bindPair t s), length-reverse (above mark (seens i vis)), length-above mark (seens i vis), length-seens i vis)
 
   bound-more : (i : ℕ) → mark ≤ i → boundUp (i + 1) ≡ boundUp i ++ (bind' (bound' s (getD vis (i * 2) 0) (getD vis (i * 2 + 1) 0) (rowKind (rowOf (getD vis (i * 2 + 1) 0) t))) ∷ [])
-  unfolding seens bindSeen
+  unfolding seens bindPair
   bound-more i h =
       rw (add-one i, above-more mark (seenAt vis i ∷ []) (seens i vis) (omega (arith, length-seens i vis)), reverse-cons, map-append)
 
@@ -176,7 +177,7 @@ from-count : (f : Facts) (k b : ℕ) (τ : State) → length (rebase k (bindFrom
 unfolding rebase bindFrom say enter
 from-count f k b τ =
     let l = above k (τ .stack) in
-    let g = bindSeen (f .table) (suc (τ .last)) in
+    let g = bindPair (f .table) (suc (τ .last)) in
     let m = open' (scope rootScope (some (τ .cur)) b b) ∷ [] in
     omega (arith, length-append (τ .log ++ m) (map g (reverse l)), length-append (τ .log) m, length-map (reverse l) g, length-reverse l, length-above k (τ .stack))
 

@@ -15,7 +15,7 @@ use Rattle.expr.proofs.Accepted.{Begins}
 use Rattle.expr.proofs.Repeats.{manyOfRow}
 use Rattle.clauses.specs.Tree.{Projection, projection, match, opening}
 use Rattle.clauses.specs.Read.{aliasOf, clauseExpr, readProjection, countedExprs, filterExprs, countedMarks, readMatch, readClause, readArm}
-use Rattle.resolve.specs.Resolve.{opens}
+use Rattle.semantics.specs.World.{opens}
 use Rattle.resolve.specs.Walk.{Facts, State, enter, within, after, stateOf, factsAt, tablesAt, Entered, Ready, Walks, Resolved, runE, runEs, runPattern}
 use Rattle.resolve.specs.Lowering.{runP, runPs, runOpening, runReturn, runC, runCs, runA, runAs}
 use Rattle.resolve.specs.declared.Env.{Env}

@@ -16,8 +16,9 @@ use Rattle.expr.proofs.Repeats.{manyOfRow}
 use Rattle.clauses.specs.Tree.{Yield, yield, Clause, unwind, call}
 use Rattle.clauses.specs.Read.{aliasOf, clauseExpr, readYield, countedExprs, readUnwind, readCall}
 use Rattle.tables.specs.Row.{valueKind}
+use Rattle.semantics.specs.World.{yieldName}
 use Rattle.resolve.specs.Walk.{Facts, State, enter, bindName, bindAnew, nameIn, after, events, seens, eventOf, stateOf, factsAt, tablesAt, Room, Said, Entered, Stays, Ready, Walks, Resolved}
-use Rattle.resolve.specs.Lowering.{yielded, runY, runYs, runC, rooted}
+use Rattle.resolve.specs.Lowering.{runY, runYs, runC, rooted}
 use Rattle.resolve.specs.declared.Env.{Env}
 use Rattle.resolve.specs.declared.Walk.{Walk}
 use Rattle.resolve.proofs.Adds.{anew-adds, name-adds, yield-adds, yields-adds}
@@ -29,18 +30,18 @@ use Rattle.logs.proofs.Begun.{placed, placed-at, counted-begins, word-r
 use Rattle.logs.proofs.Entering.{Enters, enter-fits, entered}
 
 -- a yield is bound under its alias, or under its name if it has none
-pub yielded-name : (x a : ℕ) → a ≡ 0 → x ≡ yielded x (aliasOf a)
-unfolding yielded
+pub yielded-name : (x a : ℕ) → a ≡ 0 → x ≡ yieldName x (aliasOf a)
+unfolding yieldName
 yielded-name x zero h = refl
 yielded-name x (suc a) h = absurd (omega arith)
 
-pub yielded-alias : (x a : ℕ) → 0 < a → a - 1 ≡ yielded x (aliasOf a)
-unfolding yielded
+pub yielded-alias : (x a : ℕ) → 0 < a → a - 1 ≡ yieldName x (aliasOf a)
+unfolding yieldName
 yielded-alias x zero h = absurd (omega arith)
 yielded-alias x (suc a) h = omega arith
 
-yielded-below : (n x a : ℕ) → x < n → a < suc n → yielded x (aliasOf a) < n
-unfolding yielded
+yielded-below : (n x a : ℕ) → x < n → a < suc n → yieldName x (aliasOf a) < n
+unfolding yieldName
 yielded-below n x zero h g = h
 yielded-below n x (suc a) h g = omega arith
 
@@ -106,11 +107,11 @@ module _ (t : Tables) where
     yield-is = begin-is yield-begins ws at o x ex ∙ begin-is (alias-begins x) ws (at + 1) alias-fine a ea ∙ begin-is (variable-begins x a) ws (at + 1 + 1) variable-fine v ev
 
     -- a name of the table
-    yield-named : yielded x (aliasOf a) < t .names
+    yield-named : yieldName x (aliasOf a) < t .names
     unfolding yield-begins alias-begins
     yield-named = yielded-below (t .names) x a (word-below yield-begins ws at o x ex) (word-below (alias-begins x) ws (at + 1) alias-fine a ea)
 
-    yield-runs : (f : Facts) (own start stop name : ℕ) (σ : State) → name ≡ yielded x (aliasOf a) → after (runY f own start stop) (readYield t (drop at ws)) σ ≡ bindAnew (f .warns) own name v valueKind start stop σ
+    yield-runs : (f : Facts) (own start stop name : ℕ) (σ : State) → name ≡ yieldName x (aliasOf a) → after (runY f own start stop) (readYield t (drop at ws)) σ ≡ bindAnew (f .warns) own name v valueKind start stop σ
     unfolding runY
     yield-runs f own start stop name σ q = ap (λ (g : Got Yield). after (runY f own start stop) g σ) yield-is ∙ ap (λ (n : ℕ). bindAnew (f .warns) own n v valueKind start stop σ) (sym q)
 
@@ -122,7 +123,7 @@ module _ {ws : List ℕ} {e : Env} {ids vis log : List ℕ} {w : Walk} (own star
   past : Walks ws vis log vis log w (placed (w .at + 1 + 1 + 1) w) (ok tt (drop (w .at + 1 + 1 + 1) ws)) (stateOf vis log w)
   past = let h = yield-within in stepped w (w .at + 1 + 1 + 1) (o .room .cur) (omega arith) (omega arith)
 
-  module _ {x a v name : ℕ} (ex : x ≡ getD ws (w .at) 0) (ea : a ≡ getD ws (w .at + 1) 0) (ev : v ≡ getD ws (w .at + 1 + 1) 0) (q : name ≡ yielded x (aliasOf a)) where
+  module _ {x a v name : ℕ} (ex : x ≡ getD ws (w .at) 0) (ea : a ≡ getD ws (w .at + 1) 0) (ev : v ≡ getD ws (w .at + 1 + 1) 0) (q : name ≡ yieldName x (aliasOf a)) where
     pub yield-known : name < e .names
     yield-known = rw q (yield-named (tablesAt ws e) ws (w .at) (o .fine) x a v ex ea ev)
 

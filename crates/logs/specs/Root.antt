@@ -2,7 +2,7 @@
 use Prim.Native.Nat.{ℕ}
 use mathlib.Core.Path.{_≡_}
 use mathlib.Core.List.{List, [], _∷_}
-use Rattle.resolve.specs.Resolve.{Seen, seen}
+use Rattle.semantics.specs.Resolve
 use Rattle.resolve.specs.Walk.{stateOf}
 use Rattle.resolve.specs.Lowering.{rooted}
 use Rattle.resolve.specs.declared.Walk.{Walk}
@@ -17,6 +17,6 @@ pub record Rooted (log : List ℕ) (start stop : ℕ) (r : Walk) : Type 0 where
   pub state : (vis : List ℕ) → stateOf vis log r ≡ rooted start stop
 
 -- none, or one pair
-abbrev pub pairsOf : Pair → List Seen
-pairsOf (pair.Is x v) = seen x v ∷ []
+abbrev pub pairsOf : Pair → List Resolve.Pair
+pairsOf (pair.Is x v) = Resolve.pair x v ∷ []
 pairsOf pair.No = []

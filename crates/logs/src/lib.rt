@@ -25,8 +25,9 @@ ghost use Rattle.words.specs.Words.{words};
 ghost use Rattle.heads.specs.Got.{many, counted};
 ghost use Rattle.expr.specs.Read.{pattern};
 ghost use Rattle.clauses.specs.Read.{maxDepth, aliasOf, readProjection, readYield, filterExprs, countedExprs, countedMarks, readMatch, readWith, readUnwind, readCall, readBody, readClause, readArm};
+ghost use Rattle.semantics.specs.World.{yieldName};
 ghost use Rattle.resolve.specs.Walk.{factsAt, tablesAt, readerAt, runEs, Ready, Resolved};
-ghost use Rattle.resolve.specs.Lowering.{yielded, runP, runPs, runY, runYs, runOpening, runReturn, runC, runCs, runA, runAs};
+ghost use Rattle.resolve.specs.Lowering.{runP, runPs, runY, runYs, runOpening, runReturn, runC, runCs, runA, runAs};
 ghost use Rattle.logs.specs.Root.{Rooted};
 
 // The kinds of scopes.
@@ -269,7 +270,7 @@ pub fn resolve_unwind(
 
 // A yield's alias, or its name if it has none.
 pub fn yield_name(name: u32, alias: u32) -> u32
-    ensures { λ r. ⌜ r ≡ yielded name (aliasOf alias) ⌝ }
+    ensures { λ r. ⌜ r ≡ yieldName name (aliasOf alias) ⌝ }
 {
     if alias == 0 {
         return name;

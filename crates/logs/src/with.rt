@@ -24,10 +24,11 @@ ghost use lib.ListN.{length, drop};
 ghost use Rattle.words.specs.Words.{words};
 ghost use Rattle.heads.specs.Got.{many, counted};
 ghost use Rattle.clauses.specs.Read.{aliasOf, readProjection};
-ghost use Rattle.resolve.specs.Resolve.{seen, lookup, rowOf, ifSome, ifRow};
+ghost use Rattle.semantics.specs.World.{rowOf};
+ghost use Rattle.semantics.specs.Resolve.{ifSome, ifRow};
 ghost use Rattle.resolve.specs.Table.{tableAt, wellRows};
-ghost use Rattle.resolve.specs.Walk.{factsAt, tablesAt, above, seens, stateOf, after, Room, Said, Moves, Stays, Ready, Resolved};
-ghost use Rattle.resolve.specs.Lowering.{carryPairs, carriesBy, bindSeen, carryP, carryPs, runCarried, directOf};
+ghost use Rattle.resolve.specs.Walk.{factsAt, tablesAt, above, seens, stateOf, after, Room, Said, Moves, Stays, Ready, Resolved, lookup};
+ghost use Rattle.resolve.specs.Lowering.{carryPairs, carriesBy, bindPair, carryP, carryPs, runCarried, directOf};
 ghost use Rattle.logs.specs.Root.{pairsOf};
 
 const BIND: u32 = 2;
@@ -62,7 +63,7 @@ fn carry_var(s: &[u8], e: Env, v: u32) -> Pair
 // An unaliased name, if it is among the entries from base up to mark.
 fn carry_name(vis: &[u32], base: usize, mark: usize, x: u32) -> Pair
     requires { ⌜ mark * 2 ≤ length (now vis) ⌝ }
-    ensures { λ r. ⌜ pairsOf r ≡ ifSome (lookup x (above base (seens mark (now (vis .entry))))) (seen x) ⌝ }
+    ensures { λ r. ⌜ pairsOf r ≡ ifSome (lookup x (above base (seens mark (now (vis .entry))))) x ⌝ }
 {
     match lookup(vis, base, mark, x) {
         Maybe::Var(v) => Pair::Is(x, v),
@@ -175,7 +176,7 @@ fn bind_carried(
     n: usize,
 ) -> usize
     requires { ⌜ ((e .rows + e .bindings * 5 ≤ length (words (now s))) × (wellRows (e .names) (tableAt (words (now s)) (e .rows) (e .bindings)) ≡ true)) × ((mark ≤ top) × ((top * 2 ≤ length (now vis)) × ((n + (top - mark)) * 5 ≤ length (now log)))) ⌝ }
-    ensures { λ r. ⌜ Said (now (log .entry)) (now (log .exit)) n (map (bindSeen (tableAt (words (now (s .entry))) (e .rows) (e .bindings)) scope) (reverse (above mark (seens top (now (vis .entry)))))) r ⌝ }
+    ensures { λ r. ⌜ Said (now (log .entry)) (now (log .exit)) n (map (bindPair (tableAt (words (now (s .entry))) (e .rows) (e .bindings)) scope) (reverse (above mark (seens top (now (vis .entry)))))) r ⌝ }
 {
     let mut i = mark;
     let mut m = n;

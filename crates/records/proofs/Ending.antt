@@ -10,6 +10,8 @@ use lib.Dec.{leb}
 use lib.ListN.{length, drop}
 use Rattle.words.specs.Words.{words}
 use Rattle.words.proofs.Words.{length-words}
+use Rattle.semantics.specs.Lists.{findings}
+use Rattle.theorems.proofs.Sizes.{fits}
 use Rattle.kinds.specs.Walk.{findingWords}
 use Rattle.sheet.specs.Statement.{Statement}
 use Rattle.sheet.specs.Read.{Sheet, accepted, refused, readSheet}
@@ -18,13 +20,11 @@ use Rattle.sheet.proofs.Accepted.{accepted-words}
 use Rattle.finding.specs.declared.Finding.{Finding}
 use Rattle.finding.specs.Records.{into}
 use Rattle.finding.proofs.Storing.{into-records}
-use Rattle.checker.specs.Lists.{findings}
 use Rattle.checker.specs.Room.{enough}
 use Rattle.checker.specs.Filled.{filled, withFindings}
 use Rattle.checker.specs.Checked as core
 use Rattle.checker.specs.Checked.{countsOf, answer, answerIn, leftIn, findingsIn}
 use Rattle.checker.specs.declared.Checked.{Checked}
-use Rattle.checker.proofs.Sizes.{fits}
 use Rattle.records.specs.Checked.{Lent, roomy, filledBy, left, answerFor, leftFor}
 
 module _ (warns : Bool) (s : List ℕ) (l : Lent) (flat : List ℕ) (wide : length flat ≡ 12288) where

@@ -8,9 +8,9 @@ use lib.ListN.{length}
 use Rattle.words.specs.Words.{words}
 use Rattle.sheet.specs.Statement.{Statement}
 use Rattle.sheet.specs.Read.{Sheet, accepted, refused, readSheet}
+use Rattle.semantics.specs.Lists.{scopes, bindings, carriedList, recorded, findings}
 use Rattle.finding.specs.declared.Finding.{Finding}
 use Rattle.finding.specs.Records.{withRecords}
-use Rattle.checker.specs.Lists.{scopes, bindings, carriedList, recorded, findings}
 use Rattle.checker.specs.Room.{enough}
 use Rattle.checker.specs.Filled.{withScopes, withBindings, withCarried, withRecorded}
 use Rattle.checker.specs.Checked.{answer}

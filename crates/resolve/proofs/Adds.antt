@@ -12,9 +12,10 @@ use Rattle.heads.specs.declared.Elem.{Elem}
 use Rattle.expr.specs.Tree.{Expr, var, unresolved, node, predicate, comprehension, Exprs, done, more, mark, Steps, end, part, elem}
 use Rattle.clauses.specs.Tree.{Projection, projection, Yield, yield, Clause, opening, reading, with', return, unwind, call, Arm, arm}
 use Rattle.tables.specs.Row.{valueKind, pathKind}
-use Rattle.resolve.specs.Log.{Event}
-use Rattle.resolve.specs.Resolve.{Seen, seen, lookup, variable, opens}
-use Rattle.resolve.specs.Walk.{Facts, State, say, see, enter, settle, within, visible, bindName, bindAnew, bindUnless, bindPath, bindElem, runE, runEs, runS, runInner, runElem, runPattern}
+use Rattle.semantics.specs.Log.{Event}
+use Rattle.semantics.specs.World.{variable, opens}
+use Rattle.semantics.specs.Resolve.{Pair, pair}
+use Rattle.resolve.specs.Walk.{Facts, State, say, see, enter, settle, within, visible, bindName, bindAnew, bindUnless, bindPath, bindElem, runE, runEs, runS, runInner, runElem, runPattern, lookup}
 use Rattle.resolve.specs.Lowering.{carryPairs, rebase, afresh, runP, runPs, carryP, carryPs, bindFrom, runCarried, runY, runYs, runOpening, runReturn, runC, runCs, runA, runAs}
 
 -- τ has the events of σ, or more
@@ -62,10 +63,10 @@ unfolding bindUnless
 unless-adds none x v k σ = name-adds x v k σ
 unless-adds (some u) x v k σ = le-refl _
 
-pub pairs-adds : (l : List Seen) (σ : State) → Adds σ (carryPairs l σ)
+pub pairs-adds : (l : List Pair) (σ : State) → Adds σ (carryPairs l σ)
 unfolding carryPairs see
 pairs-adds [] σ = le-refl _
-pairs-adds (seen x v ∷ l) σ = le-trans (say-adds _ σ) (pairs-adds l _)
+pairs-adds (pair x v ∷ l) σ = le-trans (say-adds _ σ) (pairs-adds l _)
 
 module _ (f : Facts) where
   pub path-adds : (own : ℕ) (o : Option ℕ) (σ : State) → Adds σ (bindPath f own o σ)

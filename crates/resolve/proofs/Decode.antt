@@ -6,8 +6,8 @@ use mathlib.Core.Path.{_≡_, refl, ap, sym, _∙_}
 use mathlib.Core.List.{List, [], _∷_, _++_, append-assoc, append-nil}
 use lib.ListN.{length, getD, set, length-append, length-set}
 use lib.Seq.{sets, getD-set-same, getD-set-other}
-use Rattle.resolve.specs.Log.{Event}
-use Rattle.resolve.specs.Resolve.{seen}
+use Rattle.semantics.specs.Log.{Event}
+use Rattle.semantics.specs.Resolve.{pair}
 use Rattle.resolve.specs.Walk.{events, seens, eventOf, Said, Saw}
 
 pub length-events : (n : ℕ) (l : List ℕ) → length (events n l) ≡ n
@@ -73,7 +73,7 @@ one-said l n t a b c d h =
       kept = simp length-set;
     }
 
-last-name : (n : ℕ) (new old : List ℕ) {x v : ℕ} → Alike (n * 2) new old → getD new (n * 2) 0 ≡ x → getD new (n * 2 + 1) 0 ≡ v → seens (n + 1) new ≡ seen x v ∷ seens n old
+last-name : (n : ℕ) (new old : List ℕ) {x v : ℕ} → Alike (n * 2) new old → getD new (n * 2) 0 ≡ x → getD new (n * 2 + 1) 0 ≡ v → seens (n + 1) new ≡ pair x v ∷ seens n old
 unfolding seens
 last-name n new old e ex ev = rw (add-one n, ex, ev, alike-seens n new old e)
 

@@ -10,10 +10,10 @@ use lib.ListN.{length, getD, take}
 use Rattle.words.specs.Fnv.{useId}
 use Rattle.expr.proofs.Inverse.{never}
 use Rattle.tables.specs.Row.{Row, row}
-use Rattle.resolve.specs.Log.{answer, write, found}
-use Rattle.resolve.specs.Resolve.{rowOf, rowName, rowKind, recordVar}
+use Rattle.semantics.specs.Log.{answer, write, found}
+use Rattle.semantics.specs.World.{rowOf, rowName, rowKind}
 use Rattle.resolve.specs.Table.{boundOf, wellRows, BoundAt}
-use Rattle.resolve.specs.Walk.{factsAt, idOf, Tabled}
+use Rattle.resolve.specs.Walk.{factsAt, idOf, Tabled, recordVar}
 use Rattle.resolve.specs.declared.Env.{Env}
 use Rattle.resolve.specs.declared.rows.Bound.{Bound}
 use Rattle.resolve.specs.declared.rows.Bound.the-variants as bound

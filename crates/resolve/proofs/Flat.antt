@@ -22,9 +22,9 @@ use Rattle.flat.specs.Plain.{Parts, Simple, Ends, Seen}
 use Rattle.flat.specs.declared.Plain.the-variants as plain
 use Rattle.flat.proofs.Flat.{Flattened, flat-ok}
 use Rattle.flat.proofs.Few.{row-few}
-use Rattle.resolve.specs.Log.{Event}
-use Rattle.resolve.specs.Resolve.{lookup, rowOf, recordVar}
-use Rattle.resolve.specs.Walk.{Facts, State, say, above, visible, after, stateOf, factsAt, tablesAt, readerAt, seens, turnOf, usesVar, usesName, runE, runEs, Said, Ready, Resolved}
+use Rattle.semantics.specs.Log.{Event}
+use Rattle.semantics.specs.World.{rowOf}
+use Rattle.resolve.specs.Walk.{Facts, State, say, above, visible, after, stateOf, factsAt, tablesAt, readerAt, seens, turnOf, usesVar, usesName, runE, runEs, Said, Ready, Resolved, lookup, recordVar}
 use Rattle.resolve.specs.declared.Env.{Env}
 use Rattle.resolve.specs.declared.Walk.{Walk}
 use Rattle.resolve.proofs.Decode.{length-seens}

@@ -7,9 +7,9 @@ use lib.ListN.{length}
 use Rattle.scope.specs.Graph.{comprehensionScope}
 use Rattle.heads.specs.Got.{Got, ok, no}
 use Rattle.expr.specs.Tree.{Expr, var, unresolved, node, predicate, comprehension, Exprs, done, more, mark, Steps, end, part, elem}
-use Rattle.resolve.specs.Resolve.{lookup, variable}
-use Rattle.resolve.specs.Walk.{Facts, State, below, say, see, enter, settle, within, visible, bindName, bindAnew, bindUnless, bindPath, bindElem, runE, runEs, runS, runPattern, after}
-use Rattle.resolve.proofs.Runs.{length-below}
+use Rattle.semantics.specs.World.{variable}
+use Rattle.resolve.specs.Walk.{Facts, State, below, say, see, enter, settle, within, visible, bindName, bindAnew, bindUnless, bindPath, bindElem, runE, runEs, runS, runPattern, after, lookup}
+use Rattle.resolve.proofs.Above.{length-below}
 
 abbrev pub Rises : State → State → Type 0
 Rises σ τ = length (σ .stack) ≤ length (τ .stack)

@@ -7,9 +7,10 @@ use lib.ListN.{length}
 use Rattle.scope.specs.Graph.{comprehensionScope}
 use Rattle.heads.specs.Got.{Got, ok, no}
 use Rattle.expr.specs.Tree.{Expr, var, unresolved, node, predicate, comprehension, Exprs, done, more, mark, Steps, end, part, elem}
-use Rattle.resolve.specs.Resolve.{Seen, seen, lookup, variable}
-use Rattle.resolve.specs.Walk.{Facts, State, below, say, see, enter, settle, within, visible, bindName, bindAnew, bindUnless, nameIn, bindPath, bindElem, runE, runEs, runS, after}
-use Rattle.resolve.proofs.Runs.{below-seam}
+use Rattle.semantics.specs.World.{variable}
+use Rattle.semantics.specs.Resolve.{Pair, pair}
+use Rattle.resolve.specs.Walk.{Facts, State, below, say, see, enter, settle, within, visible, bindName, bindAnew, bindUnless, nameIn, bindPath, bindElem, runE, runEs, runS, after, lookup}
+use Rattle.resolve.proofs.Above.{below-seam}
 
 pub record Keeps (σ τ : State) : Type 0 where
   pub stack : τ .stack ≡ σ .stack
@@ -18,7 +19,7 @@ pub record Keeps (σ τ : State) : Type 0 where
 
 -- the same with names on top
 record Piles (σ τ : State) : Type 0 where
-  pub names : List Seen
+  pub names : List Pair
   pub stack : τ .stack ≡ names ++ σ .stack
   pub base : τ .base ≡ σ .base
   pub cur : τ .cur ≡ σ .cur
@@ -46,14 +47,14 @@ piles-then {σ} a b =
 
 unless-piles : (o : Option ℕ) (x v k : ℕ) (σ : State) → Piles σ (bindUnless o x v k σ)
 unfolding bindUnless bindName see say
-unless-piles none x v k σ = record { names = seen x v ∷ []; stack = refl; base = refl; cur = refl }
+unless-piles none x v k σ = record { names = pair x v ∷ []; stack = refl; base = refl; cur = refl }
 unless-piles (some u) x v k σ = none-more
 
 module _ (f : Facts) where
   path-piles : (own : ℕ) (o : Option ℕ) (σ : State) → Piles σ (bindPath f own o σ)
   unfolding bindPath bindAnew see say
   path-piles own none σ = none-more
-  path-piles own (some v) σ = record { names = seen (nameIn f v) v ∷ []; stack = refl; base = refl; cur = refl }
+  path-piles own (some v) σ = record { names = pair (nameIn f v) v ∷ []; stack = refl; base = refl; cur = refl }
 
   bind-piles : (k : ℕ) (o : Option ℕ) (σ : State) → Piles σ (bindElem f k o σ)
   unfolding bindElem
@@ -63,7 +64,7 @@ module _ (f : Facts) where
   mutual
     unfolding runE say enter settle within
 
-    expr-keeps : (e : Expr) (σ : State) → Keeps σ (runE f e σ)
+    pub expr-keeps : (e : Expr) (σ : State) → Keeps σ (runE f e σ)
     expr-keeps (var v) σ = record { stack = refl; base = refl; cur = refl }
     expr-keeps (unresolved x) σ = record { stack = refl; base = refl; cur = refl }
     expr-keeps (node h es) σ = exprs-keeps es σ

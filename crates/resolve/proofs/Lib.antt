@@ -7,9 +7,10 @@ pub mod Moved
 pub mod Stacks
 pub mod Walks
 pub mod Adds
-pub mod Runs
+pub mod Above
 pub mod Heights
 pub mod Keeps
+pub mod Runs
 pub mod Rounds
 pub mod Flat
 pub mod Lowered

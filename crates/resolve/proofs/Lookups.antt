@@ -7,8 +7,7 @@ use mathlib.Core.List.{List, _∷_}
 use mathlib.Core.Option.{none, some}
 use lib.Dec.{eqb}
 use lib.ListN.{getD, take}
-use Rattle.resolve.specs.Resolve.{lookup}
-use Rattle.resolve.specs.Walk.{above, seenAt, seens}
+use Rattle.resolve.specs.Walk.{above, seenAt, seens, lookup}
 use Rattle.resolve.proofs.Decode.{length-seens}
 
 above-is : (from i : ℕ) (vis : List ℕ) → above from (seens i vis) ≡ take (i - from) (seens i vis)

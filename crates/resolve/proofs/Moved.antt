@@ -5,14 +5,14 @@ use mathlib.Core.Path.{_≡_, refl, ap, _∙_}
 use mathlib.Core.List.{List}
 use mathlib.Core.Option.{Option, none, some}
 use lib.ListN.{length, length-append}
-use Rattle.resolve.specs.Log.{Event}
-use Rattle.resolve.specs.Resolve.{Seen, lookup}
-use Rattle.resolve.specs.Walk.{Facts, State, events, seens, stateOf, say, see, enter, visible, bindName, bindUnless, nameIn, bindElem, Room, Said, Saw, Entered, Moves, Stays}
+use Rattle.semantics.specs.Log.{Event}
+use Rattle.semantics.specs.Resolve.{Pair}
+use Rattle.resolve.specs.Walk.{Facts, State, events, seens, stateOf, say, see, enter, visible, bindName, bindUnless, nameIn, bindElem, Room, Said, Saw, Entered, Moves, Stays, lookup}
 use Rattle.resolve.specs.declared.Walk.{Walk}
 use Rattle.resolve.proofs.Decode.{length-events}
 
 -- states that are the same in each part
-same-state : {s t : List Seen} {l k : List Event} {a b c d e f : ℕ} → s ≡ t → l ≡ k → a ≡ b → c ≡ d → e ≡ f →
+same-state : {s t : List Pair} {l k : List Event} {a b c d e f : ℕ} → s ≡ t → l ≡ k → a ≡ b → c ≡ d → e ≡ f →
     _≡_ {A = State} record { stack = s; log = l; last = a; base = c; cur = e } record { stack = t; log = k; last = b; base = d; cur = f }
 same-state p q x y z = λ i. record { stack = p i; log = q i; last = x i; base = y i; cur = z i }
 

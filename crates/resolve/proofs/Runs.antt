@@ -1,253 +1,254 @@
--- The steps of a state say what the definition says: over expressions and patterns, run with the facts of a world, the state comes to
--- the definition's events after its log, and a pattern's names to the stack.
-use Prim.Native.Nat.{ℕ, suc, _+_, _-_, _≤_}
+-- The code's runs over expressions and patterns come to what the definition comes to. `codes k s` is the code's state where the definition
+-- stands at s: the visible names above the entries k, and the log oldest first. `Low s`: no scope in s has a number above its last. `Owns
+-- own k s`: among the entries from `own` up there is one of a name exactly if the current scope binds it. An expression keeps what is
+-- visible (`Runs`), a pattern's steps bind in their scope (`Binds`).
+use Prim.Native.Nat.{ℕ, suc, _≤_, _<_}
+use native.Mathlib.Nat.{le-refl, le-trans}
 use native.Mathlib.Omega.{arith}
-use mathlib.Core.Path.{_≡_, refl, sym, ap, ap₂, _∙_}
-use mathlib.Core.Bool.{Bool, true, false, cond}
-use mathlib.Core.List.{List, [], _∷_, _++_, append-nil, append-assoc}
+use mathlib.Core.Path.{_≡_, refl, sym, ap, subst, subst₂, _∙_}
+use mathlib.Core.Bool.{Bool, true, false, cond, not, _&&_, _||_, and-false}
+use mathlib.Core.List.{List, [], _∷_, _++_, map, append-nil, append-assoc}
 use mathlib.Core.Option.{Option, none, some}
+use borrow.Author.Tests.{eq-eqb, ne-eqb}
 use lib.Dec.{eqb}
-use lib.ListN.{length, length-append, length-take, length-drop, take-append-drop, List·getD-map}
-use lib.Seq.{take-append-add, drop-append-add, take-at, drop-at}
-use Rattle.words.specs.Fnv.{useId}
-use Rattle.scope.specs.Graph.{comprehensionScope, scope}
+use lib.ListN.{length}
+use Rattle.scope.specs.Graph.{comprehensionScope}
 use Rattle.expr.specs.Tree.{Expr, var, unresolved, node, predicate, comprehension, Exprs, done, more, mark, Steps, end, part, elem}
-use Rattle.tables.specs.Distinct.{distinct, nameIn as among}
-use Rattle.tables.specs.Row.{Row, row}
-use Rattle.tables.proofs.Index.{index-is}
-use Rattle.resolve.specs.Log.{Finding, Event, open', find, scopeOf, scopesIn, opened, logs}
-use Rattle.resolve.specs.Resolve.{World, Seen, lookup, rowOf, variable, isStar, again, bindNew, seeNew, recordVar, nameOf, kindOf, bytesOf, recordName, pathLog, pathOwn, elemLog, elemOwn, owned, resolve, resolves, bindPattern}
-use Rattle.resolve.specs.Walk.{factsOf, State, above, below, say, see, enter, settle, within, visible, bindName, bindAnew, bindUnless, idOf, nameIn, kindIn, usesVar, usesName, bindPath, bindElem, runE, runEs, runS, runPattern}
-use Rattle.resolve.proofs.Star.{star-is}
-
--- ---- entries of the stack
-
-pub above-below : (n : ℕ) (l : List Seen) → above n l ++ below n l ≡ l
-unfolding above below
-above-below n l = take-append-drop (length l - n) l
-
-pub length-above : (n : ℕ) (l : List Seen) → length (above n l) ≡ length l - n
-unfolding above
-length-above n l = simp length-take (omega arith)
-
-pub length-below : (n : ℕ) (l : List Seen) → n ≤ length l → length (below n l) ≡ n
-unfolding below
-length-below n l h = simp length-drop (omega arith)
-
--- more on top
-module _ (n : ℕ) (k l : List Seen) (h : n ≤ length l) where
-  longer : length (k ++ l) - n ≡ length k + (length l - n)
-  longer = simp length-append (omega arith)
-
-  pub above-more : above n (k ++ l) ≡ k ++ above n l
-  unfolding above
-  above-more = rw longer (take-append-add k l (length l - n))
-
-  pub below-more : below n (k ++ l) ≡ below n l
-  unfolding below
-  below-more = rw longer (drop-append-add k l (length l - n))
-
--- all of one list above all of another
-module _ (k l : List Seen) where
-  pub above-seam : above (length l) (k ++ l) ≡ k
-  unfolding above
-  above-seam = take-at k l (length (k ++ l) - length l) (omega (arith, length-append k l))
-
-  pub below-seam : below (length l) (k ++ l) ≡ l
-  unfolding below
-  below-seam = drop-at k l (length (k ++ l) - length l) (omega (arith, length-append k l))
-
--- from b up: from n up, and below it
-pub above-split : (b n : ℕ) (l : List Seen) → b ≤ n → n ≤ length l → above b l ≡ above n l ++ above b (below n l)
-above-split b n l h i =
-    let j = length-below n l i in
-    ap (above b) (sym (above-below n l)) ∙ above-more b (above n l) (below n l) (omega arith)
+use Rattle.tables.specs.Row.{pathKind, Row, row}
+use Rattle.semantics.specs.Log.{e1002, Finding, finding, Write, bound, Event, bind, answer, find}
+use Rattle.semantics.specs.World.{World, rowOf, variable, nameOf, kindOf}
+use Rattle.semantics.specs.Resolve.{Seen, seen, Pair, pair, State, lookup, binds, say, sayIf, enter, bindName, leave, useVar, useName, bindAnew, bindNew, bindPath, bindElem, resolve, resolves, bindPattern}
+use Rattle.resolve.specs.Walk as walk
+use Rattle.resolve.specs.Walk.{Facts, above, below, see, settle, within, again, recordVar, bindUnless, idOf, nameIn, kindIn, usesVar, usesName, runE, runEs, runS}
+use Rattle.resolve.proofs.Above.{above-more, above-seam}
+use Rattle.resolve.proofs.Keeps.{expr-keeps}
 
 -- ---- states
 
--- with another log and last scope; with other names
-abbrev pub left : List Event → ℕ → State → State
-left l n σ = record { stack = σ .stack; log = l; last = n; base = σ .base; cur = σ .cur }
+abbrev pub plain : Seen → Pair
+plain (seen x v p) = pair x v
 
-abbrev pub on : List Seen → State → State
-on k σ = record { stack = k; log = σ .log; last = σ .last; base = σ .base; cur = σ .cur }
+unfoldable pub inOrder : List Event → List Event
+inOrder [] = []
+inOrder (e ∷ l) = inOrder l ++ (e ∷ [])
 
--- with events after the log, whose scopes are numbered on
-abbrev pub goes : List Event → State → State
-goes l σ = left (σ .log ++ l) (σ .last + opened l) σ
+abbrev pub at : List Pair → ℕ → State → walk.State
+at l b s = record { stack = l; log = inOrder (s .log); last = s .last; base = b; cur = s .cur }
 
-pub opened-append : (l m : List Event) → opened (l ++ m) ≡ opened l + opened m
-unfolding logs
-opened-append [] m = omega arith
-opened-append (x ∷ l) m =
-    omega (arith, length-append (scopeOf x) (scopesIn l), length-append (scopeOf x) (scopesIn (l ++ m)), opened-append l m)
+abbrev pub codes : List Pair → State → walk.State
+codes k s = at (map plain (s .visible) ++ k) (length k) s
 
-module _ (σ : State) where
-  pub alike : {l m : List Event} {n o : ℕ} → l ≡ m → n ≡ o → left l n σ ≡ left m o σ
-  alike p q = ap₂ (λ l n. left l n σ) p q
+-- another log
+abbrev pub tells : walk.State → List Event → walk.State
+tells σ l = record { stack = σ .stack; log = l; last = σ .last; base = σ .base; cur = σ .cur }
 
-  pub goes-none : σ ≡ goes [] σ
-  unfolding logs
-  goes-none = alike (sym (append-nil (σ .log))) (omega arith)
+pub lookup-plain : (x : ℕ) (vis : List Seen) → walk.lookup x (map plain vis) ≡ lookup x vis
+unfolding lookup walk.lookup
+lookup-plain x [] = refl
+lookup-plain x (seen y v p ∷ vis) = ap (cond (eqb x y) (some v)) (lookup-plain x vis)
 
-  pub goes-on : (l m : List Event) → goes m (goes l σ) ≡ goes (l ++ m) σ
-  goes-on l m = alike (append-assoc (σ .log) l m) (omega (arith, opened-append l m))
+-- ---- scopes
 
-  pub says-none : σ ≡ say [] σ
-  unfolding say
-  says-none = alike (sym (append-nil (σ .log))) refl
+pub data Below (n : ℕ) : List Seen → Type 0 where
+  nil : Below n []
+  cons : {x v p : ℕ} {l : List Seen} → p ≤ n → Below n l → Below n (seen x v p ∷ l)
 
-  -- events that open no scope are said
-  pub goes-said : (l m : List Event) → opened l ≡ 0 → goes m (say l σ) ≡ goes (l ++ m) σ
-  unfolding say
-  goes-said l m e = alike (append-assoc (σ .log) l m) (omega (arith, opened-append l m))
+pub wider : {m n : ℕ} {l : List Seen} → m ≤ n → Below m l → Below n l
+wider h nil = nil
+wider h (cons {p = p} i b) = cons {p = p} (omega arith) (wider h b)
 
-  pub says : (l : List Event) → opened l ≡ 0 → say l σ ≡ goes l σ
-  unfolding say
-  says l e = alike refl (omega arith)
+pub record Low (s : State) : Type 0 where
+  pub cur : s .cur ≤ s .last
+  pub all : Below (s .last) (s .visible)
 
-  -- a scope is opened first
-  pub goes-in : (k a b : ℕ) (l : List Event) → goes l (enter k a b σ) ≡ within (suc (σ .last)) (goes (open' (scope k (some (σ .cur)) a b) ∷ l) σ)
-  unfolding enter within logs
-  goes-in k a b l = ap (within (suc (σ .last))) (alike (append-assoc (σ .log) (open' (scope k (some (σ .cur)) a b) ∷ []) l) (omega arith))
+binds-below : {n : ℕ} (c x : ℕ) {vis : List Seen} → n < c → Below n vis → binds c x vis ≡ false
+unfolding binds
+binds-below c x h nil = refl
+binds-below c x h (cons {x = y} {p = p} i b) = rw (ne-eqb p c (λ e. omega arith), and-false (eqb x y)) (binds-below c x h b)
 
--- ---- what opens no scope
+unfoldable pub isSome : Option ℕ → Bool
+isSome none = false
+isSome (some v) = true
 
-var-opens : (v : ℕ) (r : Option Row) → opened (recordVar v r) ≡ 0
-unfolding recordVar logs
-var-opens v none = refl
-var-opens v (some (row i x k a b)) = refl
+pub record Owns (own : ℕ) (k : List Pair) (s : State) : Type 0 where
+  pub high : own ≤ length (map plain (s .visible) ++ k)
+  pub same : (x : ℕ) → binds (s .cur) x (s .visible) ≡ isSome (walk.lookup x (above own (map plain (s .visible) ++ k)))
 
-cond-opens : (t : Bool) (f : Finding) → opened (cond t [] (find f ∷ [])) ≡ 0
-unfolding logs
-cond-opens true f = refl
-cond-opens false f = refl
+-- ---- what is known of names and variables
 
-pub again-opens : (t : Bool) (x a b : ℕ) (o : Option ℕ) → opened (again t x a b o) ≡ 0
-unfolding again logs
-again-opens t x a b none = refl
-again-opens true x a b (some v) = refl
-again-opens false x a b (some v) = refl
+pub record Knows (f : Facts) (w : World) : Type 0 where
+  pub id : (x : ℕ) → idOf f x ≡ w .id x
+  pub star : (x : ℕ) → eqb (suc x) (f .star) ≡ w .isStar x
+  pub row : (v : ℕ) → rowOf v (f .table) ≡ w .row v
+  pub warns : f .warns ≡ w .warns
 
-new-opens : (s x v k : ℕ) (o : Option ℕ) → opened (bindNew s x v k o) ≡ 0
-unfolding bindNew logs
-new-opens s x v k none = refl
-new-opens s x v k (some u) = refl
+-- ---- a scope that is entered, and a name that is bound in it
 
--- an element's name, by whether it is found
-unless-is : (o : Option ℕ) (x v k : ℕ) (own rest : List Seen) (σ : State) → bindUnless o x v k (on (own ++ rest) σ) ≡ on (seeNew x v own o ++ rest) (say (bindNew (σ .cur) x v k o) σ)
-unfolding bindUnless bindName see say seeNew bindNew
-unless-is none x v k own rest σ = refl
-unless-is (some u) x v k own rest σ = says-none (on (own ++ rest) σ)
+pub low-in : {s : State} (j a b : ℕ) → Low s → Low (enter j a b s)
+low-in j a b h = record { cur = le-refl _; all = wider (omega arith) (h .all) }
 
-module _ (w : World) (d : distinct among (w .names) ≡ true) where
-  -- ---- what the facts of a world say
+pub owns-in : {s : State} (k : List Pair) (j a b : ℕ) → Low s → Owns (length (map plain (s .visible) ++ k)) k (enter j a b s)
+unfolding isSome walk.lookup
+owns-in {s} k j a b h =
+    record {
+      high = le-refl _;
+      same = λ x. binds-below (suc (s .last)) x (le-refl _) (h .all) ∙ ap (λ l. isSome (walk.lookup x l)) (sym (above-seam [] (map plain (s .visible) ++ k)));
+    }
 
-  pub id-is : (x : ℕ) → idOf (factsOf w) x ≡ useId (bytesOf w x)
-  unfolding idOf factsOf bytesOf
-  id-is x = List·getD-map useId (w .names) x []
+pub low-named : {s : State} (x v j : ℕ) → Low s → Low (bindName x v j s)
+low-named x v j h = record { cur = h .cur; all = cons (h .cur) (h .all) }
 
-  pub star-at : (x : ℕ) → eqb (suc x) (factsOf w .star) ≡ isStar (bytesOf w x)
-  unfolding factsOf bytesOf
-  star-at x = index-is (42 ∷ []) (w .names) d 42 [] refl x ∙ star-is _
+pub owns-named : {own : ℕ} {k : List Pair} {s : State} (x v j : ℕ) → Owns own k s → Owns own k (bindName x v j s)
+unfolding binds walk.lookup
+owns-named {own} {k} {s} x v j o =
+    let l = map plain (s .visible) ++ k in
+    record {
+      high = omega (arith, o .high);
+      same = λ y. rw (above-more own (pair x v ∷ []) l (o .high), eq-eqb (s .cur) (s .cur) refl, o .same y) (go (eqb y x) (walk.lookup y (above own l)));
+    }
+  where
+    go : (t : Bool) (o : Option ℕ) → (t && true || isSome o) ≡ isSome (cond t (some v) o)
+    go true o = unfold isSome in refl
+    go false o = refl
 
-  pub uses-is : (x : ℕ) (o : Option ℕ) → usesName (factsOf w) x o ≡ recordName w x o
-  unfolding usesName recordName kindIn kindOf factsOf
-  uses-is x none = rw (id-is x, star-at x)
-  uses-is x (some v) = rw (id-is x)
+module _ (k : List Pair) where
+  pub record Runs (σ : walk.State) (s t : State) : Type 0 where
+    pub same : σ ≡ codes k t
+    pub later : s .last ≤ t .last
+    pub visible : t .visible ≡ s .visible
+    pub cur : t .cur ≡ s .cur
 
-  name-opens : (x : ℕ) (o : Option ℕ) → opened (recordName w x o) ≡ 0
-  unfolding recordName logs
-  name-opens x none = cond-opens (isStar (bytesOf w x)) _
-  name-opens x (some v) = refl
+  pub record Binds (own : ℕ) (σ : walk.State) (s t : State) : Type 0 where
+    pub same : σ ≡ codes k t
+    pub later : s .last ≤ t .last
+    pub cur : t .cur ≡ s .cur
+    pub low : Low t
+    pub owns : Owns own k t
 
-  path-opens : (o : Option ℕ) (own : List Seen) (s : ℕ) → opened (pathLog w o own s) ≡ 0
-  unfolding pathLog logs
-  path-opens none own s = refl
-  path-opens (some v) own s = again-opens (w .warns) _ 0 0 _
+  pub low-kept : {σ : walk.State} {s t : State} → Runs σ s t → Low s → Low t
+  low-kept {s = s} {t = t} r h =
+      record { cur = omega (arith, r .cur, r .later, h .cur); all = subst (Below (t .last)) (sym (r .visible)) (wider (r .later) (h .all)) }
 
-  elem-opens : (k : ℕ) (o : Option ℕ) (own outer : List Seen) (s : ℕ) → opened (elemLog w k o own outer s) ≡ 0
-  unfolding elemLog logs
-  elem-opens k none own outer s = refl
-  elem-opens k (some v) own outer s = new-opens s _ v k _
+  pub owns-kept : {own : ℕ} {σ : walk.State} {s t : State} → Runs σ s t → Owns own k s → Owns own k t
+  owns-kept {own} {s = s} {t = t} r o =
+      record {
+        high = subst (λ vis. own ≤ length (map plain vis ++ k)) (sym (r .visible)) (o .high);
+        same = λ x. subst₂ (λ c vis. binds c x vis ≡ isSome (walk.lookup x (above own (map plain vis ++ k)))) (sym (r .cur)) (sym (r .visible)) (o .same x);
+      }
 
-  -- ---- the steps of a pattern, of which own stands on the stack above k
+  still : {own : ℕ} {s : State} → Low s → Owns own k s → Binds own (codes k s) s s
+  still h o = record { same = refl; later = le-refl _; cur = refl; low = h; owns = o }
 
-  path-is : (o : Option ℕ) (own k : List Seen) (σ : State) → bindPath (factsOf w) (length k) o (on (own ++ k) σ) ≡ on (pathOwn w o own ++ k) (say (pathLog w o own (σ .cur)) σ)
-  unfolding bindPath bindAnew see say pathOwn pathLog nameIn nameOf factsOf
-  path-is none own k σ = says-none (on (own ++ k) σ)
-  path-is (some v) own k σ = rw above-seam
+  pub then : {own : ℕ} {σ τ υ : walk.State} {s t u : State} → Binds own σ s t → υ ≡ τ → Binds own τ t u → Binds own υ s u
+  then p e q = record { same = e ∙ q .same; later = le-trans (p .later) (q .later); cur = q .cur ∙ p .cur; low = q .low; owns = q .owns }
 
-  elem-is : (k : ℕ) (o : Option ℕ) (own l : List Seen) (σ : State) → σ .base ≤ length l
-      → bindElem (factsOf w) k o (on (own ++ l) σ) ≡ on (elemOwn w o own (above (σ .base) l) ++ l) (say (elemLog w k o own (above (σ .base) l) (σ .cur)) σ)
-  unfolding bindElem say elemOwn elemLog nameIn nameOf factsOf visible
-  elem-is k none own l σ h = says-none (on (own ++ l) σ)
-  elem-is k (some v) own l σ h = rw (above-more (σ .base) own l h) (unless-is (lookup _ (own ++ above (σ .base) l)) _ v k own l σ)
+module _ {f : Facts} {w : World} (g : Knows f w) (k : List Pair) where
+  -- ---- uses
+
+  look-is : (x : ℕ) (s : State) → walk.lookup x (walk.visible (codes k s)) ≡ lookup x (s .visible)
+  unfolding walk.visible
+  look-is x s = ap (walk.lookup x) (above-seam (map plain (s .visible)) k) ∙ lookup-plain x (s .visible)
+
+  var-runs : (v : ℕ) (r : Option Row) (s : State) → Runs k (walk.say (recordVar v r) (codes k s)) s (useVar w v r s)
+  unfolding walk.say recordVar useVar inOrder
+  var-runs v none s = record { same = ap (tells (codes k s)) (append-nil (inOrder (s .log))); later = le-refl _; visible = refl; cur = refl }
+  var-runs v (some (row i x j a b)) s = record { same = refl; later = le-refl _; visible = refl; cur = refl }
+
+  lost-runs : (star : Bool) (a : Write) (e : Finding) (s : State)
+      → Runs k (walk.say (answer a ∷ cond star [] (find e ∷ [])) (codes k s)) s (sayIf (not star) (find e) (say (answer a) s))
+  unfolding walk.say sayIf inOrder
+  lost-runs true a e s = record { same = refl; later = le-refl _; visible = refl; cur = refl }
+  lost-runs false a e s =
+      record { same = ap (tells (codes k s)) (sym (append-assoc (inOrder (s .log)) (answer a ∷ []) (find e ∷ []))); later = le-refl _; visible = refl; cur = refl }
+
+  name-runs : (x : ℕ) (o : Option ℕ) (s : State) → Runs k (walk.say (usesName f x o) (codes k s)) s (useName w x o s)
+  unfolding walk.say usesName useName kindIn kindOf inOrder
+  name-runs x (some v) s = rw (g .id x, g .row v) (record { same = refl; later = le-refl _; visible = refl; cur = refl })
+  name-runs x none s = rw (g .id x, g .star x) (lost-runs (w .isStar x) _ _ s)
+
+  -- ---- steps of a pattern
+
+  pub named : (own x v j : ℕ) {s : State} → Low s → Owns own k s → Binds k own (walk.bindName x v j (codes k s)) s (bindName x v j s)
+  unfolding walk.bindName walk.say see inOrder
+  named own x v j h o = record { same = refl; later = le-refl _; cur = refl; low = low-named x v j h; owns = owns-named x v j o }
+
+  twice : (t : Bool) (o : Option ℕ) (own x v j a b : ℕ) {s : State} → Low s → Owns own k s
+      → Binds k own (see x v (walk.say (bind (bound (s .cur) x v j) ∷ again t x a b o) (codes k s))) s (sayIf (t && isSome o) (find (finding e1002 a b (suc x) 0 0)) (bindName x v j s))
+  unfolding walk.say see again sayIf isSome inOrder
+  twice true none own x v j a b h o = record { same = refl; later = le-refl _; cur = refl; low = low-named x v j h; owns = owns-named x v j o }
+  twice false none own x v j a b h o = record { same = refl; later = le-refl _; cur = refl; low = low-named x v j h; owns = owns-named x v j o }
+  twice false (some u) own x v j a b h o = record { same = refl; later = le-refl _; cur = refl; low = low-named x v j h; owns = owns-named x v j o }
+  twice true (some u) own x v j a b {s} h o =
+      let l = low-named x v j h in
+      let n = owns-named x v j o in
+      record {
+        same = ap (λ m. see x v (tells (codes k s) m)) (sym (append-assoc (inOrder (s .log)) (bind (bound (s .cur) x v j) ∷ []) (find (finding e1002 a b (suc x) 0 0) ∷ [])));
+        later = le-refl _;
+        cur = refl;
+        low = record { cur = l .cur; all = l .all };
+        owns = record { high = n .high; same = n .same };
+      }
+
+  pub anew : (own x v j a b : ℕ) {s : State} → Low s → Owns own k s → Binds k own (walk.bindAnew (f .warns) own x v j a b (codes k s)) s (bindAnew w a b x v j s)
+  unfolding walk.bindAnew bindAnew
+  anew own x v j a b {s} h o = rw (g .warns, o .same x) (twice (w .warns) (walk.lookup x (above own (map plain (s .visible) ++ k))) own x v j a b h o)
+
+  path : (own : ℕ) (o : Option ℕ) {s : State} → Low s → Owns own k s → Binds k own (walk.bindPath f own o (codes k s)) s (bindPath w o s)
+  unfolding walk.bindPath bindPath nameIn nameOf
+  path own none h o = still k h o
+  path own (some v) h o = rw (g .row v) (anew own _ v pathKind 0 0 h o)
+
+  unless : (q : Option ℕ) (own x v j : ℕ) {s : State} → Low s → Owns own k s → Binds k own (bindUnless q x v j (codes k s)) s (bindNew w q x v j s)
+  unfolding bindUnless bindNew
+  unless none own x v j h o = named own x v j h o
+  unless (some u) own x v j h o = still k h o
+
+  element : (own j : ℕ) (o : Option ℕ) {s : State} → Low s → Owns own k s → Binds k own (walk.bindElem f j o (codes k s)) s (bindElem w j o s)
+  unfolding walk.bindElem bindElem nameIn nameOf
+  element own j none h o = still k h o
+  element own j (some v) {s} h o = rw (g .row v, look-is (nameOf w v) s) (unless (lookup (nameOf w v) (s .visible)) own (nameOf w v) v j h o)
 
   -- ---- expressions and patterns
 
-  -- expressions run as they say, and so they do under names of a pattern
-  abbrev Runs : Exprs → Type 0
-  Runs es = (σ : State) → σ .base ≤ length (σ .stack) → runEs (factsOf w) es σ ≡ goes (resolves w es (visible σ) (σ .cur) (σ .last)) σ
-
-  onto : (es : Exprs) → Runs es → (own k : List Seen) (σ : State) → σ .base ≤ length k
-      → runEs (factsOf w) es (on (own ++ k) σ) ≡ on (own ++ k) (goes (resolves w es (own ++ above (σ .base) k) (σ .cur) (σ .last)) σ)
-  unfolding visible
-  onto es r own k σ h =
-      r (on (own ++ k) σ) (simp length-append (omega arith))
-      ∙ ap (λ vis. on (own ++ k) (goes (resolves w es vis (σ .cur) (σ .last)) σ)) (above-more (σ .base) own k h)
-
   mutual
-    unfolding runE resolve usesVar factsOf owned visible say enter settle within
+    unfolding runE resolve usesVar walk.enter settle within inOrder
 
-    pub run-expr : (e : Expr) (σ : State) → σ .base ≤ length (σ .stack) → runE (factsOf w) e σ ≡ goes (resolve w e (visible σ) (σ .cur) (σ .last)) σ
-    run-expr (var v) σ h = says σ _ (var-opens v (rowOf v (w .table)))
-    run-expr (unresolved x) σ h = rw (uses-is x) (says σ _ (name-opens x (lookup x (visible σ))))
-    run-expr (node f es) σ h = run-exprs es σ h
-    run-expr (predicate s) σ h = goes-none σ
-    run-expr (comprehension a b s es) σ h =
-        let τ = enter comprehensionScope a b σ in
-        let own = owned w s [] (visible σ) in
-        let l = bindPattern w s [] (visible σ) (suc (σ .last)) (suc (σ .last)) in
-        let m = resolves w es (own ++ visible σ) (suc (σ .last)) (suc (σ .last) + opened l) in
-        ap (λ τ. within (σ .cur) (settle (length (σ .stack)) τ))
-        (ap (runEs (factsOf w) es) (run-onto s [] (σ .stack) τ h)
-        ∙ (onto es (λ τ h. run-exprs es τ h) own (σ .stack) (goes l τ) h ∙ ap (on (own ++ σ .stack)) (goes-on τ l m ∙ goes-in σ comprehensionScope a b (l ++ m))))
-        ∙ ap (λ k. on k (goes (open' (scope comprehensionScope (some (σ .cur)) a b) ∷ l ++ m) σ)) (below-seam own (σ .stack))
+    pub run-expr : (e : Expr) (s : State) → Low s → Runs k (runE f e (codes k s)) s (resolve w e s)
+    run-expr (var v) s h = rw (g .row v) (var-runs v (w .row v) s)
+    run-expr (unresolved x) s h = rw (look-is x s) (name-runs x (lookup x (s .visible)) s)
+    run-expr (node j es) s h = run-exprs es s h
+    run-expr (predicate p) s h = record { same = refl; later = le-refl _; visible = refl; cur = refl }
+    run-expr (comprehension a b p es) s h =
+        let l = map plain (s .visible) ++ k in
+        let t = bindPattern w p (enter comprehensionScope a b s) in
+        let u = resolves w es t in
+        let q = run-steps (length l) p (enter comprehensionScope a b s) (low-in comprehensionScope a b h) (owns-in k comprehensionScope a b h) in
+        let r = run-exprs es t (q .low) in
+        let e = ap (runEs f es) (q .same) ∙ r .same in
+        let i : below (length l) (map plain (u .visible) ++ k) ≡ l = ap (λ σ. below (length l) (σ .stack)) (sym e) ∙ expr-keeps f (comprehension a b p es) (codes k s) .stack in
+        record {
+          same = ap (λ σ. within (s .cur) (settle (length l) σ)) e ∙ ap (λ m. at m (length k) (leave s u)) i;
+          later = omega (arith, q .later, r .later);
+          visible = refl;
+          cur = refl;
+        }
 
-    pub run-exprs : (es : Exprs) (σ : State) → σ .base ≤ length (σ .stack) → runEs (factsOf w) es σ ≡ goes (resolves w es (visible σ) (σ .cur) (σ .last)) σ
-    run-exprs done σ h = goes-none σ
-    run-exprs (more e es) σ h = ap (runEs (factsOf w) es) (run-expr e σ h) ∙ (run-exprs es (goes _ σ) h ∙ goes-on σ _ _)
-    run-exprs (mark m es) σ h = run-exprs es σ h
+    pub run-exprs : (es : Exprs) (s : State) → Low s → Runs k (runEs f es (codes k s)) s (resolves w es s)
+    run-exprs done s h = record { same = refl; later = le-refl _; visible = refl; cur = refl }
+    run-exprs (more e es) s h =
+        let p = run-expr e s h in
+        let q = run-exprs es (resolve w e s) (low-kept k p h) in
+        record { same = ap (runEs f es) (p .same) ∙ q .same; later = le-trans (p .later) (q .later); visible = q .visible ∙ p .visible; cur = q .cur ∙ p .cur }
+    run-exprs (mark m es) s h = run-exprs es s h
 
-    pub run-onto : (s : Steps) (own k : List Seen) (σ : State) → σ .base ≤ length k
-        → runS (factsOf w) (length k) s (on (own ++ k) σ)
-        ≡ on (owned w s own (above (σ .base) k) ++ k) (goes (bindPattern w s own (above (σ .base) k) (σ .cur) (σ .last)) σ)
-    run-onto end own k σ h = ap (on (own ++ k)) (goes-none σ)
-    run-onto (part p s) own k σ h =
-        ap (runS (factsOf w) (length k) s) (path-is (variable p) own k σ)
-        ∙ (run-onto s (pathOwn w (variable p) own) k (say _ σ) h ∙ ap (on _) (goes-said σ _ _ (path-opens (variable p) own (σ .cur))))
-    run-onto (elem n a b v es s) own k σ h =
-        let outer = above (σ .base) k in
-        let o = elemOwn w (variable v) own outer in
-        let l = elemLog w n (variable v) own outer (σ .cur) in
-        let m = resolves w es (o ++ outer) (σ .cur) (σ .last) in
-        ap (λ τ. runS (factsOf w) (length k) s (runEs (factsOf w) es τ)) (elem-is n (variable v) own k σ h)
-        ∙ (ap (runS (factsOf w) (length k) s) (onto es (λ τ h. run-exprs es τ h) o k (say l σ) h)
-        ∙ (run-onto s o k (goes m (say l σ)) h
-        ∙ ap (on _) (goes-on (say l σ) m _ ∙ goes-said σ l _ (elem-opens n (variable v) own outer (σ .cur)))))
-
-  -- a pattern whose scope's own names stand from the entry `own` up, and one that begins
-  pub run-steps : (s : Steps) (own : ℕ) (σ : State) → σ .base ≤ own → own ≤ length (σ .stack)
-      → runS (factsOf w) own s σ
-      ≡ on (owned w s (above own (σ .stack)) (above (σ .base) (below own (σ .stack))) ++ below own (σ .stack))
-      (goes (bindPattern w s (above own (σ .stack)) (above (σ .base) (below own (σ .stack))) (σ .cur) (σ .last)) σ)
-  run-steps s own σ h i =
-      let n = length-below own (σ .stack) i in
-      ap₂ (λ n k. runS (factsOf w) n s (on k σ)) (sym n) (sym (above-below own (σ .stack)))
-      ∙ run-onto s (above own (σ .stack)) (below own (σ .stack)) σ (omega arith)
-
-  pub run-pattern : (s : Steps) (σ : State) → σ .base ≤ length (σ .stack)
-      → runPattern (factsOf w) s σ ≡ on (owned w s [] (visible σ) ++ σ .stack) (goes (bindPattern w s [] (visible σ) (σ .cur) (σ .last)) σ)
-  unfolding runPattern visible
-  run-pattern s σ h = run-onto s [] (σ .stack) σ h
+    pub run-steps : (own : ℕ) (p : Steps) (s : State) → Low s → Owns own k s → Binds k own (runS f own p (codes k s)) s (bindPattern w p s)
+    run-steps own end s h o = still k h o
+    run-steps own (part v r) s h o =
+        let p = path own (variable v) h o in
+        then k p (ap (runS f own r) (p .same)) (run-steps own r (bindPath w (variable v) s) (p .low) (p .owns))
+    run-steps own (elem j a b v es r) s h o =
+        let p = element own j (variable v) h o in
+        let t = bindElem w j (variable v) s in
+        let m = run-exprs es t (p .low) in
+        let n : Binds k own (runEs f es (codes k t)) t (resolves w es t) = record { same = m .same; later = m .later; cur = m .cur; low = low-kept k m (p .low); owns = owns-kept k m (p .owns) } in
+        then k p (ap (λ σ. runS f own r (runEs f es σ)) (p .same)) (then k n (ap (runS f own r) (n .same)) (run-steps own r (resolves w es t) (n .low) (n .owns)))

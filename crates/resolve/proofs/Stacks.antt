@@ -6,7 +6,6 @@ use mathlib.Core.Path.{_≡_, refl, ap, _∙_}
 use mathlib.Core.List.{List}
 use mathlib.Core.Option.{Option, none, some}
 use lib.ListN.{length, drop}
-use Rattle.resolve.specs.Resolve.{Seen}
 use Rattle.resolve.specs.Walk.{Facts, State, seenAt, seens, below, nameIn, bindPath, bindElem}
 use Rattle.resolve.proofs.Decode.{length-seens}
 

@@ -11,7 +11,7 @@ use lib.ListN.{getD}
 use lib.Seq.{drop-drop, getD-drop}
 use Rattle.scope.specs.Flat.{entriesOf}
 use Rattle.tables.specs.Row.{Row, row, valueKind}
-use Rattle.resolve.specs.Resolve.{rowOf}
+use Rattle.semantics.specs.World.{rowOf}
 use Rattle.resolve.specs.Table.{tableAt, wellRows, BoundAt}
 use Rattle.resolve.specs.declared.rows.Bound.the-variants as bound
 

@@ -9,8 +9,8 @@ use Rattle.heads.specs.Got.{Got, ok, no, bind, bare, isOk}
 use Rattle.expr.proofs.Inverse.{never}
 use Rattle.expr.proofs.Accepted.{inverse}
 use Rattle.expr.proofs.Repeats.{Repeats, more-of, none-of, first-of, rest-of}
-use Rattle.resolve.specs.Resolve.{Seen}
-use Rattle.resolve.specs.Log.{Event}
+use Rattle.semantics.specs.Log.{Event}
+use Rattle.semantics.specs.Resolve.{Pair}
 use Rattle.resolve.specs.Walk.{State, say, settle, within, after, events, stateOf, Room, Said, Moves, Stays, Skipped, Ready, Walks, Resolved}
 use Rattle.resolve.specs.declared.Env.{Env}
 use Rattle.resolve.specs.declared.Walk.{Walk}
@@ -186,7 +186,7 @@ settled {vis' = vis'} {log' = log'} {w = w} {b = b} v h =
         cur = v .moves .cur;
         seen = v .moves .seen;
         wrote = v .moves .wrote;
-        state = ap (λ (l : List Seen). record { stack = l; log = events (b .events) log'; last = b .last; base = b .base; cur = b .cur }) (sym (below-seens (w .top) (b .top) vis' h)) ∙ ap (settle (w .top)) (v .moves .state);
+        state = ap (λ (l : List Pair). record { stack = l; log = events (b .events) log'; last = b .last; base = b .base; cur = b .cur }) (sym (below-seens (w .top) (b .top) vis' h)) ∙ ap (settle (w .top)) (v .moves .state);
       };
     }
 

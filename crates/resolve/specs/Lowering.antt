@@ -1,4 +1,4 @@
--- The resolve walk over clauses and arms as steps of a state (document 01, "Walking clauses (000)"), as the code takes them.
+-- The resolve walk over clauses and arms (document 01, "Walking clauses (000)") in the steps that the code takes.
 use Prim.Native.Nat.{ℕ, suc}
 use mathlib.Core.List.{List, [], _∷_, _++_, map, reverse}
 use mathlib.Core.Option.{Option, none, some}
@@ -7,16 +7,17 @@ use Rattle.scope.specs.Graph.{rootScope, unwindScope, callScope, withBarrier, r
 use Rattle.expr.specs.Tree.{Steps}
 use Rattle.clauses.specs.Tree.{Projection, projection, Yield, yield, Clause, opening, reading, with', return, unwind, call, Arm, arm}
 use Rattle.tables.specs.Row.{valueKind, Row}
-use Rattle.resolve.specs.Log.{bound, Event, open', bind, carry}
-use Rattle.resolve.specs.Resolve.{World, Seen, seen, lookup, rowOf, rowKind, opens, Direct, aVar, aName, other, direct, ifSome, ifRow, yieldName}
-use Rattle.resolve.specs.Walk.{Facts, State, above, below, say, see, enter, settle, within, bindName, bindAnew, nameIn, runE, runEs, runPattern}
+use Rattle.semantics.specs.Log.{bound, Event, open', bind, carry}
+use Rattle.semantics.specs.World.{rowOf, rowKind, opens, Direct, aVar, aName, other, direct, yieldName}
+use Rattle.semantics.specs.Resolve.{Pair, pair, ifSome, ifRow}
+use Rattle.resolve.specs.Walk.{Facts, State, above, below, say, see, enter, settle, within, bindName, bindAnew, nameIn, runE, runEs, runPattern, lookup}
 use Rattle.resolve.specs.declared.Turn.{Turn}
 use Rattle.resolve.specs.declared.Turn.the-variants as turn
 
 -- a carried name at the current scope, the barrier, and on the stack
-unfoldable pub carryPairs : List Seen → State → State
+unfoldable pub carryPairs : List Pair → State → State
 carryPairs [] σ = σ
-carryPairs (seen x v ∷ l) σ = carryPairs l (see x v (say (carry (carried (σ .cur) x v) ∷ []) σ))
+carryPairs (pair x v ∷ l) σ = carryPairs l (see x v (say (carry (carried (σ .cur) x v) ∷ []) σ))
 
 -- the visible names begin at an entry of the stack; and nothing is visible, in scope 0
 unfoldable pub rebase : ℕ → State → State
@@ -25,23 +26,18 @@ rebase n σ = record { stack = σ .stack; log = σ .log; last = σ .last; base =
 unfoldable pub afresh : State → State
 afresh σ = record { stack = []; log = σ .log; last = σ .last; base = 0; cur = 0 }
 
--- a yield's alias, or its name if it has none
-unfoldable pub yielded : ℕ → Option ℕ → ℕ
-yielded x none = x
-yielded x (some y) = y
-
 -- "Carried: an aliased Var under its alias; an unaliased Var with a binding under its name; an unaliased Unresolved that is found"
-unfoldable pub carriesBy : List Row → Option ℕ → Direct → List Seen → List Seen
-carriesBy t (some x) (aVar v) vis = seen x v ∷ []
+unfoldable pub carriesBy : List Row → Option ℕ → Direct → List Pair → List Pair
+carriesBy t (some x) (aVar v) vis = pair x v ∷ []
 carriesBy t (some x) (aName y) vis = []
 carriesBy t (some x) other vis = []
 carriesBy t none (aVar v) vis = ifRow (rowOf v t) v
-carriesBy t none (aName x) vis = ifSome (lookup x vis) (seen x)
+carriesBy t none (aName x) vis = ifSome (lookup x vis) x
 carriesBy t none other vis = []
 
 -- an entry bound in a scope with the table's kind
-unfoldable pub bindSeen : List Row → ℕ → Seen → Event
-bindSeen t s (seen x v) = bind (bound s x v (rowKind (rowOf v t)))
+unfoldable pub bindPair : List Row → ℕ → Pair → Event
+bindPair t s (pair x v) = bind (bound s x v (rowKind (rowOf v t)))
 
 module _ (f : Facts) where
   -- projections: their expressions
@@ -62,7 +58,7 @@ module _ (f : Facts) where
 
   -- the entries from the mark up, bound in the current scope in the order in which they came
   unfoldable pub bindFrom : ℕ → State → State
-  bindFrom n σ = say (map (bindSeen (f .table) (σ .cur)) (reverse (above n (σ .stack)))) σ
+  bindFrom n σ = say (map (bindPair (f .table) (σ .cur)) (reverse (above n (σ .stack)))) σ
 
   -- the barrier, and the new Root
   unfoldable pub runCarried : ℕ → ℕ → List Projection → State → State
@@ -72,7 +68,7 @@ module _ (f : Facts) where
 
   -- yields, in a scope whose own names stand from the entry `own` up
   unfoldable pub runY : ℕ → ℕ → ℕ → Yield → State → State
-  runY own a b (yield x y v) σ = bindAnew (f .warns) own (yielded x y) v valueKind a b σ
+  runY own a b (yield x y v) σ = bindAnew (f .warns) own (yieldName x y) v valueKind a b σ
 
   unfoldable pub runYs : ℕ → ℕ → ℕ → List Yield → State → State
   runYs own a b [] σ = σ
@@ -111,7 +107,7 @@ rooted a b = record { stack = []; log = open' (scope rootScope none a b) ∷ [];
 
 -- `unfolding lowering` opens all of the above
 unfoldable pub lowering : Unit {0}
-unfolding carryPairs rebase afresh yielded runP runPs carriesBy carryP carryPs bindSeen bindFrom runCarried runY runYs runOpening runReturn runC runCs runA runAs rooted
+unfolding carryPairs rebase afresh runP runPs carriesBy carryP carryPs bindPair bindFrom runCarried runY runYs runOpening runReturn runC runCs runA runAs rooted
 lowering = tt
 
 -- what a head asks, as a form that WITH may carry

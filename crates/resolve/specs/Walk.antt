@@ -1,5 +1,5 @@
--- What the code of the resolve walk works on and leaves: the walk of `Resolve` as steps of a state, and how that state stands in two lists
--- of words, the log and the stack of names.
+-- What the code of the resolve walk works on and leaves: the walk of `semantics` over a stack of names, and how that stack and the log
+-- stand in two lists of words. That it leaves the log of `semantics` is proofs/Lowered.
 use Prim.Native.Nat.{ℕ, zero, suc, _+_, _-_, _*_, _≤_}
 use mathlib.Core.Path.{_≡_}
 use mathlib.Core.Bool.{Bool, true, false, cond}
@@ -18,10 +18,12 @@ use Rattle.heads.specs.declared.Form.{Form}
 use Rattle.heads.specs.declared.Form.the-variants.{Leaf, Var, Unresolved, Prop, Two, Slice, Many, BinOp, UnaryOp, Case, IsNull, PatternPredicate, ListComprehension, PatternComprehension, ListPredicate, MapProjection}
 use Rattle.expr.specs.Tree.{Expr, var, unresolved, node, predicate, comprehension, Exprs, done, more, mark, Steps, end, part, elem}
 use Rattle.expr.specs.Read.{Reader, noMore, times, pattern, readExpr}
-use Rattle.tables.specs.Row.{pathKind, Row}
+use Rattle.tables.specs.Row.{pathKind, Row, row}
 use Rattle.tables.specs.Index.{indexOf}
-use Rattle.resolve.specs.Log.{e1001, finding, Answer, found, missing, bound, write, Event, open', bind as bind', carry, answer, find}
-use Rattle.resolve.specs.Resolve.{World, Seen, seen, lookup, rowOf, rowName, rowKind, variable, again, recordVar}
+use Rattle.sheet.specs.Statement.{Statement}
+use Rattle.semantics.specs.Log.{e1001, e1002, finding, Answer, found, missing, bound, write, Event, open', bind as bind', carry, answer, find}
+use Rattle.semantics.specs.World.{rowOf, rowName, rowKind, variable}
+use Rattle.semantics.specs.Resolve.{Pair, pair}
 use Rattle.resolve.specs.Table.{tableAt, wellRows}
 use Rattle.resolve.specs.declared.Env.{Env}
 use Rattle.resolve.specs.declared.Trail.{Trail}
@@ -36,27 +38,42 @@ pub record Facts : Type 0 where
   pub table : List Row
   pub warns : Bool
 
--- of a world, and of a section's words with the use ids of its names
-unfoldable pub factsOf : World → Facts
-factsOf w = record { ids = map useId (w .names); star = indexOf (42 ∷ []) (w .names); table = w .table; warns = w .warns }
+-- of a statement, and of a section's words with the use ids of its names
+unfoldable pub factsOf : Bool → Statement → Facts
+factsOf warns s = record { ids = map useId (s .names); star = indexOf (42 ∷ []) (s .names); table = s .bindings; warns = warns }
 
 abbrev pub factsAt : List ℕ → Env → List ℕ → Facts
 factsAt ws e ids = record { ids = take (e .names) ids; star = e .star; table = tableAt ws (e .rows) (e .bindings); warns = e .warns }
 
+-- the variable of the newest entry with a name
+unfoldable pub lookup : ℕ → List Pair → Option ℕ
+lookup x [] = none
+lookup x (pair y v ∷ l) = cond (eqb x y) (some v) (lookup x l)
+
+-- E1002 with warnings on, where a name was found; and a variable that has a row is recorded
+unfoldable pub again : Bool → ℕ → ℕ → ℕ → Option ℕ → List Event
+again w x a b none = []
+again true x a b (some v) = find (finding e1002 a b (suc x) 0 0) ∷ []
+again false x a b (some v) = []
+
+unfoldable pub recordVar : ℕ → Option Row → List Event
+recordVar v none = []
+recordVar v (some (row i x k a b)) = answer (write v (found v k 0)) ∷ []
+
 -- Where a walk stands: the names bound so far, newest first, those from the entry `base` up being visible; the log; the last scope's
 -- number; the current scope.
 pub record State : Type 0 where
-  pub stack : List Seen
+  pub stack : List Pair
   pub log : List Event
   pub last : ℕ
   pub base : ℕ
   pub cur : ℕ
 
 -- the entries from the number n up, and those below it
-unfoldable pub above : ℕ → List Seen → List Seen
+unfoldable pub above : ℕ → List Pair → List Pair
 above n l = take (length l - n) l
 
-unfoldable pub below : ℕ → List Seen → List Seen
+unfoldable pub below : ℕ → List Pair → List Pair
 below n l = drop (length l - n) l
 
 -- events are said; a name is seen; a scope of the kind is opened under the current one, which it becomes
@@ -64,7 +81,7 @@ unfoldable pub say : List Event → State → State
 say l σ = record { stack = σ .stack; log = σ .log ++ l; last = σ .last; base = σ .base; cur = σ .cur }
 
 unfoldable pub see : ℕ → ℕ → State → State
-see x v σ = record { stack = seen x v ∷ σ .stack; log = σ .log; last = σ .last; base = σ .base; cur = σ .cur }
+see x v σ = record { stack = pair x v ∷ σ .stack; log = σ .log; last = σ .last; base = σ .base; cur = σ .cur }
 
 unfoldable pub enter : ℕ → ℕ → ℕ → State → State
 enter k a b σ =
@@ -84,7 +101,7 @@ unfoldable pub within : ℕ → State → State
 within c σ = record { stack = σ .stack; log = σ .log; last = σ .last; base = σ .base; cur = c }
 
 -- what is visible
-unfoldable pub visible : State → List Seen
+unfoldable pub visible : State → List Pair
 visible σ = above (σ .base) (σ .stack)
 
 -- a name is bound in the current scope; anew, with E1002 where it stands from the entry `own` up; only if it was not found
@@ -188,10 +205,10 @@ turnOf (ListPredicate g) = turn.Parts
 turnOf (MapProjection n) = turn.Parts
 
 -- The state in words. An entry of the stack is two words, name and variable; an event is five.
-abbrev pub seenAt : List ℕ → ℕ → Seen
-seenAt vis k = seen (getD vis (k * 2) 0) (getD vis (k * 2 + 1) 0)
+abbrev pub seenAt : List ℕ → ℕ → Pair
+seenAt vis k = pair (getD vis (k * 2) 0) (getD vis (k * 2 + 1) 0)
 
-unfoldable pub seens : ℕ → List ℕ → List Seen
+unfoldable pub seens : ℕ → List ℕ → List Pair
 seens zero vis = []
 seens (suc k) vis = seenAt vis k ∷ seens k vis
 
@@ -239,13 +256,13 @@ pub record Said (old new : List ℕ) (n : ℕ) (l : List Event) (r : ℕ) : Type
   pub same : events r new ≡ events n old ++ l
   pub kept : length new ≡ length old
 
--- a name was seen on top of the stack
+-- a name was pair on top of the stack
 pub record Saw (old new : List ℕ) (n x v r : ℕ) : Type 0 where
   pub height : r ≡ suc n
-  pub same : seens r new ≡ seen x v ∷ seens n old
+  pub same : seens r new ≡ pair x v ∷ seens n old
   pub kept : length new ≡ length old
 
--- From w the walk came to r and to the state σ; each name seen and each scope opened has an event.
+-- From w the walk came to r and to the state σ; each name pair and each scope opened has an event.
 pub record Moves (vis log vis' log' : List ℕ) (w r : Walk) (σ : State) : Type 0 where
   pub events : w .events ≤ r .events
   pub top : r .top + w .events ≤ w .top + r .events

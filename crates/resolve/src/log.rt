@@ -5,8 +5,8 @@ ghost use mathlib.Core.Path.{_≡_};
 ghost use mathlib.Core.List.{[], _∷_};
 ghost use Prim.Native.Nat.{ℕ, _+_, _*_, _<_, _≤_};
 ghost use lib.ListN.{length};
-ghost use Rattle.resolve.specs.Resolve.{lookup, variable};
-ghost use Rattle.resolve.specs.Walk.{above, seens, eventOf, Said, Saw, Entered};
+ghost use Rattle.semantics.specs.World.{variable};
+ghost use Rattle.resolve.specs.Walk.{above, seens, eventOf, Said, Saw, Entered, lookup};
 
 // The tags of events.
 pub const OPEN: u32 = 1;

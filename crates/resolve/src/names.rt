@@ -16,9 +16,9 @@ ghost use mathlib.Core.List.{[], _∷_};
 ghost use Prim.Native.Nat.{ℕ, _+_, _*_, _<_, _≤_};
 ghost use lib.ListN.{length};
 ghost use Rattle.words.specs.Words.{words};
-ghost use Rattle.resolve.specs.Resolve.{lookup, rowOf, rowName, rowKind, variable, again, recordVar};
+ghost use Rattle.semantics.specs.World.{rowOf, rowName, rowKind, variable};
 ghost use Rattle.resolve.specs.Table.{tableAt, wellRows, BoundAt};
-ghost use Rattle.resolve.specs.Walk.{factsAt, above, seens, stateOf, usesName, bindName, bindAnew, bindPath, bindElem, Tabled, Room, Said, Stays};
+ghost use Rattle.resolve.specs.Walk.{factsAt, above, seens, stateOf, usesName, bindName, bindAnew, bindPath, bindElem, Tabled, Room, Said, Stays, lookup, again, recordVar};
 
 // A variable's row.
 fn row_of(s: &[u8], e: Env, v: u32) -> Bound

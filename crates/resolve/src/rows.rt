@@ -5,7 +5,7 @@ ghost use mathlib.Core.Bool.{true};
 ghost use Prim.Native.Nat.{_+_, _*_, _≤_};
 ghost use lib.ListN.{length};
 ghost use Rattle.words.specs.Words.{words};
-ghost use Rattle.resolve.specs.Resolve.{rowOf};
+ghost use Rattle.semantics.specs.World.{rowOf};
 ghost use Rattle.resolve.specs.Table.{tableAt, wellRows, BoundAt};
 
 // A variable's binding: its name + 1 and its kind.

@@ -4,6 +4,7 @@ mod sections;
 mod trailer;
 
 pub use names::Found;
+pub use names::are_names;
 pub use names::check_name;
 pub use names::find_name;
 pub use names::name_text;

@@ -1,11 +1,12 @@
 -- How both walks' state stands in the lent words, and what a step of the code does to it.
 use Prim.Native.Nat.{ℕ, zero, suc, _+_, _-_, _*_, _/_, _%_, _<_, _≤_}
 use mathlib.Core.Path.{_≡_}
-use mathlib.Core.Bool.{Bool, true, false, cond, _&&_}
+use mathlib.Core.Bool.{Bool, true, false, cond, not, _&&_}
 use mathlib.Core.List.{List, [], _∷_}
 use mathlib.Core.Option.{Option, none, some}
 use lib.Dec.{eqb}
 use lib.ListN.{length, getD, set}
+use Rattle.scope.specs.Graph.{comprehensionScope}
 use Rattle.heads.specs.declared.Maybe.{Maybe}
 use Rattle.heads.specs.declared.Form.{Form}
 use Rattle.heads.specs.declared.Form.the-variants.{Leaf, Var, Unresolved, Prop, Two, Slice, Many, BinOp, UnaryOp, Case, IsNull, PatternPredicate, ListComprehension, PatternComprehension, ListPredicate, MapProjection}
@@ -14,12 +15,14 @@ use Rattle.tables.specs.Row.{pathKind, Row, row}
 use Rattle.semantics.specs.Log.{Finding, finding, missing, write, answer}
 use Rattle.semantics.specs.Log.{found as found-as}
 use Rattle.semantics.specs.World.{World, variable, kindOf}
-use Rattle.semantics.specs.Resolve.{State, say, bindPath}
-use Rattle.semantics.specs.Kinds.{Pair, both, atRow, misplaced, rowFor}
-use Rattle.fused.specs.Fused.{Both, Mode, told, step, noting}
+use Rattle.semantics.specs.Resolve.{State, say, enter, useVar, bindPath}
+use Rattle.semantics.specs.Kinds.{Setting, Pair, both, patternType, typeOf, atType, atRow, misplaced, rowFor}
+use Rattle.fused.specs.Fused.{Both, Mode, when, told, step, same, noting, nameUse}
 use Rattle.rows.specs.Rows.{idAt, Hung}
 use Rattle.visible.specs.Visible.{seens, Descends, Tabled}
 use Rattle.steps.specs.Memory.{atOf, topOf, curOf, lastOf, saidOf, toldOf, lostOf, heldOf, levelOf, namesIn, slotsIn, starIn, identIn, rowsIn, bindingsIn, multIn, shiftIn, wantsIn, chainsIn, settingOf, events, findings, eventOf, kept}
+use Rattle.steps.specs.declared.head.Act.{Act}
+use Rattle.steps.specs.declared.head.Act.the-variants.{Shows, Uses, Names, Opens}
 use Rattle.steps.specs.declared.row.Row.{Row as Row'}
 use Rattle.steps.specs.declared.row.Row.the-variants as row'
 
@@ -34,23 +37,23 @@ pub record Fine (ws tab : List ℕ) : Type 0 where
   pub kinded : (j : ℕ) → j < bindingsIn tab → getD ws (rowsIn tab + j * 5 + 2) 0 ≤ 4
   pub hung : Hung (multIn tab) (shiftIn tab) (bindingsIn tab) (idAt ws (rowsIn tab)) (chainsIn tab)
 
--- where every event is wanted, each word pays for a third of one more: WITH says a carried pair twice again after its three words
-abbrev pub bonus : List ℕ → ℕ → ℕ
-bonus tab n = cond (wantsIn tab) n 0
-
--- What is always so. k words were read that nothing was done for yet: whatever is said, opened or bound is paid for by words that were read,
--- so there is room for it.
-pub record Fit (k : ℕ) (ws tab m vis found : List ℕ) : Type 0 where
+-- What is always so. Whatever is said, opened or bound is paid for by words that were read, so there is room for it: e words were read that
+-- nothing was said for yet, and t that nothing was opened or bound for.
+pub record Fits (e t : ℕ) (ws tab m vis found : List ℕ) : Type 0 where
   pub size : length m ≡ 64
   pub tabled : Tabled (slotsIn tab) (topOf m) vis
   pub descends : Descends (curOf m) (seens (slotsIn tab) (topOf m) vis)
   pub cur : curOf m ≤ lastOf m
-  pub last : lastOf m + k ≤ atOf m
-  pub count : (saidOf m + toldOf m + k) * 3 ≤ atOf m * 3 + bonus tab (atOf m)
-  pub stack : slotsIn tab + topOf m * 3 + k ≤ atOf m + 1
+  pub last : lastOf m + t ≤ atOf m
+  pub count : saidOf m + toldOf m + e ≤ atOf m + 1
+  pub stack : slotsIn tab + topOf m * 3 + t ≤ atOf m + 1
   pub within : atOf m ≤ length ws
   pub names : 4 * (length ws + 2) ≤ 3 * length vis
-  pub room : length ws * 6 + bonus tab (length ws) * 2 ≤ length found
+  pub room : (length ws + 1) * 6 ≤ length found
+
+-- k words were read that nothing was done for yet
+abbrev pub Fit : ℕ → (ws tab m vis found : List ℕ) → Type 0
+Fit k = Fits k k
 
 -- the words hold the state
 pub record Holds (id : ℕ → ℕ) (tab m vis found : List ℕ) (s : Both) : Type 0 where
@@ -69,15 +72,20 @@ pub record Frame (room : ℕ) (tab m vis m' vis' : List ℕ) : Type 0 where
   pub held : heldOf m' ≡ heldOf m
   pub levels : (d : ℕ) → room < d → levelOf m' d ≡ levelOf m d
 
--- A step of the state, at the same word, for which j words pay. It may go by the use ids of names, which the words don't hold.
-pub record Steps (j : ℕ) (ws tab m vis found m' vis' found' : List ℕ) (F : (ℕ → ℕ) → Both → Both) : Type 0 where
+-- A step of the state, at the same word: e words pay for what it says, t words for what it opens or binds. It may go by the use ids of names,
+-- which the words don't hold.
+pub record Costs (e t : ℕ) (ws tab m vis found m' vis' found' : List ℕ) (F : (ℕ → ℕ) → Both → Both) : Type 0 where
   pub at : atOf m' ≡ atOf m
   pub sized : length m' ≡ length m
   pub seen : length vis' ≡ length vis
   pub wrote : length found' ≡ length found
-  pub fit : (k : ℕ) → Fit (j + k) ws tab m vis found → Fit k ws tab m' vis' found'
+  pub fit : (i k : ℕ) → Fits (e + i) (t + k) ws tab m vis found → Fits i k ws tab m' vis' found'
   pub frame : Frame 0 tab m vis m' vis'
   pub goes : (id : ℕ → ℕ) (s : Both) → Holds id tab m vis found s → Holds id tab m' vis' found' (F id s)
+
+-- a step for which j words pay
+abbrev pub Steps : ℕ → (ws tab m vis found m' vis' found' : List ℕ) → ((ℕ → ℕ) → Both → Both) → Type 0
+Steps j = Costs j j
 
 -- What a step asks.
 pub record Ready (j : ℕ) (ws tab m vis found : List ℕ) : Type 0 where
@@ -115,10 +123,32 @@ pub record Tells (code a b c d e : ℕ) (m found m' found' : List ℕ) : Type 0 
   pub findings : findings (suc (toldOf m)) found' ≡ finding code a b c d e ∷ findings (toldOf m) found
   pub events : (id : ℕ → ℕ) → events id (saidOf m) found' ≡ events id (saidOf m) found
 
+-- the same where a test holds, and else nothing
+pub record SaysIf (t : Bool) (tag a b c d e : ℕ) (m found m' found' : List ℕ) : Type 0 where
+  pub yes : t ≡ true → Says tag a b c d e m found m' found'
+  pub no : t ≡ false → (m' ≡ m) × (found' ≡ found)
+
+pub record TellsIf (t : Bool) (code a b c d e : ℕ) (m found m' found' : List ℕ) : Type 0 where
+  pub yes : t ≡ true → Tells code a b c d e m found m' found'
+  pub no : t ≡ false → (m' ≡ m) × (found' ≡ found)
+
 -- a row as the code tells it: name and kind
 abbrev pub shown : Option Row → Row'
 shown none = row'.No
 shown (some (row i x k a b)) = row'.Is x k
+
+abbrev pub nameIn : Row' → ℕ
+nameIn (row'.Is x k) = x
+nameIn row'.No = 0
+
+abbrev pub kindIn : Row' → ℕ
+kindIn (row'.Is x k) = k
+kindIn row'.No = 0
+
+-- whether a binder with that row is misplaced where a kind is wanted
+abbrev pub misplacedIn : Bool → ℕ → Row' → Bool
+misplacedIn checks want (row'.Is x k) = checks && not (eqb k want)
+misplacedIn checks want row'.No = false
 
 -- the name and the kind of a row that was told are in range
 abbrev pub InRange : ℕ → Row' → Type 0
@@ -141,43 +171,51 @@ onKinds fs s = record { names = s .names; kinds = told fs (s .kinds); known = s 
 abbrev pub AtRow : (ws tab m vis found m' found' : List ℕ) → (set x k : ℕ) → Type 0
 AtRow ws tab m vis found m' found' set x k = (i a b : ℕ) → Steps 1 ws tab m vis found m' vis found' (λ id. onKinds (atRow (settingOf set) (some (row i x k a b))))
 
--- the words that pay for a head
-abbrev pub costOf : Form → ℕ
-costOf (Leaf k) = 1
-costOf (Var v) = 2
-costOf (Unresolved x) = 2
-costOf (Prop x) = 1
-costOf (Two k) = 1
-costOf (Slice b) = 1
-costOf (Many k n) = 1
-costOf (BinOp o) = 1
-costOf (UnaryOp o) = 1
-costOf (Case b n) = 1
-costOf IsNull = 1
-costOf PatternPredicate = 1
-costOf (ListComprehension g) = 1
-costOf (PatternComprehension a b g) = 1
-costOf (ListPredicate g) = 1
-costOf (MapProjection n) = 1
+-- what a head does before its parts
+abbrev pub actOf : Form → Act
+actOf (Leaf k) = Shows (typeOf (Leaf k))
+actOf (Var v) = Uses v
+actOf (Unresolved x) = Names x
+actOf (Prop x) = Shows (typeOf (Prop x))
+actOf (Two k) = Shows (typeOf (Two k))
+actOf (Slice b) = Shows (typeOf (Slice b))
+actOf (Many k n) = Shows (typeOf (Many k n))
+actOf (BinOp o) = Shows (typeOf (BinOp o))
+actOf (UnaryOp o) = Shows (typeOf (UnaryOp o))
+actOf (Case b n) = Shows (typeOf (Case b n))
+actOf IsNull = Shows (typeOf IsNull)
+actOf PatternPredicate = Shows patternType
+actOf (ListComprehension g) = Shows (typeOf (ListComprehension g))
+actOf (PatternComprehension a b g) = Opens a b
+actOf (ListPredicate g) = Shows (typeOf (ListPredicate g))
+actOf (MapProjection n) = Shows (typeOf (MapProjection n))
 
--- a head's names are below the number of names
+-- what of it is done, of those that look
+abbrev pub acts : World → Mode → Setting → Act → Both → Both
+acts w m c (Shows t) = step m same (atType c t)
+acts w m c (Uses v) = step m (useVar w v (w .row v)) (atRow c (w .row v))
+acts w m c (Names x) = step m (nameUse w x) []
+acts w m c (Opens a b) = step m (enter comprehensionScope a b) []
+
+-- the words that pay for it
+abbrev pub costIn : Act → ℕ
+costIn (Shows t) = 1
+costIn (Uses v) = 2
+costIn (Names x) = 2
+costIn (Opens a b) = 1
+
+abbrev pub costOf : Form → ℕ
+costOf f = costIn (actOf f)
+
+-- its names are below the number of names
+abbrev pub NamedIn : ℕ → Act → Type 0
+NamedIn slots (Shows t) = Unit {0}
+NamedIn slots (Uses v) = Unit {0}
+NamedIn slots (Names x) = x < slots
+NamedIn slots (Opens a b) = Unit {0}
+
 abbrev pub Named : ℕ → Form → Type 0
-Named slots (Leaf k) = Unit {0}
-Named slots (Var v) = Unit {0}
-Named slots (Unresolved x) = x < slots
-Named slots (Prop x) = Unit {0}
-Named slots (Two k) = Unit {0}
-Named slots (Slice b) = Unit {0}
-Named slots (Many k n) = Unit {0}
-Named slots (BinOp o) = Unit {0}
-Named slots (UnaryOp o) = Unit {0}
-Named slots (Case b n) = Unit {0}
-Named slots IsNull = Unit {0}
-Named slots PatternPredicate = Unit {0}
-Named slots (ListComprehension g) = Unit {0}
-Named slots (PatternComprehension a b g) = Unit {0}
-Named slots (ListPredicate g) = Unit {0}
-Named slots (MapProjection n) = Unit {0}
+Named slots f = NamedIn slots (actOf f)
 
 -- a part's path: its own binder
 abbrev pub pathStep : World → Mode → Maybe → Both → Both
@@ -195,30 +233,22 @@ abbrev pub ClosedIf : Bool → List ℕ → List ℕ → List ℕ → List ℕ �
 ClosedIf true tab m vis m' vis' top cur = Left tab m vis m' vis' top cur
 ClosedIf false tab m vis m' vis' top cur = (m' ≡ m) × (vis' ≡ vis)
 
-abbrev pub leaves : Form → Bool
-leaves (Leaf k) = false
-leaves (Var v) = false
-leaves (Unresolved x) = false
-leaves (Prop x) = false
-leaves (Two k) = false
-leaves (Slice b) = false
-leaves (Many k n) = false
-leaves (BinOp o) = false
-leaves (UnaryOp o) = false
-leaves (Case b n) = false
-leaves IsNull = false
-leaves PatternPredicate = false
-leaves (ListComprehension g) = false
-leaves (PatternComprehension a b g) = true
-leaves (ListPredicate g) = false
-leaves (MapProjection n) = false
+abbrev pub opensIn : Act → Bool
+opensIn (Shows t) = false
+opensIn (Uses v) = false
+opensIn (Names x) = false
+opensIn (Opens a b) = true
 
 abbrev pub Closed : (tab m vis m' vis' : List ℕ) → (top cur : ℕ) → Mode → Form → Type 0
-Closed tab m vis m' vis' top cur mode f = ClosedIf (leaves f && mode .resolves) tab m vis m' vis' top cur
+Closed tab m vis m' vis' top cur mode f = ClosedIf (opensIn (actOf f) && mode .resolves) tab m vis m' vis' top cur
 
 -- the settings that a number has
 abbrev pub pairOf : ℕ → Pair
 pairOf n = both (settingOf (n % 8)) (settingOf (n / 8))
+
+-- what is recorded of a variable that has a row
+abbrev pub varRecord : Mode → ℕ → ℕ → State → State
+varRecord m v k = when (m .resolves) (say (answer (write v (found-as v k 0))))
 
 -- what is recorded of a name, E1001 apart
 abbrev pub nameRecord : World → ℕ → Option ℕ → State → State

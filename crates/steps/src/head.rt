@@ -14,32 +14,31 @@ use crate::leave;
 use crate::row::kind_of;
 use crate::row_of;
 use crate::say;
+use crate::say_wanted;
 use heads::Form;
 use visible::Found;
 use visible::find;
 ghost use mathlib.Core.Path.{_≡_};
-ghost use mathlib.Core.Bool.{Bool};
+ghost use mathlib.Core.Bool.{Bool, cond};
 ghost use mathlib.Core.List.{List, []};
 ghost use Prim.Native.Nat.{ℕ, suc, _+_, _*_, _%_, _≤_, _<_};
 ghost use lib.ListN.{length, getD};
 ghost use lib.Dec.{eqb};
 ghost use Rattle.words.specs.Words.{words};
 ghost use Rattle.semantics.specs.Resolve.{lookup, useVar};
-ghost use Rattle.semantics.specs.Kinds.{typeOf, atType, atRow, settings};
+ghost use Rattle.semantics.specs.Kinds.{leafTypes, atType, atRow, settings, isArithmetic};
 ghost use Rattle.fused.specs.Fused.{step, same, nameUse, headOf};
 ghost use Rattle.visible.specs.Visible.{Tabled};
 ghost use Rattle.steps.specs.Memory.{topOf, slotsIn, identIn, worldAt, modeOf, settingOf, firstOf, quiet};
-ghost use Rattle.steps.specs.Hold.{Ready, Steps, Closed, costOf, Named, onNames, nameRecord, pairOf};
+ghost use Rattle.steps.specs.Hold.{Ready, Steps, Closed, actOf, costOf, Named, onNames, varRecord, nameRecord, pairOf};
 
 // Whether nothing is written of a variable, whatever its row: its use is not wanted, and no kind is minded.
 fn is_quiet(tab: &[u32], mode: u32) -> bool
     requires { ⌜ 16 ≤ length (now tab) ⌝ }
     ensures { λ r. ⌜ r ≡ quiet (now (tab .entry)) mode ⌝ }
 {
-    if tab[WANTS] == 1 {
-        if mode / RESOLVES % 2 == 1 {
-            return false;
-        }
+    if (tab[WANTS] == 1) & (mode / RESOLVES % 2 == 1) {
+        return false;
     }
     if mode / CHECKS % 2 == 1 {
         return (mode % 8 == 0) | (mode % 8 == 3);
@@ -47,8 +46,35 @@ fn is_quiet(tab: &[u32], mode: u32) -> bool
     true
 }
 
+// What is recorded of a variable whose row has the kind k.
+fn record_var(
+    s: &[u8],
+    tab: &[u32],
+    m: &mut [u32],
+    vis: &[u32],
+    found: &mut [u32],
+    v: u32,
+    k: u32,
+    mode: u32,
+)
+    requires { ⌜ Ready 1 (words (now s)) (now tab) (now m) (now vis) (now found) ⌝ }
+    ensures { λ r. ⌜ Steps 1 (words (now (s .entry))) (now (tab .entry)) (now (m .entry)) (now (vis .entry)) (now (found .entry)) (now (m .exit)) (now (vis .entry)) (now (found .exit)) (λ id. onNames (varRecord (modeOf mode) v k)) ⌝ }
+{
+    if mode / RESOLVES % 2 == 1 {
+        say_wanted(tab, m, found, 4, v, k, 0, 0);
+    }
+}
+
 // A use of a variable.
-pub fn use_var(s: &[u8], tab: &[u32], m: &mut [u32], vis: &[u32], found: &mut [u32], v: u32, mode: u32)
+pub fn use_var(
+    s: &[u8],
+    tab: &[u32],
+    m: &mut [u32],
+    vis: &[u32],
+    found: &mut [u32],
+    v: u32,
+    mode: u32,
+)
     requires { ⌜ Ready 2 (words (now s)) (now tab) (now m) (now vis) (now found) ⌝ }
     ensures { λ r. ⌜ Steps 2 (words (now (s .entry))) (now (tab .entry)) (now (m .entry)) (now (vis .entry)) (now (found .entry)) (now (m .exit)) (now (vis .entry)) (now (found .exit)) (λ id. step (modeOf mode) (useVar (worldAt (words (now (s .entry))) (now (tab .entry)) id) v ((worldAt (words (now (s .entry))) (now (tab .entry)) id) .row v)) (atRow (firstOf mode) ((worldAt (words (now (s .entry))) (now (tab .entry)) id) .row v))) ⌝ }
 {
@@ -58,11 +84,7 @@ pub fn use_var(s: &[u8], tab: &[u32], m: &mut [u32], vis: &[u32], found: &mut [u
     match row_of(s, tab, v) {
         Row::No => {}
         Row::Is(x, k) => {
-            if mode / RESOLVES % 2 == 1 {
-                if tab[WANTS] == 1 {
-                    say(m, found, 4, v, k, 0, 0, 0);
-                }
-            }
+            record_var(s, tab, m, vis, found, v, k, mode);
             if mode / CHECKS % 2 == 1 {
                 at_row(s, tab, m, vis, found, mode % 8, x, k);
             }
@@ -71,10 +93,13 @@ pub fn use_var(s: &[u8], tab: &[u32], m: &mut [u32], vis: &[u32], found: &mut [u
 }
 
 // What is recorded of a name.
-fn record_name(s: &[u8], tab: &[u32], m: &mut [u32], vis: &[u32], found: &mut [u32], x: u32)
-    requires { ⌜ (getD (now tab) 9 0 ≡ 1) × Ready 1 (words (now s)) (now tab) (now m) (now vis) (now found) ⌝ }
+pub fn record_name(s: &[u8], tab: &[u32], m: &mut [u32], vis: &[u32], found: &mut [u32], x: u32)
+    requires { ⌜ Ready 1 (words (now s)) (now tab) (now m) (now vis) (now found) ⌝ }
     ensures { λ r. ⌜ Steps 1 (words (now (s .entry))) (now (tab .entry)) (now (m .entry)) (now (vis .entry)) (now (found .entry)) (now (m .exit)) (now (vis .entry)) (now (found .exit)) (λ id. onNames (λ y. nameRecord (worldAt (words (now (s .entry))) (now (tab .entry)) id) x (lookup x (y .visible)) y)) ⌝ }
 {
+    if tab[WANTS] != 1 {
+        return;
+    }
     match find(vis, tab[SLOTS], m[TOP], x) {
         Found::Is(v, _) => {
             let k = kind_of(s, tab, v);
@@ -91,9 +116,7 @@ pub fn use_name(s: &[u8], tab: &[u32], m: &mut [u32], vis: &[u32], found: &mut [
     requires { ⌜ (x < slotsIn (now tab)) × Ready 2 (words (now s)) (now tab) (now m) (now vis) (now found) ⌝ }
     ensures { λ r. ⌜ Steps 2 (words (now (s .entry))) (now (tab .entry)) (now (m .entry)) (now (vis .entry)) (now (found .entry)) (now (m .exit)) (now (vis .entry)) (now (found .exit)) (λ id. onNames (nameUse (worldAt (words (now (s .entry))) (now (tab .entry)) id) x)) ⌝ }
 {
-    if tab[WANTS] == 1 {
-        record_name(s, tab, m, vis, found, x);
-    }
+    record_name(s, tab, m, vis, found, x);
     if vis[x as usize] == 0 {
         if x + 1 != tab[STAR] {
             say(m, found, 1001, 0, 0, x + 1, 0, 0);
@@ -101,34 +124,53 @@ pub fn use_name(s: &[u8], tab: &[u32], m: &mut [u32], vis: &[u32], found: &mut [
     }
 }
 
-// The type that a head shows, 0 for none.
-fn type_of(f: Form) -> u32
-    ensures { λ r. ⌜ r ≡ typeOf f ⌝ }
+// What a head does before its parts: it shows a type, 0 for none; it uses a variable, or a name; it opens the scope of a comprehension.
+pub enum Act {
+    Shows(u32),
+    Uses(u32),
+    Names(u32),
+    Opens(u32, u32),
+}
+
+// The type of a leaf by its code.
+fn leaf_type(k: u32) -> u32
+    ensures { λ r. ⌜ r ≡ getD leafTypes k 0 ⌝ }
+{
+    match k {
+        0 => 0,
+        1 => 5,
+        2 => 1,
+        3 => 2,
+        4 => 3,
+        5 => 4,
+        _ => 0,
+    }
+}
+
+fn act_of(f: Form) -> Act
+    ensures { λ r. ⌜ r ≡ actOf f ⌝ }
 {
     match f {
-        Form::Leaf(k) => match k {
-            1 => 5,
-            2 => 1,
-            3 => 2,
-            4 => 3,
-            5 => 4,
-            _ => 0,
+        Form::Leaf(k) => Act::Shows(leaf_type(k)),
+        Form::Var(v) => Act::Uses(v),
+        Form::Unresolved(x) => Act::Names(x),
+        Form::Prop(_) => Act::Shows(0),
+        Form::Two(_) => Act::Shows(0),
+        Form::Slice(_) => Act::Shows(0),
+        Form::Many(k, _) => if k == 13 {
+            Act::Shows(6)
+        } else {
+            Act::Shows(0)
         },
-        Form::Var(_) => 0,
-        Form::Unresolved(_) => 0,
-        Form::Prop(_) => 0,
-        Form::Two(_) => 0,
-        Form::Slice(_) => 0,
-        Form::Many(k, _) => if k == 13 { 6 } else { 0 },
-        Form::BinOp(_) => 0,
-        Form::UnaryOp(_) => 0,
-        Form::Case(_, _) => 0,
-        Form::IsNull => 0,
-        Form::PatternPredicate => 0,
-        Form::ListComprehension(_) => 0,
-        Form::PatternComprehension(_, _, _) => 0,
-        Form::ListPredicate(_) => 0,
-        Form::MapProjection(_) => 0,
+        Form::BinOp(_) => Act::Shows(0),
+        Form::UnaryOp(_) => Act::Shows(0),
+        Form::Case(_, _) => Act::Shows(0),
+        Form::IsNull => Act::Shows(0),
+        Form::PatternPredicate => Act::Shows(7),
+        Form::ListComprehension(_) => Act::Shows(0),
+        Form::PatternComprehension(a, b, _) => Act::Opens(a, b),
+        Form::ListPredicate(_) => Act::Shows(0),
+        Form::MapProjection(_) => Act::Shows(0),
     }
 }
 
@@ -143,36 +185,55 @@ fn show(s: &[u8], tab: &[u32], m: &mut [u32], vis: &[u32], found: &mut [u32], t:
 }
 
 // What a head does before its parts.
-pub fn begin(s: &[u8], tab: &[u32], m: &mut [u32], vis: &[u32], found: &mut [u32], f: Form, mode: u32)
+pub fn begin(
+    s: &[u8],
+    tab: &[u32],
+    m: &mut [u32],
+    vis: &[u32],
+    found: &mut [u32],
+    f: Form,
+    mode: u32,
+)
     requires { ⌜ Named (slotsIn (now tab)) f × Ready (costOf f) (words (now s)) (now tab) (now m) (now vis) (now found) ⌝ }
     ensures { λ r. ⌜ Steps (costOf f) (words (now (s .entry))) (now (tab .entry)) (now (m .entry)) (now (vis .entry)) (now (found .entry)) (now (m .exit)) (now (vis .entry)) (now (found .exit)) (λ id. headOf (worldAt (words (now (s .entry))) (now (tab .entry)) id) (modeOf mode) f (firstOf mode)) ⌝ }
 {
-    match f {
-        Form::Leaf(_) => show(s, tab, m, vis, found, type_of(f), mode),
-        Form::Var(v) => use_var(s, tab, m, vis, found, v, mode),
-        Form::Unresolved(x) => {
+    match act_of(f) {
+        Act::Shows(t) => show(s, tab, m, vis, found, t, mode),
+        Act::Uses(v) => use_var(s, tab, m, vis, found, v, mode),
+        Act::Names(x) => {
             if mode / RESOLVES % 2 == 1 {
                 use_name(s, tab, m, vis, found, x);
             }
         }
-        Form::Prop(_) => show(s, tab, m, vis, found, 0, mode),
-        Form::Two(_) => show(s, tab, m, vis, found, 0, mode),
-        Form::Slice(_) => show(s, tab, m, vis, found, 0, mode),
-        Form::Many(_, _) => show(s, tab, m, vis, found, type_of(f), mode),
-        Form::BinOp(_) => show(s, tab, m, vis, found, 0, mode),
-        Form::UnaryOp(_) => show(s, tab, m, vis, found, 0, mode),
-        Form::Case(_, _) => show(s, tab, m, vis, found, 0, mode),
-        Form::IsNull => show(s, tab, m, vis, found, 0, mode),
-        Form::PatternPredicate => show(s, tab, m, vis, found, 7, mode),
-        Form::ListComprehension(_) => show(s, tab, m, vis, found, 0, mode),
-        Form::PatternComprehension(a, b, _) => {
+        Act::Opens(a, b) => {
             if mode / RESOLVES % 2 == 1 {
                 enter(s, tab, m, vis, found, 9, a, b);
             }
         }
-        Form::ListPredicate(_) => show(s, tab, m, vis, found, 0, mode),
-        Form::MapProjection(_) => show(s, tab, m, vis, found, 0, mode),
     }
+}
+
+// The settings of an operator's parts, as `pair_of` gives them: operators 0 to 5 and 8 to 11 set arithmetic.
+fn of_operator(o: u32) -> u32
+    ensures { λ r. ⌜ r ≡ cond (isArithmetic o) 9 0 ⌝ }
+{
+    if o <= 5 {
+        return 9;
+    }
+    if o < 8 {
+        return 0;
+    }
+    if o <= 11 {
+        return 9;
+    }
+    0
+}
+
+// and of a property's base.
+fn of_property(ident: u32, x: u32) -> u32
+    ensures { λ r. ⌜ r ≡ cond (eqb (suc x) ident) 0 2 ⌝ }
+{
+    if (x as u64) + 1 == ident as u64 { 0 } else { 2 }
 }
 
 // The settings of a head's first part and, 8 times, of the others, where the head stands in the setting `set`.
@@ -185,20 +246,11 @@ pub fn pair_of(tab: &[u32], f: Form, set: u32) -> u32
         Form::Leaf(_) => 0,
         Form::Var(_) => 0,
         Form::Unresolved(_) => 0,
-        Form::Prop(x) => {
-            let i = tab[IDENT];
-            if i == 0 {
-                2
-            } else if x == i - 1 {
-                0
-            } else {
-                2
-            }
-        }
+        Form::Prop(x) => of_property(tab[IDENT], x),
         Form::Two(k) => if k == 10 { 4 } else { 0 },
         Form::Slice(_) => 5,
         Form::Many(_, _) => 0,
-        Form::BinOp(o) => if (3903 >> (o % 32)) % 2 == 1 { 9 } else { 0 },
+        Form::BinOp(o) => of_operator(o),
         Form::UnaryOp(_) => if set < 3 { set } else { 0 },
         Form::Case(_, _) => 0,
         Form::IsNull => 0,
@@ -215,26 +267,14 @@ pub fn finish(tab: &[u32], m: &mut [u32], vis: &mut [u32], f: Form, mode: u32, t
     requires { ⌜ (16 ≤ length (now tab)) × ((length (now m) ≡ 64) × ((top ≤ topOf (now m)) × Tabled (slotsIn (now tab)) (topOf (now m)) (now vis))) ⌝ }
     ensures { λ r. ⌜ Closed (now (tab .entry)) (now (m .entry)) (now (vis .entry)) (now (m .exit)) (now (vis .exit)) top cur (modeOf mode) f ⌝ }
 {
-    match f {
-        Form::PatternComprehension(_, _, _) => {
+    match act_of(f) {
+        Act::Shows(_) => {}
+        Act::Uses(_) => {}
+        Act::Names(_) => {}
+        Act::Opens(_, _) => {
             if mode / RESOLVES % 2 == 1 {
                 leave(tab, m, vis, top, cur);
             }
         }
-        Form::Leaf(_) => {}
-        Form::Var(_) => {}
-        Form::Unresolved(_) => {}
-        Form::Prop(_) => {}
-        Form::Two(_) => {}
-        Form::Slice(_) => {}
-        Form::Many(_, _) => {}
-        Form::BinOp(_) => {}
-        Form::UnaryOp(_) => {}
-        Form::Case(_, _) => {}
-        Form::IsNull => {}
-        Form::PatternPredicate => {}
-        Form::ListComprehension(_) => {}
-        Form::ListPredicate(_) => {}
-        Form::MapProjection(_) => {}
     }
 }

@@ -8,7 +8,15 @@ ghost use Rattle.steps.specs.Memory.{settingOf};
 ghost use Rattle.steps.specs.Hold.{Ready, Steps, AtRow, onKinds};
 
 // A type, 0 for none, in a setting.
-pub fn at_type(s: &[u8], tab: &[u32], m: &mut [u32], vis: &[u32], found: &mut [u32], set: u32, t: u32)
+pub fn at_type(
+    s: &[u8],
+    tab: &[u32],
+    m: &mut [u32],
+    vis: &[u32],
+    found: &mut [u32],
+    set: u32,
+    t: u32,
+)
     requires { ⌜ (set < 8) × Ready 1 (words (now s)) (now tab) (now m) (now vis) (now found) ⌝ }
     ensures { λ r. ⌜ Steps 1 (words (now (s .entry))) (now (tab .entry)) (now (m .entry)) (now (vis .entry)) (now (found .entry)) (now (m .exit)) (now (vis .entry)) (now (found .exit)) (λ id. onKinds (atType (settingOf set) t)) ⌝ }
 {
@@ -34,7 +42,16 @@ pub fn at_type(s: &[u8], tab: &[u32], m: &mut [u32], vis: &[u32], found: &mut [u
 }
 
 // A row with the name x and the kind k in a setting.
-pub fn at_row(s: &[u8], tab: &[u32], m: &mut [u32], vis: &[u32], found: &mut [u32], set: u32, x: u32, k: u32)
+pub fn at_row(
+    s: &[u8],
+    tab: &[u32],
+    m: &mut [u32],
+    vis: &[u32],
+    found: &mut [u32],
+    set: u32,
+    x: u32,
+    k: u32,
+)
     requires { ⌜ (set < 8) × ((x < 4294967295) × ((k ≤ 4) × Ready 1 (words (now s)) (now tab) (now m) (now vis) (now found))) ⌝ }
     ensures { λ r. ⌜ AtRow (words (now (s .entry))) (now (tab .entry)) (now (m .entry)) (now (vis .entry)) (now (found .entry)) (now (m .exit)) (now (found .exit)) set x k ⌝ }
 {

@@ -16,12 +16,15 @@ pub use bound::note;
 pub use head::begin;
 pub use head::finish;
 pub use head::pair_of;
+pub use head::record_name;
 pub use head::use_name;
 pub use head::use_var;
 pub use kinds::at_type;
 pub use row::Row;
+pub use row::kind_of;
 pub use row::row_of;
 pub use said::say;
+pub use said::say_wanted;
 pub use said::tell;
 
 // Where the numbers stand in m.

@@ -24,7 +24,15 @@ pub fn row_of(s: &[u8], tab: &[u32], v: u32) -> Row
     ensures { λ r. ⌜ r ≡ shown (worldAt (words (now (s .entry))) (now (tab .entry)) (λ x. x) .row v) ⌝ }
 {
     let rows = tab[ROWS] as usize;
-    let i = find_row(s, &tab[CHAINS..], rows, tab[MULT], tab[SHIFT], tab[BINDINGS], v);
+    let i = find_row(
+        s,
+        &tab[CHAINS..],
+        rows,
+        tab[MULT],
+        tab[SHIFT],
+        tab[BINDINGS],
+        v,
+    );
     if i == 0 {
         return Row::No;
     }

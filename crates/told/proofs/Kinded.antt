@@ -23,9 +23,9 @@ use Rattle.tables.specs.Row.{Row, row}
 use Rattle.sheet.specs.Statement.{Statement}
 use Rattle.sheet.specs.Read.{anyBinder}
 use Rattle.sheet.specs.Write.{WellRow, WellStatement}
-use Rattle.resolve.specs.Log.{Finding, finding}
-use Rattle.resolve.specs.Resolve.{World, rowOf, worldOf}
-use Rattle.kinds.specs.Kinds.{Setting, general, arithmetic, property, boolean, listed, passes, isArithmetic, leafTypes, Pair, both, plain, typeOf, settings, atType, atRow, misplaced, rowFor, named-id, kindsE, kindsEs, kindsS, kindsC, kinds}
+use Rattle.semantics.specs.Log.{Finding, finding}
+use Rattle.semantics.specs.World.{World, worldOf}
+use Rattle.semantics.specs.Kinds.{Setting, general, arithmetic, property, boolean, listed, passes, isArithmetic, leafTypes, Pair, both, plain, typeOf, settings, atType, atRow, misplaced, rowFor, kindsE, kindsEs, kindsS, kindsC, kinds}
 use Rattle.told.specs.Pushed as pushed
 use Rattle.told.specs.Pushed.{IsType, Pushed}
 use Rattle.told.proofs.Trees.{kindOf, reading-well, done-well, row-well}
@@ -146,38 +146,41 @@ module _ (names : List (List ℕ)) where
   gives-elem want a b none h i g = nil
   gives-elem want a b (some (row j x k c d)) h i g = gives-unless (eqb k want) (λ e. pushed.element (g .0) h i (g .1, g .2, eqb-false k want e))
 
-module _ (w : World) (rows : Each (WellRow (length (w .names))) (w .table)) where
+module _ (warns : Bool) (st : Statement) (rows : Each (WellRow (length (st .names))) (st .bindings)) where
+  abbrev w : World
+  w = worldOf warns st
+
   abbrev size : ℕ
-  size = length (w .names)
+  size = length (st .names)
 
   row-for : (p : Maybe) → RowIn size (rowFor w p)
-  unfolding rowFor
-  row-for (maybe.Var v) = row-in size v (w .table) rows
+  unfolding rowFor worldOf
+  row-for (maybe.Var v) = row-in size v (st .bindings) rows
   row-for maybe.Nothing = tt
 
   mutual
-    unfolding kindsE WellE
+    unfolding kindsE WellE worldOf
 
-    gives-E : (t : Expr) (room : ℕ) (c : Setting) → WellE (anyBinder size) t room → Known (w .names) c → Gives (w .names) (kindsE w t c)
-    gives-E (var v) room c h g = gives-row (w .names) c (rowOf v (w .table)) g (row-in size v (w .table) rows)
+    gives-E : (t : Expr) (room : ℕ) (c : Setting) → WellE (anyBinder size) t room → Known (st .names) c → Gives (st .names) (kindsE w t c)
+    gives-E (var v) room c h g = gives-row (st .names) c (w .row v) g (row-in size v (st .bindings) rows)
     gives-E (unresolved x) room c h g = nil
     gives-E (node f es) room c h g =
-        join (gives-type (w .names) c (typeOf f) g (type-in f)) (gives-Es es 0 (room - 1) (settings (named-id w) f c) (h .5) (settings-known (w .names) (named-id w) f c))
-    gives-E (predicate s) room c h g = join (gives-type (w .names) c 7 g (omega arith)) (gives-S s (room - 1) (h .2))
+        join (gives-type (st .names) c (typeOf f) g (type-in f)) (gives-Es es 0 (room - 1) (settings (w .isId) f c) (h .5) (settings-known (st .names) (w .isId) f c))
+    gives-E (predicate s) room c h g = join (gives-type (st .names) c 7 g (omega arith)) (gives-S s (room - 1) (h .2))
     gives-E (comprehension a b s es) room c h g = join (gives-S s (room - 1) (h .3)) (gives-Es es 0 (room - 1) plain (h .6) (tt, tt))
 
-    gives-Es : (t : Exprs) (kind room : ℕ) (p : Pair) → Wells (anyBinder size) kind t room → Both (w .names) p → Gives (w .names) (kindsEs w t p)
+    gives-Es : (t : Exprs) (kind room : ℕ) (p : Pair) → Wells (anyBinder size) kind t room → Both (st .names) p → Gives (st .names) (kindsEs w t p)
     gives-Es done kind room p h g = nil
     gives-Es (more e es) kind room (both c d) h g = join (gives-E e room c (h .0) (g .0)) (gives-Es es kind room (both d d) (h .1) (g .1, g .1))
     gives-Es (mark m es) kind room p h g = gives-Es es kind room p (h .2) g
 
-    gives-S : (t : Steps) (room : ℕ) → WellS (anyBinder size) t room → Gives (w .names) (kindsS w t)
+    gives-S : (t : Steps) (room : ℕ) → WellS (anyBinder size) t room → Gives (st .names) (kindsS w t)
     gives-S end room h = nil
-    gives-S (part p s) room h = join (gives-path (w .names) (rowFor w p) (row-for p)) (gives-S s room (h .2))
+    gives-S (part p s) room h = join (gives-path (st .names) (rowFor w p) (row-for p)) (gives-S s room (h .2))
     gives-S (elem k a b v es s) room h =
-        join (gives-elem (w .names) k a b (rowFor w v) (h .0 .0) (h .0 .1) (row-for v)) (join (gives-Es es 0 room plain (h .5) (tt, tt)) (gives-S s room (h .6)))
+        join (gives-elem (st .names) k a b (rowFor w v) (h .0 .0) (h .0 .1) (row-for v)) (join (gives-Es es 0 room plain (h .5) (tt, tt)) (gives-S s room (h .6)))
 
-  gives-C : (t : Clause) → WellClause (anyBinder size) t → Gives (w .names) (kindsC w t)
+  gives-C : (t : Clause) → WellClause (anyBinder size) t → Gives (st .names) (kindsC w t)
   unfolding kindsC WellClause WellMany WellPattern
   gives-C (opening o a b s) h = gives-S s maxDepth (h .2 .1)
   gives-C (reading r a b es) h = gives-Es es (kindOf r) maxDepth plain (reading-well (anyBinder size) r es (h .1)) (tt, tt)
@@ -186,11 +189,10 @@ module _ (w : World) (rows : Each (WellRow (length (w .names))) (w .table)) wher
   gives-C (unwind a b v e) h = gives-E e maxDepth general (h .3) tt
   gives-C (call a b es ys) h = gives-Es es 0 maxDepth plain (reading-well (anyBinder size) clause.delete es (h .1)) (tt, tt)
 
-  gives-Cs : (ts : List Clause) → Each (WellClause (anyBinder size)) ts → Gives (w .names) (kinds w ts)
+  gives-Cs : (ts : List Clause) → Each (WellClause (anyBinder size)) ts → Gives (st .names) (kinds w ts)
   unfolding kinds Each
   gives-Cs [] h = nil
   gives-Cs (t ∷ ts) h = join (gives-C t (h .0)) (gives-Cs ts (h .1))
 
 pub kinded : (warns : Bool) (st : Statement) → WellStatement st → All (Pushed (st .names)) (kinds (worldOf warns st) (st .head))
-unfolding worldOf
-kinded warns st h = gives-Cs (worldOf warns st) (h .bindings) (st .head) (h .head)
+kinded warns st h = gives-Cs warns st (h .bindings) (st .head) (h .head)

@@ -10,7 +10,7 @@ use borrow.Author.Tests.{eqb-true, eqb-false, leb-true, ltb-true, lt-ltb, not-tr
 use Rattle.expr.proofs.Inverse.{never}
 use Rattle.sheet.specs.Statement.{Statement}
 use Rattle.sheet.specs.Read.{Sheet, accepted, refused, then', unless, readSheet}
-use Rattle.resolve.specs.Log.{finding}
+use Rattle.semantics.specs.Log.{finding}
 use Rattle.texts.specs.Codes.{of2007, of2008, of5010, unused, textFor}
 use Rattle.texts.specs.Texts.{textOf}
 use Rattle.texts.specs.declared.Text.{Text}

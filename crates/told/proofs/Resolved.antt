@@ -1,11 +1,13 @@
 -- The resolve walk's findings are pushes that there are: E1001 at an Unresolved, whose name is within the table; E1002 at a path, whose
 -- variable has a row, and at a yield. All else that the walk says is no finding.
-use Prim.Native.Nat.{ℕ, suc, _+_, _-_, _<_}
+use Prim.Native.Nat.{ℕ, _-_, _<_}
 use mathlib.Core.Path.{_≡_, refl}
-use mathlib.Core.Bool.{Bool, true, false, cond}
-use mathlib.Core.List.{List, [], _∷_, _++_, map, flatMap}
+use mathlib.Core.Bool.{Bool, true, false, not, _&&_}
+use mathlib.Core.List.{List, [], _∷_, flatMap, reverseAux}
 use mathlib.Core.Option.{Option, none, some}
 use lib.ListN.{length}
+use borrow.Author.Tests.{not-true}
+use Rattle.scope.specs.Graph.{comprehensionScope, returnScope, callScope}
 use Rattle.heads.specs.declared.Maybe.{Maybe}
 use Rattle.heads.specs.declared.Maybe.the-variants as maybe
 use Rattle.expr.specs.Tree.{Expr, var, unresolved, node, predicate, comprehension, Exprs, done, more, mark, Steps, end, part, elem}
@@ -15,12 +17,14 @@ use Rattle.clauses.specs.Tree.{Projection, projection, Yield, yield, Clause, op
 use Rattle.clauses.specs.Read.{maxDepth}
 use Rattle.clauses.specs.Binders.{bindersP, bindersC, bindersA}
 use Rattle.clauses.specs.Well.{Each, WellAlias, WellYield, WellMany, WellClause, WellArm}
-use Rattle.tables.specs.Row.{Row, row}
+use Rattle.tables.specs.Row.{pathKind, valueKind, Row, row}
 use Rattle.sheet.specs.Statement.{Statement}
 use Rattle.sheet.specs.Read.{anyBinder}
 use Rattle.sheet.specs.Write.{WellStatement}
-use Rattle.resolve.specs.Log.{finding, bound, Event, open', bind, carry, answer, find, findsIn, opened, logs}
-use Rattle.resolve.specs.Resolve.{World, Seen, seen, lookup, rowOf, rowName, variable, isStar, again, bindNew, recordVar, nameOf, bytesOf, recordName, pathLog, pathOwn, elemLog, elemOwn, owned, resolve, resolves, bindPattern, carriedBy, carryAt, bindAt, yieldName, yieldsLog, barrier, fresh, clauseLog, visAfter, curAfter, clausesLog, armsLog, worldOf, log}
+use Rattle.semantics.specs.Log.{Finding, Event, open', bind, carry, answer, find, findsIn, logs}
+use Rattle.semantics.specs.World as Walk
+use Rattle.semantics.specs.World.{World, rowOf, rowName, variable, opens, starName, nameOf, bytesOf, yieldName, worldOf}
+use Rattle.semantics.specs.Resolve.{Pair, pair, State, lookup, binds, sayIf, enter, bindName, leave, standing, useVar, useName, bindAnew, bindNew, bindPath, bindElem, resolve, resolves, bindPattern, carriedBy, carryAll, bindAll, barrier, fresh, yields, clause, clauses, arms, start, run, log}
 use Rattle.told.specs.Pushed as pushed
 use Rattle.told.specs.Pushed.{Pushed}
 use Rattle.told.proofs.Trees.{kindOf, reading-well, done-well, row-well}
@@ -43,104 +47,109 @@ fine-finds (cons {x = carry c} p h) = fine-finds h
 fine-finds (cons {x = answer a} p h) = fine-finds h
 fine-finds (cons {x = find f} p h) = cons p (fine-finds h)
 
-module _ (w : World) where
-  abbrev size : ℕ
-  size = length (w .names)
+-- read in the other direction
+all-reverse : {A : Type 0} {P : A → Type 0} {xs ys : List A} → All P xs → All P ys → All P (reverseAux xs ys)
+all-reverse nil g = g
+all-reverse (cons p h) g = all-reverse h (cons p g)
 
-  abbrev Says : List Event → Type 0
-  Says = All (Fine (w .names))
+module _ (warns : Bool) (st : Statement) where
+  abbrev w : World
+  w = worldOf warns st
+
+  abbrev size : ℕ
+  size = length (st .names)
+
+  abbrev Says : State → Type 0
+  Says s = All (Fine (st .names)) (s .log)
 
   -- the names of binders are within the table
   abbrev Named : List ℕ → Type 0
-  Named = All (λ v. rowName (rowOf v (w .table)) < length (w .names))
+  Named = All (λ v. rowName (rowOf v (st .bindings)) < length (st .names))
 
-  fine-name : (x : ℕ) (o : Option ℕ) → x < size → Says (recordName w x o)
-  unfolding recordName bytesOf
-  fine-name x (some v) h = cons tt nil
-  fine-name x none h = cons tt (go (isStar (bytesOf w x)) refl)
-    where
-      go : (b : Bool) → isStar (bytesOf w x) ≡ b → Says (cond b [] (find (finding 1001 0 0 (suc x) 0 0) ∷ []))
-      go true e = nil
-      go false e = cons (pushed.unresolved h e) nil
+  fine-if : (b : Bool) (f : Finding) (s : State) → (b ≡ true → Pushed (st .names) f) → Says s → Says (sayIf b (find f) s)
+  unfolding sayIf
+  fine-if true f s p k = cons (p refl) k
+  fine-if false f s p k = k
 
-  fine-var : (v : ℕ) (o : Option Row) → Says (recordVar v o)
-  unfolding recordVar
-  fine-var v none = nil
-  fine-var v (some (row i x k a b)) = cons tt nil
+  fine-name : (x : ℕ) (o : Option ℕ) (s : State) → x < size → Says s → Says (useName w x o s)
+  unfolding useName worldOf bytesOf
+  fine-name x (some v) s h k = cons tt k
+  fine-name x none s h k = fine-if (not (starName (bytesOf st x))) _ _ (λ e. pushed.unresolved h (not-true (starName (bytesOf st x)) e)) (cons tt k)
 
-  fine-again : (u : Bool) (x a b : ℕ) (o : Option ℕ) → x < size → Says (again u x a b o)
-  unfolding again
-  fine-again u x a b none h = nil
-  fine-again true x a b (some v) h = cons (pushed.shadows h) nil
-  fine-again false x a b (some v) h = nil
+  fine-var : (v : ℕ) (o : Option Row) (s : State) → Says s → Says (useVar w v o s)
+  unfolding useVar
+  fine-var v none s k = k
+  fine-var v (some (row i x j a b)) s k = cons tt k
 
-  fine-path : (p : Maybe) (own : List Seen) (s : ℕ) → Named (binder p) → Says (pathLog w (variable p) own s)
-  unfolding pathLog variable binder nameOf
-  fine-path (maybe.Var v) own s (cons h g) = cons tt (fine-again (w .warns) (nameOf w v) 0 0 (lookup (nameOf w v) own) h)
-  fine-path maybe.Nothing own s h = nil
+  fine-anew : (a b x v j : ℕ) (s : State) → x < size → Says s → Says (bindAnew w a b x v j s)
+  unfolding bindAnew
+  fine-anew a b x v j s h k = fine-if (w .warns && binds (s .cur) x (s .visible)) _ (bindName x v j s) (λ e. pushed.shadows h) (cons tt k)
 
-  fine-new : (s x v k : ℕ) (o : Option ℕ) → Says (bindNew s x v k o)
+  fine-path : (p : Maybe) (s : State) → Named (binder p) → Says s → Says (bindPath w (variable p) s)
+  unfolding bindPath variable binder nameOf worldOf
+  fine-path (maybe.Var v) s (cons h g) k = fine-anew 0 0 (nameOf w v) v pathKind s h k
+  fine-path maybe.Nothing s g k = k
+
+  fine-new : (o : Option ℕ) (x v j : ℕ) (s : State) → Says s → Says (bindNew w o x v j s)
   unfolding bindNew
-  fine-new s x v k none = cons tt nil
-  fine-new s x v k (some u) = nil
+  fine-new none x v j s k = cons tt k
+  fine-new (some u) x v j s k = k
 
-  fine-elem : (k : ℕ) (p : Maybe) (own outer : List Seen) (s : ℕ) → Says (elemLog w k (variable p) own outer s)
-  unfolding elemLog variable
-  fine-elem k (maybe.Var v) own outer s = fine-new s (nameOf w v) v k (lookup (nameOf w v) (own ++ outer))
-  fine-elem k maybe.Nothing own outer s = nil
+  fine-elem : (j : ℕ) (p : Maybe) (s : State) → Says s → Says (bindElem w j (variable p) s)
+  unfolding bindElem variable
+  fine-elem j (maybe.Var v) s k = fine-new (lookup (nameOf w v) (s .visible)) (nameOf w v) v j s k
+  fine-elem j maybe.Nothing s k = k
 
   mutual
     unfolding resolve WellE bindersE
 
-    fine-E : (t : Expr) (room : ℕ) (vis : List Seen) (c n : ℕ) → WellE (anyBinder size) t room → Named (bindersE t) → Says (resolve w t vis c n)
-    fine-E (var v) room vis c n h g = fine-var v (rowOf v (w .table))
-    fine-E (unresolved x) room vis c n h g = fine-name x (lookup x vis) (h .1)
-    fine-E (node f es) room vis c n h g = fine-Es es 0 (room - 1) vis c n (h .5) g
-    fine-E (predicate s) room vis c n h g = nil
-    fine-E (comprehension a b s es) room vis c n h g =
-        let i = cut (bindersS s) g in
-        let l = bindPattern w s [] vis (suc n) (suc n) in
-        cons tt (join (fine-S s (room - 1) [] vis (suc n) (suc n) (h .3) (i .0)) (fine-Es es 0 (room - 1) (owned w s [] vis ++ vis) (suc n) (suc n + opened l) (h .6) (i .1)))
+    fine-E : (t : Expr) (room : ℕ) (s : State) → WellE (anyBinder size) t room → Named (bindersE t) → Says s → Says (resolve w t s)
+    fine-E (var v) room s h g k = fine-var v (w .row v) s k
+    fine-E (unresolved x) room s h g k = fine-name x (lookup x (s .visible)) s (h .1) k
+    fine-E (node f es) room s h g k = fine-Es es 0 (room - 1) s (h .5) g k
+    fine-E (predicate p) room s h g k = k
+    fine-E (comprehension a b p es) room s h g k =
+        let i = cut (bindersS p) g in
+        let t = enter comprehensionScope a b s in
+        fine-Es es 0 (room - 1) (bindPattern w p t) (h .6) (i .1) (fine-S p (room - 1) t (h .3) (i .0) (cons tt k))
 
-    fine-Es : (t : Exprs) (kind room : ℕ) (vis : List Seen) (c n : ℕ) → Wells (anyBinder size) kind t room → Named (binders t) → Says (resolves w t vis c n)
-    fine-Es done kind room vis c n h g = nil
-    fine-Es (more e es) kind room vis c n h g =
+    fine-Es : (t : Exprs) (kind room : ℕ) (s : State) → Wells (anyBinder size) kind t room → Named (binders t) → Says s → Says (resolves w t s)
+    fine-Es done kind room s h g k = k
+    fine-Es (more e es) kind room s h g k =
         let i = cut (bindersE e) g in
-        join (fine-E e room vis c n (h .0) (i .0)) (fine-Es es kind room vis c (n + opened (resolve w e vis c n)) (h .1) (i .1))
-    fine-Es (mark m es) kind room vis c n h g = fine-Es es kind room vis c n (h .2) g
+        fine-Es es kind room (resolve w e s) (h .1) (i .1) (fine-E e room s (h .0) (i .0) k)
+    fine-Es (mark m es) kind room s h g k = fine-Es es kind room s (h .2) g k
 
-    fine-S : (t : Steps) (room : ℕ) (own outer : List Seen) (s n : ℕ) → WellS (anyBinder size) t room → Named (bindersS t) → Says (bindPattern w t own outer s n)
-    fine-S end room own outer s n h g = nil
-    fine-S (part p r) room own outer s n h g =
+    fine-S : (t : Steps) (room : ℕ) (s : State) → WellS (anyBinder size) t room → Named (bindersS t) → Says s → Says (bindPattern w t s)
+    fine-S end room s h g k = k
+    fine-S (part p r) room s h g k =
         let i = cut (binder p) g in
-        join (fine-path p own s (i .0)) (fine-S r room (pathOwn w (variable p) own) outer s n (h .2) (i .1))
-    fine-S (elem k a b v es r) room own outer s n h g =
+        fine-S r room (bindPath w (variable p) s) (h .2) (i .1) (fine-path p s (i .0) k)
+    fine-S (elem j a b v es r) room s h g k =
         let i = cut (binders es) (cut (binder v) g .1) in
-        let o = elemOwn w (variable v) own outer in
-        let l = resolves w es (o ++ outer) s n in
-        join (fine-elem k v own outer s) (join (fine-Es es 0 room (o ++ outer) s n (h .5) (i .0)) (fine-S r room o outer s (n + opened l) (h .6) (i .1)))
+        let t = bindElem w j (variable v) s in
+        fine-S r room (resolves w es t) (h .6) (i .1) (fine-Es es 0 room t (h .5) (i .0) (fine-elem j v s k))
 
-  yield-name : (x : ℕ) (o : Option ℕ) → x < size → WellAlias (anyBinder size) o → yieldName w x o < size
+  yield-name : (x : ℕ) (o : Option ℕ) → x < size → WellAlias (anyBinder size) o → yieldName x o < size
   unfolding yieldName WellAlias
   yield-name x none h g = h
   yield-name x (some y) h g = g
 
-  fine-yields : (ys : List Yield) (own : List Seen) (s a b : ℕ) → Each (WellYield (anyBinder size)) ys → Says (yieldsLog w ys own s a b)
-  unfolding yieldsLog Each WellYield
-  fine-yields [] own s a b h = nil
-  fine-yields (yield x y v ∷ ys) own s a b h =
-      let z = yieldName w x y in
-      cons tt (join (fine-again (w .warns) z a b (lookup z own) (yield-name x y (h .0 .0) (h .0 .1))) (fine-yields ys (seen z v ∷ own) s a b (h .1)))
+  fine-yields : (a b : ℕ) (ys : List Yield) (s : State) → Each (WellYield (anyBinder size)) ys → Says s → Says (yields w a b ys s)
+  unfolding yields Each WellYield
+  fine-yields a b [] s h k = k
+  fine-yields a b (yield x y v ∷ ys) s h k =
+      fine-yields a b ys (bindAnew w a b (yieldName x y) v valueKind s) (h .1) (fine-anew a b (yieldName x y) v valueKind s (yield-name x y (h .0 .0) (h .0 .1)) k)
 
-  fine-carries : (b : ℕ) (cs : List Seen) → Says (map (carryAt w b) cs)
-  unfolding carryAt
-  fine-carries b [] = nil
-  fine-carries b (seen x v ∷ cs) = cons tt (fine-carries b cs)
+  fine-carries : (ps : List Pair) (s : State) → Says s → Says (carryAll w ps s)
+  unfolding carryAll
+  fine-carries [] s k = k
+  fine-carries (pair x v ∷ ps) s k = fine-carries ps _ (cons tt k)
 
-  fine-binds : (b : ℕ) (cs : List Seen) → Says (map (bindAt w b) cs)
-  unfolding bindAt
-  fine-binds b [] = nil
-  fine-binds b (seen x v ∷ cs) = cons tt (fine-binds b cs)
+  fine-binds : (ps : List Pair) (s : State) → Says s → Says (bindAll w ps s)
+  unfolding bindAll
+  fine-binds [] s k = k
+  fine-binds (pair x v ∷ ps) s k = fine-binds ps (bindName x v (Walk.kindOf w v) s) (cons tt k)
 
   -- projections, and then others
   row-named : (ps : List Projection) (f : Exprs) → Named (flatMap bindersP ps) → Named (binders f) → Named (binders (exprs ps f))
@@ -148,35 +157,34 @@ module _ (w : World) where
   row-named [] f g i = i
   row-named (projection a e ∷ ps) f g i = let j = cut (bindersE e) g in join (j .0) (row-named ps f (j .1) i)
 
-  fine-C : (t : Clause) (vis : List Seen) (c n : ℕ) → WellClause (anyBinder size) t → Named (bindersC t) → Says (clauseLog w t vis c n)
-  unfolding clauseLog WellClause WellMany WellPattern bindersC binders barrier fresh
-  fine-C (opening o a b s) vis c n h g = cons tt (fine-S s maxDepth [] vis (suc n) (suc n) (h .2 .1) g)
-  fine-C (reading r a b es) vis c n h g = fine-Es es (kindOf r) maxDepth vis c n (reading-well (anyBinder size) r es (h .1)) g
-  fine-C (with' a b ps f) vis c n h g =
+  fine-C : (t : Clause) (s : State) → WellClause (anyBinder size) t → Named (bindersC t) → Says s → Says (clause w t s)
+  unfolding clause WellClause WellMany WellPattern bindersC binders barrier fresh
+  fine-C (opening o a b p) s h g k = fine-S p maxDepth (enter (opens o) a b s) (h .2 .1) g (cons tt k)
+  fine-C (reading r a b es) s h g k = fine-Es es (kindOf r) maxDepth s (reading-well (anyBinder size) r es (h .1)) g k
+  fine-C (with' a b ps f) s h g k =
       let i = cut (flatMap bindersP ps) g in
-      let cs = carriedBy w ps vis in
-      join (fine-Es (exprs ps f) 0 maxDepth vis c n (row-well (anyBinder size) ps f (h .1 .1) (h .4)) (row-named ps f (i .0) (i .1))) (join (cons tt (fine-carries _ cs)) (cons tt (fine-binds _ cs)))
-  fine-C (return a b ps) vis c n h g = cons tt (fine-Es (exprs ps done) 0 maxDepth vis c (suc n) (row-well (anyBinder size) ps done (h .1 .1) (done-well (anyBinder size))) (row-named ps done g nil))
-  fine-C (unwind a b v e) vis c n h g = cons tt (cons tt nil)
-  fine-C (call a b es ys) vis c n h g = cons tt (fine-yields ys [] (suc n) a b (h .2 .1))
+      let c = carriedBy w ps (s .visible) in
+      fine-binds c _ (cons tt (fine-carries c _ (cons tt (fine-Es (exprs ps f) 0 maxDepth s (row-well (anyBinder size) ps f (h .1 .1) (h .4)) (row-named ps f (i .0) (i .1)) k))))
+  fine-C (return a b ps) s h g k =
+      fine-Es (exprs ps done) 0 maxDepth (leave s (enter returnScope a b s)) (row-well (anyBinder size) ps done (h .1 .1) (done-well (anyBinder size))) (row-named ps done g nil) (cons tt k)
+  fine-C (unwind a b v e) s h g k = cons tt (cons tt k)
+  fine-C (call a b es ys) s h g k = fine-yields a b ys (enter callScope a b s) (h .2 .1) (cons tt k)
 
-  fine-Cs : (ts : List Clause) (vis : List Seen) (c n : ℕ) → Each (WellClause (anyBinder size)) ts → Named (flatMap bindersC ts) → Says (clausesLog w ts vis c n)
-  unfolding clausesLog Each flatMap
-  fine-Cs [] vis c n h g = nil
-  fine-Cs (t ∷ ts) vis c n h g =
-      let i = cut (bindersC t) g in
-      join (fine-C t vis c n (h .0) (i .0)) (fine-Cs ts (visAfter w t vis) (curAfter w t vis c n) (n + opened (clauseLog w t vis c n)) (h .1) (i .1))
+  fine-Cs : (ts : List Clause) (s : State) → Each (WellClause (anyBinder size)) ts → Named (flatMap bindersC ts) → Says s → Says (clauses w ts s)
+  unfolding clauses Each flatMap
+  fine-Cs [] s h g k = k
+  fine-Cs (t ∷ ts) s h g k = let i = cut (bindersC t) g in fine-Cs ts (clause w t s) (h .1) (i .1) (fine-C t s (h .0) (i .0) k)
 
-  fine-As : (ts : List Arm) (n : ℕ) → Each (WellArm (anyBinder size)) ts → Named (flatMap bindersA ts) → Says (armsLog w ts n)
-  unfolding armsLog Each WellArm WellMany flatMap bindersA
-  fine-As [] n h g = nil
-  fine-As (arm a b cs ∷ ts) n h g =
+  fine-As : (ts : List Arm) (s : State) → Each (WellArm (anyBinder size)) ts → Named (flatMap bindersA ts) → Says s → Says (arms w ts s)
+  unfolding arms Each WellArm WellMany flatMap bindersA
+  fine-As [] s h g k = k
+  fine-As (arm a b cs ∷ ts) s h g k =
       let i = cut (flatMap bindersC cs) g in
-      join (fine-Cs cs [] 0 n (h .0 .1 .1) (i .0)) (fine-As ts (n + opened (clausesLog w cs [] 0 n)) (h .1) (i .1))
+      fine-As ts (clauses w cs (standing [] 0 s)) (h .1) (i .1) (fine-Cs cs (standing [] 0 s) (h .0 .1 .1) (i .0) k)
 
 pub resolved : (warns : Bool) (st : Statement) → WellStatement st → All (Pushed (st .names)) (findsIn (log warns st))
-unfolding log worldOf
+unfolding log run start
 resolved warns st h =
-    let w = worldOf warns st in
     let i = cut (flatMap bindersC (st .head)) (names-in (length (st .names)) (st .bindings) (h .bindings) _ (h .bound)) in
-    fine-finds (cons tt (join (fine-Cs w (st .head) [] 0 0 (h .head) (i .0)) (fine-As w (st .arms) (opened (clausesLog w (st .head) [] 0 0)) (h .arms) (i .1))))
+    let s = clauses (worldOf warns st) (st .head) (start st) in
+    fine-finds (all-reverse (fine-As warns st (st .arms) s (h .arms) (i .1) (fine-Cs warns st (st .head) (start st) (h .head) (i .0) (cons tt nil))) nil)

@@ -12,7 +12,7 @@ use Rattle.expr.proofs.Inverse.{never}
 use Rattle.clauses.specs.Well.{Each}
 use Rattle.tables.specs.Row.{Row, row, rowId}
 use Rattle.sheet.specs.Write.{WellRow}
-use Rattle.resolve.specs.Resolve.{rowOf, rowName}
+use Rattle.semantics.specs.World.{rowOf, rowName}
 
 pub data All {A : Type 0} (P : A → Type 0) : List A → Type 0 where
   nil : All P []

@@ -16,8 +16,8 @@ use Rattle.sheet.specs.Statement.{Statement}
 use Rattle.sheet.specs.Read.{Sheet, accepted, then', unless, readNames, locate, readSections, readSheet, readText}
 use Rattle.sheet.specs.declared.trailer.Places.{Places}
 use Rattle.sheet.proofs.Walked.{walked}
-use Rattle.resolve.specs.Log.{Finding, finding}
-use Rattle.resolve.specs.Resolve.{isStar}
+use Rattle.semantics.specs.Log.{Finding, finding}
+use Rattle.semantics.specs.World.{starName}
 use Rattle.texts.specs.Codes.{of2007, of2008, of5010, unused, textFor}
 use Rattle.texts.specs.Texts.{textOf}
 use Rattle.texts.specs.declared.Text.{Text}
@@ -31,8 +31,8 @@ use Rattle.told.specs.Pushed.{Pushed, IsType, IsOther, unresolved, shado
 use Rattle.told.specs.Told.{messageOf, frontOf, Told}
 
 -- the name `*`, as the walk and as the message compare it
-pub star-same : (bs : List ℕ) → sameBytes bs (42 ∷ []) ≡ isStar bs
-unfolding sameBytes isStar
+pub star-same : (bs : List ℕ) → sameBytes bs (42 ∷ []) ≡ starName bs
+unfolding sameBytes starName
 star-same [] = refl
 star-same (b ∷ []) = go (eqb b 42)
   where

@@ -1,7 +1,7 @@
 -- Every finding of an accepted sheet has its message: it comes from one of the two walks, whose findings are pushes that there are, and
 -- each such push has its text.
 use Rattle.sheet.proofs.WrittenSheet.{written-sheet}
-use Rattle.checker.specs.Lists.{findings}
+use Rattle.semantics.specs.Lists.{findings}
 use Rattle.told.specs.Told.{AllTold}
 use Rattle.told.proofs.Rows.{join, member}
 use Rattle.told.proofs.Resolved.{resolved}

@@ -5,9 +5,9 @@ use mathlib.Core.Bool.{false}
 use mathlib.Core.List.{List, []}
 use lib.ListN.{length, getD}
 use Rattle.tables.specs.Row.{nodeKind, pathKind, valueKind}
-use Rattle.resolve.specs.Log.{e1001, e1002, e2007, e2008, e2011, e5010, e5011, Finding, finding}
-use Rattle.resolve.specs.Resolve.{isStar}
-use Rattle.kinds.specs.Kinds.{boolType, intType, stringType, kindType}
+use Rattle.semantics.specs.Log.{e1001, e1002, e2007, e2008, e2011, e5010, e5011, Finding, finding}
+use Rattle.semantics.specs.World.{starName}
+use Rattle.semantics.specs.Kinds.{boolType, intType, stringType, kindType}
 
 -- a type: "1 Bool .. 10 Path"
 abbrev pub IsType : ℕ → Type 0
@@ -20,7 +20,7 @@ IsOther want k = (nodeKind ≤ k) × (k ≤ valueKind) × (k ≡ want → ⊥)
 -- of a sheet with these names
 pub data Pushed (names : List (List ℕ)) : Finding → Type 0 where
   -- "E1001 comes at each visit of an Unresolved name not visible, except `*`"
-  unresolved : {x : ℕ} → x < length names → isStar (getD names x []) ≡ false → Pushed names (finding e1001 0 0 (suc x) 0 0)
+  unresolved : {x : ℕ} → x < length names → starName (getD names x []) ≡ false → Pushed names (finding e1001 0 0 (suc x) 0 0)
   -- "E1002 .. arises from a path or a yield"
   shadows : {a b x : ℕ} → x < length names → Pushed names (finding e1002 a b (suc x) 0 0)
   -- E2007: 1 arithmetic, with a Node, Relationship or Path; 2 property, with a Path

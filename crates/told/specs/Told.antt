@@ -5,8 +5,8 @@ use mathlib.Core.Bool.{Bool}
 use mathlib.Core.List.{List, _++_, List·Memᴰ}
 use Rattle.sheet.specs.Statement.{Statement}
 use Rattle.sheet.specs.Read.{Sheet, accepted, readSheet}
-use Rattle.resolve.specs.Log.{Finding, finding}
-use Rattle.checker.specs.Lists.{findings}
+use Rattle.semantics.specs.Log.{Finding, finding}
+use Rattle.semantics.specs.Lists.{findings}
 use Rattle.texts.specs.Bytes.{bytes}
 use Rattle.message.specs.Message
 use Rattle.lines.specs.Lines

@@ -6,7 +6,7 @@ use mathlib.Core.List.{List, _++_}
 use lib.ListN.{length}
 use Rattle.heads.proofs.Chain.{fact}
 use Rattle.sheet.specs.Read.{readSheet}
-use Rattle.resolve.specs.Log.{Event, findsIn}
+use Rattle.semantics.specs.Log.{Event, findsIn}
 use Rattle.checker.specs.Accepted.{kindsOf}
 use Rattle.checker.specs.Checked.{Lent}
 use Rattle.checker.proofs.Opening.{held}

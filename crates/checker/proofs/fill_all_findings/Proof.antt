@@ -6,7 +6,7 @@ use mathlib.Core.Path.{_≡_, refl, ap, sym, _∙_}
 use mathlib.Core.List.{List, _++_}
 use lib.ListN.{length, length-append}
 use Rattle.scope.specs.Flat.{entriesOf}
-use Rattle.resolve.specs.Log.{Finding, findsIn}
+use Rattle.semantics.specs.Log.{Finding, findsIn}
 use Rattle.resolve.specs.Walk.{events}
 use Rattle.kinds.specs.Walk.{findingsOf, stored, Pushed}
 use Rattle.kinds.proofs.Decoded.{decoded}

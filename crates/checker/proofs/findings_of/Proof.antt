@@ -5,7 +5,7 @@ use mathlib.Core.Path.{ap, _∙_}
 use mathlib.Core.List.{List, _++_}
 use lib.ListN.{length}
 use Rattle.sheet.specs.Read.{readSheet}
-use Rattle.resolve.specs.Log.{Event, findsIn}
+use Rattle.semantics.specs.Log.{Event, findsIn}
 use Rattle.checker.specs.Accepted.{kindsOf}
 use Rattle.checker.specs.Filled.{withFindings}
 use Rattle.checker.proofs.Opening.{held}

@@ -1,8 +1,8 @@
 -- An event of another sort adds nothing; one of this sort is an answer that is noted, found or missing by its flag.
 use borrow.Author.Needs.{needs}
 use mathlib.Core.Path.{refl}
-use Rattle.resolve.specs.Log.{found, missing}
-use Rattle.checker.specs.Lists.{notes}
+use Rattle.semantics.specs.Log.{found, missing}
+use Rattle.semantics.specs.Lists.{notes}
 use Rattle.checker.proofs.Adding.{none-added}
 use Rattle.checker.proofs.Sorts.{no-answer, one-missing, one-found}
 use Rattle.checker.proofs.lists.add_answer.Statement.{statement}

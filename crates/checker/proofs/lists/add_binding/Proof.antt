@@ -1,6 +1,6 @@
 -- An event of another sort adds nothing; one of this sort is a binding that is put.
 use borrow.Author.Needs.{needs}
-use Rattle.checker.specs.Lists.{puts}
+use Rattle.semantics.specs.Lists.{puts}
 use Rattle.checker.proofs.Adding.{none-added}
 use Rattle.checker.proofs.Sorts.{no-binding, one-binding}
 use Rattle.checker.proofs.lists.add_binding.Statement.{statement}

@@ -3,9 +3,9 @@ use Prim.Native.Nat.{_-_}
 use native.Mathlib.Omega.{arith}
 use mathlib.Core.List.{[], flatMap}
 use mathlib.Core.Path.{refl}
-use Rattle.resolve.specs.Log.{bindsIn}
+use Rattle.semantics.specs.Log.{bindsIn}
+use Rattle.semantics.specs.Lists.{puts}
 use Rattle.resolve.specs.Walk.{events}
-use Rattle.checker.specs.Lists.{puts}
 use Rattle.checker.specs.Filled.{bindingWords, withBindings}
 use Rattle.checker.proofs.Adding.{Going, begin, turn, finish, next-binding}
 use Rattle.checker.proofs.lists.fill_bindings.Statement.{statement}

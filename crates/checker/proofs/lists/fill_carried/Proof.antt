@@ -3,7 +3,7 @@ use Prim.Native.Nat.{_-_}
 use native.Mathlib.Omega.{arith}
 use mathlib.Core.List.{flatMap}
 use mathlib.Core.Path.{refl}
-use Rattle.resolve.specs.Log.{carryOf, carriesIn}
+use Rattle.semantics.specs.Log.{carryOf, carriesIn}
 use Rattle.resolve.specs.Walk.{events}
 use Rattle.checker.specs.Filled.{carriedWords, withCarried}
 use Rattle.checker.proofs.Adding.{Going, begin, turn, finish, next-event}

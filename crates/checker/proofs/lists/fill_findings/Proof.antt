@@ -3,7 +3,7 @@ use Prim.Native.Nat.{_-_}
 use native.Mathlib.Omega.{arith}
 use mathlib.Core.List.{flatMap}
 use mathlib.Core.Path.{refl}
-use Rattle.resolve.specs.Log.{findOf, findsIn}
+use Rattle.semantics.specs.Log.{findOf, findsIn}
 use Rattle.resolve.specs.Walk.{events}
 use Rattle.kinds.specs.Walk.{findingWords}
 use Rattle.checker.specs.Filled.{withFindings}

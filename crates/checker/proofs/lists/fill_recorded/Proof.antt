@@ -3,9 +3,9 @@ use Prim.Native.Nat.{_-_}
 use native.Mathlib.Omega.{arith}
 use mathlib.Core.List.{[], flatMap}
 use mathlib.Core.Path.{refl}
-use Rattle.resolve.specs.Log.{answersIn}
+use Rattle.semantics.specs.Log.{answersIn}
+use Rattle.semantics.specs.Lists.{notes}
 use Rattle.resolve.specs.Walk.{events}
-use Rattle.checker.specs.Lists.{notes}
 use Rattle.checker.specs.Filled.{recordedWords, withRecorded}
 use Rattle.checker.proofs.Adding.{Going, begin, turn, finish, next-answer}
 use Rattle.checker.proofs.lists.fill_recorded.Statement.{statement}

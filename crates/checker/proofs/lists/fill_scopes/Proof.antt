@@ -3,7 +3,7 @@ use Prim.Native.Nat.{_-_}
 use native.Mathlib.Omega.{arith}
 use mathlib.Core.List.{flatMap}
 use mathlib.Core.Path.{refl}
-use Rattle.resolve.specs.Log.{scopeOf, scopesIn}
+use Rattle.semantics.specs.Log.{scopeOf, scopesIn}
 use Rattle.resolve.specs.Walk.{events}
 use Rattle.checker.specs.Filled.{scopeWords, withScopes}
 use Rattle.checker.proofs.Adding.{Going, begin, turn, finish, next-event}

@@ -3,7 +3,7 @@ use Prim.Native.Nat.{ℕ, suc, _+_, _-_, _<_}
 use borrow.Author.Needs.{needs}
 use native.Mathlib.Omega.{arith}
 use borrow.Fn.Kinds.{In}
-use mathlib.Core.Path.{_≡_, refl, ap, sym, _∙_}
+use mathlib.Core.Path.{_≡_, refl, ap, _∙_}
 use mathlib.Core.Bool.{true}
 use mathlib.Core.List.{List}
 use lib.ListN.{length, drop}
@@ -17,10 +17,10 @@ use Rattle.heads.proofs.Chain.{fact}
 use Rattle.expr.specs.Tree.{Expr}
 use Rattle.expr.specs.Read.{Reader, afterForm}
 use Rattle.expr.proofs.Accepted.{room-left, expr-is, expr-none, pattern-fine, kids-fine, marks-fine, after-bare}
-use Rattle.resolve.specs.Resolve.{World}
+use Rattle.semantics.specs.World.{World}
 use Rattle.kinds.specs.Walk.{settingOf, pairOf, worldAt, tablesAt, readerAt, found, ofE}
 use Rattle.kinds.proofs.Walks.{and-then, told, headed, kept, ready-on}
-use Rattle.kinds.proofs.Found.{own-few, settings-at, after-found}
+use Rattle.kinds.proofs.Found.{own-few, after-found}
 use Rattle.heads.proofs.read_form.Reads as read-form
 use Rattle.kinds.proofs.findings.check_head.Reads as check-head
 use Rattle.heads.proofs.has_pattern.Reads as has-pattern
@@ -160,7 +160,7 @@ holds t =
     let s = start t h in
     let w = world t s in
     let m = rw (c .before .before .before .before .items-of .ensures) at (c .before .before .check-marks .ensures) in
-    let q = l .before .before .before .before .before .settings-of .ensures ∙ sym (settings-at w (s .args .e .ident) refl (form t h) (settingOf (s .args .setting))) in
+    let q = l .before .before .before .before .before .settings-of .ensures in
     told
     (and-then (checked d) (and-then (patterned k) (and-then (kidded l) m)))
     (ap bare (whole t h) ∙ after-bare (by t s) (inner t s) (form t h) (rest t h) (fine t h) _ (patterned k .rest) _ (kidded l .rest) _ (m .rest))

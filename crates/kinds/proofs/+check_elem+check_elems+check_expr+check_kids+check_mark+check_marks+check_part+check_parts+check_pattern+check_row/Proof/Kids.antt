@@ -9,7 +9,7 @@ use Rattle.words.specs.Words.{words}
 use Rattle.heads.specs.Got.{bare}
 use Rattle.expr.specs.Read.{noMore, times}
 use Rattle.expr.proofs.Repeats.{kidsOfRow}
-use Rattle.kinds.specs.Kinds.{general, kindsE}
+use Rattle.semantics.specs.Kinds.{general, kindsE}
 use Rattle.kinds.specs.Walk.{settingOf, worldAt, readerAt, found, ofE, ofEs}
 use Rattle.kinds.proofs.Found.{general-is}
 use Rattle.kinds.proofs.Walks.{Going, begin, turn, first-fine, finish, kept, ready-on}

@@ -9,7 +9,7 @@ use Rattle.words.specs.Words.{words}
 use Rattle.heads.specs.Got.{bare}
 use Rattle.expr.specs.Read.{marks}
 use Rattle.expr.proofs.Repeats.{marksOfRow}
-use Rattle.kinds.specs.Kinds.{general, kindsE}
+use Rattle.semantics.specs.Kinds.{general, kindsE}
 use Rattle.kinds.specs.Walk.{worldAt, readerAt, found, ofEs}
 use Rattle.kinds.proofs.Walks.{Going, begin, turn, first-fine, finish, kept, ready-on}
 use Rattle.kinds.proofs.Split.{plain-join}

@@ -12,8 +12,8 @@ use Rattle.heads.specs.Answer.{Ans}
 use Rattle.heads.proofs.Chain.{fact}
 use Rattle.heads.specs.declared.Part.{Part}
 use Rattle.expr.proofs.Accepted.{part-longer, elems-fine, part-bare, part-none}
-use Rattle.resolve.specs.Resolve.{World}
-use Rattle.kinds.specs.Kinds.{misplaced, rowFor}
+use Rattle.semantics.specs.World.{World}
+use Rattle.semantics.specs.Kinds.{misplaced, rowFor}
 use Rattle.kinds.specs.Walk.{worldAt, tablesAt, readerAt, Walks}
 use Rattle.kinds.proofs.Walks.{and-then, told, kept, ready-on}
 use Rattle.kinds.proofs.Steps.{placed, part-found}

@@ -10,7 +10,7 @@ use Rattle.words.proofs.Words.{length-words}
 use Rattle.heads.specs.Got.{bare}
 use Rattle.expr.specs.Read.{maybePattern}
 use Rattle.expr.proofs.Accepted.{pattern-room, pattern-is}
-use Rattle.kinds.specs.Kinds.{kindsE, kindsS}
+use Rattle.semantics.specs.Kinds.{kindsE, kindsS}
 use Rattle.kinds.specs.Walk.{worldAt, tablesAt, readerAt, found}
 use Rattle.kinds.proofs.Walks.{stands, and-then, told, kept, ready-on}
 use Rattle.words.proofs.word.Reads as word

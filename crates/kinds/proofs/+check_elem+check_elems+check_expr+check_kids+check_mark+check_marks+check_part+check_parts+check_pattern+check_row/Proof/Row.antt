@@ -11,7 +11,7 @@ use Rattle.words.proofs.Words.{length-words}
 use Rattle.heads.specs.Got.{bare}
 use Rattle.expr.specs.Read.{noMore, times}
 use Rattle.expr.proofs.Repeats.{kidsOfRow}
-use Rattle.kinds.specs.Kinds.{general, kindsE}
+use Rattle.semantics.specs.Kinds.{general, kindsE}
 use Rattle.kinds.specs.Walk.{worldAt, tablesAt, readerAt, found, ofE, ofEs}
 use Rattle.kinds.proofs.Walks.{Going, begin, turn, pass, first-fine, finish, kept, ready-on}
 use Rattle.kinds.proofs.Quiet.{Passed, passed, passed-less}

@@ -8,8 +8,8 @@ use Rattle.heads.specs.Got.{bare, counted}
 use Rattle.expr.proofs.Accepted.{refused, two-first, two-second, two-bare}
 use Rattle.clauses.specs.Tree.{call}
 use Rattle.clauses.specs.Read.{readYield, countedExprs}
-use Rattle.resolve.specs.Log.{Finding}
-use Rattle.kinds.specs.Kinds.{general, kindsC}
+use Rattle.semantics.specs.Log.{Finding}
+use Rattle.semantics.specs.Kinds.{general, kindsC}
 use Rattle.kinds.specs.Walk.{worldAt, tablesAt, found, ofEs}
 use Rattle.kinds.proofs.Walks.{and-then, told, kept, stands}
 use Rattle.kinds.proofs.Alike.{two-found, ready-as}

@@ -7,7 +7,7 @@ use lib.ListN.{length, getD, drop}
 use Rattle.words.specs.Words.{words}
 use Rattle.words.proofs.Words.{length-words}
 use Rattle.heads.proofs.Chain.{fact}
-use Rattle.kinds.specs.Kinds.{kindsC}
+use Rattle.semantics.specs.Kinds.{kindsC}
 use Rattle.kinds.specs.Walk.{worldAt, tablesAt}
 use Rattle.kinds.proofs.Alike.{begin-ready, begin-done, alike-ready, alike-done}
 use Rattle.kinds.proofs.Clauses.{clause-begins, start-begins, end-begins, body-same}

@@ -4,10 +4,10 @@ use lib.ListN.{drop}
 use Rattle.words.specs.Words.{words}
 use Rattle.heads.specs.Got.{bare, many}
 use Rattle.expr.proofs.Repeats.{manyOfRow}
+use Rattle.semantics.specs.Kinds.{kindsC, kinds}
 use Rattle.kinds.proofs.Walks.{Going, begin, turn, first-fine, finish, kept, ready-on}
 use mathlib.Core.Path.{refl}
 use Rattle.clauses.specs.Read.{readClause}
-use Rattle.kinds.specs.Kinds.{kindsC, kinds}
 use Rattle.kinds.specs.Walk.{worldAt, tablesAt, found}
 use Rattle.kinds.proofs.clause.check_kinds.Statement.{statement}
 use Rattle.kinds.proofs.clause.check_kinds.Tie as tie

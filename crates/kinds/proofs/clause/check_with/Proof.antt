@@ -8,7 +8,7 @@ use Rattle.heads.specs.Got.{bare, counted}
 use Rattle.expr.proofs.Accepted.{two-first, two-second, two-bare}
 use Rattle.clauses.specs.Tree.{with'}
 use Rattle.clauses.specs.Read.{filterExprs, readProjection}
-use Rattle.kinds.specs.Kinds.{general, kindsC}
+use Rattle.semantics.specs.Kinds.{general, kindsC}
 use Rattle.kinds.specs.Walk.{worldAt, tablesAt, found, ofEs, ofProjections}
 use Rattle.kinds.proofs.Walks.{and-then, told, kept, ready-on}
 use Rattle.kinds.proofs.Alike.{two-found, ready-as}

@@ -1,6 +1,6 @@
 -- Each arm is the definition's.
 use borrow.Author.Needs.{needs}
-use Rattle.kinds.specs.Kinds.{atType}
+use Rattle.semantics.specs.Kinds.{atType}
 use Rattle.kinds.proofs.Store.{none-pushed}
 use Rattle.kinds.proofs.findings.at_type.Statement.{statement}
 use Rattle.kinds.proofs.findings.at_type.Tie as tie

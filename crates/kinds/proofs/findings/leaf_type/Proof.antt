@@ -2,7 +2,7 @@
 use native.Mathlib.Omega.{arith}
 use mathlib.Core.Path.{sym}
 use lib.ListN.{List·getD-eq-default}
-use Rattle.kinds.specs.Kinds.{leafTypes}
+use Rattle.semantics.specs.Kinds.{leafTypes}
 use Rattle.kinds.proofs.findings.leaf_type.Statement.{statement}
 use Rattle.kinds.proofs.findings.leaf_type.Tie as tie
 

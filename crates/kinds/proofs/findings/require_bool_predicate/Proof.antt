@@ -1,7 +1,7 @@
 -- The tests decide.
 use borrow.Author.Needs.{needs}
 use borrow.Author.Tests.{le-leb, lt-leb}
-use Rattle.kinds.specs.Kinds.{atType}
+use Rattle.semantics.specs.Kinds.{atType}
 use Rattle.kinds.proofs.Store.{none-pushed}
 use Rattle.kinds.proofs.findings.require_bool_predicate.Statement.{statement}
 use Rattle.kinds.proofs.findings.require_bool_predicate.Tie as tie

@@ -1,7 +1,7 @@
 -- The row of the variable, if there is one.
 use borrow.Author.Needs.{needs}
 use mathlib.Core.Path.{refl}
-use Rattle.kinds.specs.Kinds.{rowFor}
+use Rattle.semantics.specs.Kinds.{rowFor}
 use Rattle.kinds.proofs.findings.row_for.Statement.{statement}
 use Rattle.kinds.proofs.findings.row_for.Tie as tie
 

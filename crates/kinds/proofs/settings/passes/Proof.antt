@@ -1,6 +1,6 @@
 -- Each arm is the definition's.
 use borrow.Author.Needs.{needs}
-use Rattle.kinds.specs.Kinds.{passes}
+use Rattle.semantics.specs.Kinds.{passes}
 use Rattle.kinds.proofs.settings.passes.Statement.{statement}
 use Rattle.kinds.proofs.settings.passes.Tie as tie
 

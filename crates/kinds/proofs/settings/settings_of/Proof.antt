@@ -1,6 +1,6 @@
 -- Each arm is the definition's.
 use borrow.Author.Needs.{needs}
-use Rattle.kinds.specs.Kinds.{settings}
+use Rattle.semantics.specs.Kinds.{settings}
 use Rattle.kinds.proofs.settings.settings_of.Statement.{statement}
 use Rattle.kinds.proofs.settings.settings_of.Tie as tie
 

@@ -1,6 +1,7 @@
 -- What `lookup` finds, under the name.
 use borrow.Author.Needs.{needs}
-use Rattle.resolve.specs.Resolve.{variable, ifSome}
+use Rattle.semantics.specs.World.{variable}
+use Rattle.semantics.specs.Resolve.{ifSome}
 use Rattle.logs.proofs.with.carry_name.Statement.{statement}
 use Rattle.logs.proofs.with.carry_name.Tie as tie
 

@@ -1,7 +1,7 @@
 -- The row that is found has the name, which the code has with 1 added; where there is none, nothing is carried.
 use borrow.Author.Needs.{needs}
 use native.Mathlib.Omega.{arith}
-use Rattle.resolve.specs.Resolve.{ifRow}
+use Rattle.semantics.specs.Resolve.{ifRow}
 use Rattle.resolve.proofs.Facts.{row-is, row-no}
 use Rattle.logs.proofs.Carrying.{row-carried}
 use Rattle.logs.proofs.with.carry_var.Statement.{statement}

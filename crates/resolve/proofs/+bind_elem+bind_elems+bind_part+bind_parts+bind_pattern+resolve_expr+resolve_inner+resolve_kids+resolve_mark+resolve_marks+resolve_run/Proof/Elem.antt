@@ -17,7 +17,7 @@ use Rattle.heads.specs.declared.Elem.{Elem}
 use Rattle.expr.specs.Tree.{Exprs}
 use Rattle.expr.specs.Read.{Reader, noMore, times, elemOne}
 use Rattle.expr.proofs.Accepted.{elem-is, property-fine, elem-bare, elem-none, elem-longer}
-use Rattle.resolve.specs.Resolve.{variable}
+use Rattle.semantics.specs.World.{variable}
 use Rattle.resolve.specs.Walk.{Facts, State, after, stateOf, factsAt, tablesAt, readerAt, bindElem, runE, runEs, runS, runElem}
 use Rattle.resolve.proofs.Adds.{bind-adds, exprs-adds}
 use Rattle.resolve.proofs.Stacks.{elem-same}

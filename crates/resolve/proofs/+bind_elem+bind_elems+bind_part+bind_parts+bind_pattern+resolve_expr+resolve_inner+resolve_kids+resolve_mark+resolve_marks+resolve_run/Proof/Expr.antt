@@ -22,8 +22,8 @@ use Rattle.expr.specs.Read.{Reader, noMore, times, marks, pattern, afterForm}
 use Rattle.expr.proofs.Split.{joinE}
 use Rattle.expr.proofs.Heads.{form-gives}
 use Rattle.expr.proofs.Accepted.{ok-left, room-left, expr-is, expr-none, two-first, two-second, two-bare}
-use Rattle.resolve.specs.Resolve.{lookup, rowOf, recordVar}
-use Rattle.resolve.specs.Walk.{Facts, State, say, above, visible, within, after, stateOf, factsAt, tablesAt, readerAt, usesVar, usesName, runE, runEs, runInner, innerOf}
+use Rattle.semantics.specs.World.{rowOf}
+use Rattle.resolve.specs.Walk.{Facts, State, say, above, visible, within, after, stateOf, factsAt, tablesAt, readerAt, usesVar, usesName, runE, runEs, runInner, innerOf, lookup, recordVar}
 use Rattle.resolve.specs.Walk as walk
 use Rattle.resolve.specs.declared.Turn.{Turn}
 use Rattle.resolve.specs.declared.Turn.the-variants as turns

@@ -17,7 +17,7 @@ use Rattle.heads.specs.declared.Part.{Part}
 use Rattle.expr.specs.Tree.{Steps, part}
 use Rattle.expr.specs.Read.{Reader, noSteps, elems, partFull}
 use Rattle.expr.proofs.Accepted.{part-is, elems-fine, part-bare, part-none, part-longer}
-use Rattle.resolve.specs.Resolve.{variable}
+use Rattle.semantics.specs.World.{variable}
 use Rattle.resolve.specs.Walk.{Facts, State, after, stateOf, factsAt, tablesAt, readerAt, bindPath, runE, runEs, runS, runElem}
 use Rattle.resolve.proofs.Adds.{path-adds, steps-adds}
 use Rattle.resolve.proofs.Stacks.{path-same}

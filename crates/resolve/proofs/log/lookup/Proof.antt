@@ -3,8 +3,8 @@ use Prim.Native.Nat.{_≤_}
 use native.Mathlib.Omega.{arith}
 use mathlib.Core.Path.{_≡_, refl, sym, _∙_}
 use borrow.Author.Tests.{eq-eqb, ne-eqb}
-use Rattle.resolve.specs.Resolve.{lookup, variable}
-use Rattle.resolve.specs.Walk.{above, seens}
+use Rattle.semantics.specs.World.{variable}
+use Rattle.resolve.specs.Walk.{above, seens, lookup}
 use Rattle.resolve.proofs.Lookups.{look-more, look-none}
 use Rattle.resolve.proofs.log.lookup.Statement.{statement}
 use Rattle.resolve.proofs.log.lookup.Tie as tie

@@ -3,7 +3,7 @@ use borrow.Author.Needs.{needs}
 use native.Mathlib.Omega.{arith}
 use mathlib.Core.List.{[]}
 use Rattle.words.specs.Words.{words}
-use Rattle.resolve.specs.Resolve.{variable}
+use Rattle.semantics.specs.World.{variable}
 use Rattle.resolve.specs.Walk.{factsAt, stateOf, bindElem, bindUnless, visible, nameIn}
 use Rattle.resolve.proofs.Moved.{stays-put, elem-grows, log-length}
 use Rattle.resolve.proofs.names.bind_new.Statement.{statement}

@@ -1,7 +1,7 @@
 -- The name of a path is bound anew; where it has no variable, nothing is done.
 use borrow.Author.Needs.{needs}
 use native.Mathlib.Omega.{arith}
-use Rattle.resolve.specs.Resolve.{variable}
+use Rattle.semantics.specs.World.{variable}
 use Rattle.resolve.specs.Walk.{bindPath, nameIn}
 use Rattle.resolve.proofs.Facts.{name-small}
 use Rattle.resolve.proofs.Moved.{stays-put}

@@ -1,7 +1,7 @@
 -- The kind of the row that is found, and Value where there is none.
 use borrow.Author.Needs.{needs}
 use mathlib.Core.Path.{sym}
-use Rattle.resolve.specs.Resolve.{rowKind}
+use Rattle.semantics.specs.World.{rowKind}
 use Rattle.resolve.proofs.Facts.{row-is, row-no}
 use Rattle.resolve.proofs.names.kind_of.Statement.{statement}
 use Rattle.resolve.proofs.names.kind_of.Tie as tie

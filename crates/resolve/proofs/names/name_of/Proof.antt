@@ -1,7 +1,7 @@
 -- The name of the row that is found, which the code has with 1 added, and 0 where there is none.
 use borrow.Author.Needs.{needs}
 use native.Mathlib.Omega.{arith}
-use Rattle.resolve.specs.Resolve.{rowName}
+use Rattle.semantics.specs.World.{rowName}
 use Rattle.resolve.proofs.Facts.{row-is, row-no}
 use Rattle.resolve.proofs.names.name_of.Statement.{statement}
 use Rattle.resolve.proofs.names.name_of.Tie as tie

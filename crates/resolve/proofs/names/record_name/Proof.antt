@@ -7,7 +7,7 @@ use mathlib.Core.Path.{_≡_, sym, _∙_}
 use mathlib.Core.Bool.{true}
 use borrow.Author.Tests.{eq-eqb, ne-eqb}
 use lib.Dec.{eqb}
-use Rattle.resolve.specs.Resolve.{variable}
+use Rattle.semantics.specs.World.{variable}
 use Rattle.resolve.specs.Walk.{usesName, kindIn}
 use Rattle.resolve.proofs.Decode.{said-then}
 use Rattle.resolve.proofs.Facts.{id-is}

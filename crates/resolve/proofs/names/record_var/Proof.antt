@@ -3,7 +3,7 @@ use borrow.Author.Needs.{needs}
 use native.Mathlib.Omega.{arith}
 use mathlib.Core.Path.{ap}
 use lib.ListN.{length}
-use Rattle.resolve.specs.Resolve.{recordVar}
+use Rattle.resolve.specs.Walk.{recordVar}
 use Rattle.resolve.proofs.Decode.{none-said}
 use Rattle.resolve.proofs.Facts.{row-is, row-no}
 use Rattle.resolve.proofs.names.record_var.Statement.{statement}

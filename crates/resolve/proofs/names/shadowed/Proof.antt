@@ -7,8 +7,8 @@ use mathlib.Core.Path.{_≡_, refl}
 use mathlib.Core.Bool.{false}
 use mathlib.Core.List.{[]}
 use mathlib.Core.Option.{Option, none, some}
-use Rattle.resolve.specs.Resolve.{lookup, again, variable}
-use Rattle.resolve.specs.Walk.{above, seens}
+use Rattle.semantics.specs.World.{variable}
+use Rattle.resolve.specs.Walk.{above, seens, lookup, again}
 use Rattle.resolve.proofs.Decode.{none-said}
 use Rattle.resolve.proofs.names.shadowed.Statement.{statement}
 use Rattle.resolve.proofs.names.shadowed.Tie as tie

@@ -1,0 +1,63 @@
+-- What reading and walking a whole sheet in one leaves: the refusal, or the events and findings of the definition's two walks, in words.
+use Prim.Native.Nat.{ℕ, _+_, _*_, _/_, _%_, _≤_}
+use mathlib.Core.Path.{_≡_}
+use mathlib.Core.Bool.{Bool, true}
+use mathlib.Core.List.{List, [], map, reverse}
+use lib.Dec.{eqb}
+use lib.ListN.{length, getD, take}
+use Rattle.words.specs.Words.{words}
+use Rattle.words.specs.Fnv.{useId}
+use Rattle.tables.specs.Answer.{namesIn}
+use Rattle.sheet.specs.Trailer.{placesOf}
+use Rattle.sheet.specs.Statement.{Statement}
+use Rattle.sheet.specs.Read.{accepted, refused, readSheet}
+use Rattle.semantics.specs.World.{bytesOf, worldOf}
+use Rattle.semantics.specs.Resolve.{run}
+use Rattle.semantics.specs.Kinds.{kinds}
+use Rattle.steps.specs.Memory.{events, findings, kept}
+use Rattle.sheet_walk.specs.declared.Ran.{Ran}
+use Rattle.sheet_walk.specs.declared.Ran.the-variants as ran
+
+-- A choice as a number: 1 where warnings are on, 2 where every event is wanted and not findings alone.
+abbrev pub warnsBy : ℕ → Bool
+warnsBy choice = eqb (choice % 2) 1
+
+abbrev pub wantsBy : ℕ → Bool
+wantsBy choice = eqb (choice / 2 % 2) 1
+
+-- the use id of a statement's name
+abbrev pub idOf : Statement → ℕ → ℕ
+idOf st x = useId (bytesOf st x)
+
+-- An accepted sheet: where its names stand, their use ids, and what the walks said, newest first.
+pub record RanTo (choice : ℕ) (s places ids found : List ℕ) (said told : ℕ) : Type 0 where
+  pub statement : Statement
+  pub read : readSheet s ≡ accepted statement
+  pub names : namesIn (take (placesOf (words s) .rows * 4) s) (placesOf (words s) .names) places ≡ statement .names
+  pub uses : take (placesOf (words s) .names) ids ≡ map useId (statement .names)
+  pub log : events (idOf statement) said found ≡ kept (wantsBy choice) (run (warnsBy choice) statement .log)
+  pub kinds : findings told found ≡ reverse (kinds (worldOf (warnsBy choice) statement) (statement .head))
+  pub few : said + told ≤ length (words s)
+  pub many : placesOf (words s) .names ≤ length places
+  pub wide : (said + told) * 6 ≤ length found
+
+abbrev pub RanAs : ℕ → (s places ids found : List ℕ) → Ran → Type 0
+RanAs choice s places ids found (ran.Is said told) = RanTo choice s places ids found said told
+RanAs choice s places ids found (ran.Refused c) = readSheet s ≡ refused c
+
+-- what it asks of the lent words, w being how many words the sheet has: all numbers are 0 at first where it matters
+pub record Scratch (w : ℕ) (places ids tab vis found held : List ℕ) : Type 0 where
+  pub places : w ≤ length places
+  pub ids : w ≤ length ids
+  pub tab : 16 + w ≤ length tab
+  pub clear : (i : ℕ) → getD tab i 0 ≡ 0
+  pub vis : 4 * (w + 2) ≤ 3 * length vis
+  pub unseen : (i : ℕ) → getD vis i 0 ≡ 0
+  pub found : w * 6 ≤ length found
+  pub held : w ≤ length held
+
+pub record Runs (choice : ℕ) (s places ids found : List ℕ) (places' ids' found' : List ℕ) (r : Ran) : Type 0 where
+  pub placed : length places' ≡ length places
+  pub used : length ids' ≡ length ids
+  pub wrote : length found' ≡ length found
+  pub ran : RanAs choice s places' ids' found' r

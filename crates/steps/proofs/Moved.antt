@@ -1,0 +1,168 @@
+-- Laws of what is opened, bound and noted: a scope (`enters`), a name (`binds-in`, `names`), a name that its scope binds already (`anew`) or
+-- that is not visible (`new-bound`, `new-idle`), and a binder's row (`noted-idle`, `noted-lost`).
+use Prim.Native.Nat.{ℕ, zero, suc, _+_, _*_, _<_, _≤_}
+use native.Mathlib.Numerals.{add-one}
+use native.Mathlib.Omega.{arith}
+use mathlib.Core.Path.{_≡_, refl, ap, sym, _∙_}
+use mathlib.Core.Bool.{Bool, true, false, _&&_}
+use mathlib.Core.List.{List, [], _∷_}
+use mathlib.Core.Option.{Option, none, some}
+use lib.Dec.{eqb}
+use lib.ListN.{length, getD, set, drop}
+use Rattle.scope.specs.Graph.{scope}
+use Rattle.expr.specs.Binders.{allKnown}
+use Rattle.tables.specs.Row.{Row, row}
+use Rattle.semantics.specs.Log.{finding, bound, Event, open', bind, find}
+use Rattle.semantics.specs.World.{World}
+use Rattle.semantics.specs.Resolve.{State, seen, lookup, say, sayIf, enter, bindName, bindAnew, bindNew, binds}
+use Rattle.fused.specs.Fused.{Both, isSome, noting}
+use Rattle.visible.specs.Visible.{seens, Descends, Tabled, Bound}
+use Rattle.visible.proofs.Names.{zero-unseen, unseen-zero, descends-above}
+use Rattle.steps.specs.Memory.{atOf, topOf, curOf, lastOf, saidOf, toldOf, lostOf, heldOf, slotsIn, wantsIn, warnsIn, worldAt}
+use Rattle.steps.specs.Hold.{Fits, Holds, Costs, Ready, SaysIf, onNames, shown}
+use Rattle.steps.specs.declared.row.Row.the-variants as row'
+use Rattle.steps.proofs.Held.{Numbers, unset, store, refit, reframe, idle-step, then-steps, instead, says-if, said-numbers, lower}
+use Rattle.steps.proofs.Shown.{is-some, is-none}
+
+-- what m holds after an event that may be said
+pub if-numbers : {t : Bool} {m found m1 found1 : List ℕ} {tag a b c d x : ℕ} → length m ≡ 64 → SaysIf t tag a b c d x m found m1 found1 → Numbers m m1 (atOf m) (topOf m) (curOf m) (lastOf m) (saidOf m1) (toldOf m) (lostOf m) (heldOf m)
+if-numbers {t = true} size p =
+    let q = said-numbers size (p .yes refl) in
+    record { size = q .size; at = q .at; top = q .top; cur = q .cur; last = q .last; said = refl; told = q .told; lost = q .lost; held = q .held; levels = q .levels }
+if-numbers {t = false} size p = rw (p .no refl .0) unset
+
+-- a scope
+abbrev opened : State → State
+opened s = record { visible = s .visible; cur = suc (s .last); last = suc (s .last); log = s .log }
+
+opens : {ws tab m vis found : List ℕ} → length m ≡ 64 → Costs 0 1 ws tab m vis found (set (set m 3 (lastOf m + 1)) 2 (lastOf m + 1)) vis found (λ id. onNames opened)
+opens {ws} {tab} {m} {vis} {found} size =
+    let q = store 2 (lastOf m + 1) (omega arith) size (store 3 (lastOf m + 1) (omega arith) size (unset {m = m})) in
+    record {
+      at = q .at;
+      sized = q .size;
+      seen = refl;
+      wrote = refl;
+      fit = λ i k f. refit f q refl refl (f .tabled) (descends-above (lastOf m + 1) (curOf m) (seens (slotsIn tab) (topOf m) vis) (omega (arith, f .cur)) (f .descends)) (omega arith) (omega (arith, f .last)) (omega (arith, f .count)) (omega (arith, f .stack));
+      frame = reframe q (omega arith) (omega arith) refl;
+      goes = λ id s h.
+          record {
+            visible = rw (q .top) (h .visible);
+            cur = q .cur ∙ add-one (lastOf m) ∙ ap suc (h .last);
+            last = q .last ∙ add-one (lastOf m) ∙ ap suc (h .last);
+            log = rw (q .said) (h .log);
+            kinds = rw (q .told) (h .kinds);
+            known = rw (q .lost) (h .known);
+          };
+    }
+
+pub enters : {ws tab m vis found m1 found1 : List ℕ} {k a b : ℕ} → length m ≡ 64 → SaysIf (wantsIn tab) 1 k (curOf m + 1) a b 0 m found m1 found1 →
+    Costs 1 1 ws tab m vis found (set (set m1 3 (lastOf m1 + 1)) 2 (lastOf m1 + 1)) vis found1 (λ id. onNames (enter k a b))
+enters {ws} {tab} {m} {vis} {found} {m1} {found1} {k} {a} {b} size p =
+    let x : Costs 1 0 ws tab m vis found m1 vis found1 (λ id. onNames (λ s. say (open' (scope k (some (s .cur)) a b)) s)) = instead _ (says-if size p (λ id l. refl)) (λ id s h. rw (add-one (curOf m), h .cur)) in
+    then-steps x (opens (x .sized ∙ size))
+
+-- a name
+abbrev pushed : (x v : ℕ) → State → State
+pushed x v s = record { visible = seen x v (s .cur) ∷ s .visible; cur = s .cur; last = s .last; log = s .log }
+
+same-below : {n t x v c r : ℕ} {vis vis' : List ℕ} → Bound n t x v c vis vis' r → seens n t vis' ≡ seens n t vis
+unfolding seens
+same-below {n} {t} {x} {v} {c} {r} {vis} {vis'} p =
+    let z : seens n (suc t) vis' ≡ seen x v c ∷ seens n t vis = rw (p .height) at (p .same) in
+    ap (λ l. drop 1 l) z
+
+module _ (ws tab m : List ℕ) {vis vis' found : List ℕ} {x v r : ℕ} (size : length m ≡ 64) (p : Bound (slotsIn tab) (topOf m) x v (curOf m) vis vis' r) where
+  pushes : Costs 0 3 ws tab m vis found (set m 1 r) vis' found (λ id. onNames (pushed x v))
+  unfolding Descends
+  pushes =
+      let q = store 1 r (omega arith) size (unset {m = m}) in
+      record {
+        at = q .at;
+        sized = q .size;
+        seen = p .kept;
+        wrote = refl;
+        fit = λ i k f. refit f q (p .kept) refl (p .tabled) (rw (p .same) (omega arith, f .descends)) (f .cur) (omega (arith, f .last)) (omega (arith, f .count)) (omega (arith, f .stack, p .height));
+        frame = reframe q (omega (arith, p .height)) (omega arith) (same-below p);
+        goes = λ id s h.
+            record {
+              visible = rw (q .top, p .same, h .visible, h .cur);
+              cur = q .cur ∙ h .cur;
+              last = q .last ∙ h .last;
+              log = rw (q .said) (h .log);
+              kinds = rw (q .told) (h .kinds);
+              known = rw (q .lost) (h .known);
+            };
+      }
+
+-- what `bind` asks
+pub binds-in : {ws tab m vis found m1 : List ℕ} {x a c l s o b h : ℕ} → x < slotsIn tab → Ready 3 ws tab m vis found → Numbers m m1 a (topOf m) c l s o b h →
+    (x < slotsIn tab) × ((topOf m1 < 4294967295) × ((slotsIn tab + (topOf m1 + 1) * 4 ≤ length vis) × Tabled (slotsIn tab) (topOf m1) vis))
+binds-in h r q =
+    let a = r .fit .stack in
+    let b = r .fit .within in
+    let c = r .fit .names in
+    let d = r .fine .short in
+    (h, rw (q .top) (omega arith, (omega arith, r .fit .tabled)))
+
+pub names : {ws tab m vis found m1 vis1 found1 : List ℕ} {x v k r : ℕ} → length m ≡ 64 → SaysIf (wantsIn tab) 2 (curOf m) x v k 0 m found m1 found1 → Bound (slotsIn tab) (topOf m1) x v (curOf m1) vis vis1 r →
+    Costs 1 3 ws tab m vis found (set m1 1 r) vis1 found1 (λ id. onNames (bindName x v k))
+names {ws} {tab} {m} {vis} {found} {m1} {vis1} {found1} {x} {v} {k} size p q =
+    let y : Costs 1 0 ws tab m vis found m1 vis found1 (λ id. onNames (λ s. say (bind (bound (s .cur) x v k)) s)) = instead _ (says-if size p (λ id l. refl)) (λ id s h. rw (h .cur)) in
+    then-steps y (pushes ws tab m1 (y .sized ∙ size) q)
+
+-- a name that the words show as not visible, and one that they show as visible
+module _ {ws tab m vis found m1 vis1 found1 : List ℕ} {e t x v k : ℕ} (w : (ℕ → ℕ) → World) where
+  pub new-bound : lookup x (seens (slotsIn tab) (topOf m) vis) ≡ none → Costs e t ws tab m vis found m1 vis1 found1 (λ id. onNames (bindName x v k)) →
+      Costs e t ws tab m vis found m1 vis1 found1 (λ id. onNames (λ y. bindNew (w id) (lookup x (y .visible)) x v k y))
+  unfolding bindNew
+  new-bound z c = instead _ c (λ id s h. rw (← (h .visible), z))
+
+old-one : (w : World) (x v k : ℕ) (o : Option ℕ) (s : State) → (o ≡ none → ⊥) → bindNew w o x v k s ≡ s
+unfolding bindNew
+old-one w x v k none s z = absurd (z refl)
+old-one w x v k (some u) s z = refl
+
+pub new-idle : {ws tab m vis found : List ℕ} {e t x : ℕ} (v k : ℕ) (w : (ℕ → ℕ) → World) → Tabled (slotsIn tab) (topOf m) vis → x < slotsIn tab → (getD vis x 0 ≡ 0 → ⊥) →
+    Costs e t ws tab m vis found m vis found (λ id. onNames (λ y. bindNew (w id) (lookup x (y .visible)) x v k y))
+new-idle {tab = tab} {m} {vis} {x = x} v k w a b z =
+    idle-step _ (λ id s h. rw (old-one (w id) x v k (lookup x (s .names .visible)) (s .names) (λ e. z (unseen-zero a b (rw (h .visible) e)))) h)
+
+-- a binder's row: `known` stays, or falls
+known-stays : (b : Bool) (o : Option Row) → isSome o ≡ true → b ≡ b && (isSome o && true)
+known-stays true none q = sym q
+known-stays true (some r) q = refl
+known-stays false o q = refl
+
+known-falls : (b : Bool) (o : Option Row) → isSome o ≡ false → false ≡ b && (isSome o && true)
+known-falls true none q = refl
+known-falls true (some r) q = sym q
+known-falls false o q = refl
+
+module _ {ws tab m vis found : List ℕ} (v : ℕ) where
+  pub noted-idle : {x k : ℕ} → row'.Is x k ≡ shown (worldAt ws tab (λ x. x) .row v) → Costs 0 0 ws tab m vis found m vis found (λ id. noting (worldAt ws tab id) (v ∷ []))
+  unfolding allKnown
+  noted-idle q =
+      idle-step _ (λ id s h. record { visible = h .visible; cur = h .cur; last = h .last; log = h .log; kinds = h .kinds; known = h .known ∙ known-stays (s .known) (worldAt ws tab (λ x. x) .row v) (is-some (worldAt ws tab (λ x. x) .row v) q) })
+
+  pub noted-lost : length m ≡ 64 → row'.No ≡ shown (worldAt ws tab (λ x. x) .row v) → Costs 0 0 ws tab m vis found (set m 6 1) vis found (λ id. noting (worldAt ws tab id) (v ∷ []))
+  unfolding allKnown
+  noted-lost size z =
+      let q = store 6 1 (omega arith) size (unset {m = m}) in
+      record {
+        at = q .at;
+        sized = q .size;
+        seen = refl;
+        wrote = refl;
+        fit = λ i k f. refit f q refl refl (f .tabled) (f .descends) (f .cur) (omega (arith, f .last)) (omega (arith, f .count)) (omega (arith, f .stack));
+        frame = reframe q (omega arith) (omega arith) refl;
+        goes = λ id s h.
+            record {
+              visible = rw (q .top) (h .visible);
+              cur = q .cur ∙ h .cur;
+              last = q .last ∙ h .last;
+              log = rw (q .said) (h .log);
+              kinds = rw (q .told) (h .kinds);
+              known = rw (q .lost) (known-falls (s .known) (worldAt ws tab (λ x. x) .row v) (is-none (worldAt ws tab (λ x. x) .row v) z));
+            };
+      }
