@@ -1,5 +1,8 @@
 // Plain heads by their code (specs/Plain): which there are, how many parts they have, in which settings these stand, and what the head does
 // itself.
+use steps::at_type;
+use steps::use_name;
+use steps::use_var;
 use words::count;
 use words::word;
 ghost use mathlib.Core.Path.{_≡_};
@@ -121,6 +124,26 @@ pub fn pair(t: u32, code: u32, a: u32, set: u32, ident: u32) -> u32
         return 0;
     }
     t / 256 % 64
+}
+
+// What the head does itself.
+pub fn act(s: &[u8], tab: &[u32], m: &mut [u32], vis: & [u32], found: &mut [u32], code: u32, a: u32, mode: u32)
+    requires { ⌜ (0 < shape code) × ((a ≤ limit code) × ((shape code / 64 % 2 ≡ 1 → a < slotsIn (now tab)) × Ready (costOf (headed code a)) (words (now s)) (now tab) (now m) (now vis) (now found))) ⌝ }
+    ensures { λ r. ⌜ Steps (costOf (headed code a)) (words (now (s .entry))) (now (tab .entry)) (now (m .entry)) (now (vis .entry)) (now (found .entry)) (now (m .exit)) (now (vis .entry)) (now (found .exit)) (λ id. headOf (worldAt (words (now (s .entry))) (now (tab .entry)) id) (modeOf mode) (headed code a) (firstOf mode)) ⌝ }
+{
+    if code == 7 {
+        use_var(s, tab, m, vis, found, a, mode);
+        return;
+    }
+    if code == 8 {
+        if mode / 64 % 2 == 1 {
+            use_name(s, tab, m, vis, found, a);
+        }
+        return;
+    }
+    if mode / 128 % 2 == 1 {
+        at_type(s, tab, m, vis, found, mode % 8, type_by(code));
+    }
 }
 
 // The type that a plain head shows, 0 for none.
