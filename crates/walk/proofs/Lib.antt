@@ -4,3 +4,4 @@ pub mod Stage
 pub mod Modes
 pub mod Paid
 pub mod Climb
+pub mod Acts

@@ -1,14 +1,16 @@
--- What is read pays for what is done: a head has as many words as its act costs and its name is in range (`form-paid`), a part with a path and
--- an element have three (`part-paid`, `elem-paid`).
+-- What is read pays for what is done: a head has as many words as its act costs and its name is in range (`form-paid`), a part as
+-- many as its path costs (`part-paid`), an element three (`elem-paid`); a mark counts few expressions (`mark-few`).
 use Prim.Native.Nat.{ℕ, _+_, _-_, _<_, _≤_}
 use native.Mathlib.Omega.{arith}
+use mathlib.Core.Bool.{Bool, true, false, cond}
+use lib.Dec.{eqb}
 use mathlib.Core.Path.{_≡_, refl, ap, sym, _∙_}
 use mathlib.Core.List.{List, [], _∷_, _++_}
 use lib.ListN.{length, drop, length-append, length-drop}
-use Rattle.heads.specs.Got.{ok}
+use Rattle.heads.specs.Got.{ok, wordIn}
 use Rattle.heads.specs.Answer.{Ans}
 use Rattle.heads.specs.Form.{readForm, formWords}
-use Rattle.heads.specs.Head.{readPart, readElem}
+use Rattle.heads.specs.Head.{readPart, readElem, markLow, markHigh, markKids}
 use Rattle.heads.specs.declared.Form.{Form}
 use Rattle.heads.specs.declared.Form.the-variants.{Leaf, Var, Unresolved, Prop, Two, Slice, Many, BinOp, UnaryOp, Case, IsNull, PatternPredicate, ListComprehension, PatternComprehension, ListPredicate, MapProjection}
 use Rattle.heads.specs.declared.Maybe.{Maybe}
@@ -17,8 +19,10 @@ use Rattle.heads.specs.declared.Part.{Part}
 use Rattle.heads.specs.declared.Elem.{Elem}
 use Rattle.expr.specs.Well.{WellForm}
 use Rattle.expr.specs.Write.{maybeWords}
+use Rattle.expr.proofs.Inverse.{word-gives}
 use Rattle.expr.proofs.Heads.{form-gives, part-gives, elem-gives}
 use Rattle.steps.specs.Hold.{costOf, Named}
+use Rattle.walk.specs.Goes.{pathCost}
 
 -- the words from at to p are l
 passed : (ws l : List ℕ) (at p : ℕ) → drop at ws ≡ l ++ drop p ws → at ≤ p → p ≤ length ws → length l + at ≤ p
@@ -69,16 +73,33 @@ module _ (ws : List ℕ) (at p : ℕ) where
       let g = form-gives names (drop at ws) .given f (drop p ws) (a .same) in
       (omega (arith, worth f, passed ws (formWords f) at p (g .0) (a .from) (a .within)), named names slots f l (g .1))
 
-  pub part-paid : (h : Part) (v : ℕ) → h .path ≡ maybe.Var v → Ans ws at (readPart (drop at ws)) (ok h (drop p ws)) p → 3 + at ≤ p
+  pub part-paid : (h : Part) → Ans ws at (readPart (drop at ws)) (ok h (drop p ws)) p → (pathCost (h .path) + at ≤ p) × (at < p)
   unfolding maybeWords
-  part-paid h v e a =
-      let g = rw e at (part-gives (drop at ws) .given h (drop p ws) (a .same) .0) in
-      passed ws (1 ∷ v ∷ h .count ∷ []) at p g (a .from) (a .within)
+  part-paid h a = path-paid (h .path) (part-gives (drop at ws) .given h (drop p ws) (a .same) .0)
+    where
+      path-paid : (x : Maybe) → drop at ws ≡ maybeWords x ++ h .count ∷ drop p ws → (pathCost x + at ≤ p) × (at < p)
+      path-paid (maybe.Var v) g = let z = passed ws (1 ∷ v ∷ h .count ∷ []) at p g (a .from) (a .within) in (omega (arith, z), omega (arith, z))
+      path-paid maybe.Nothing g = let z = passed ws (0 ∷ h .count ∷ []) at p g (a .from) (a .within) in (omega (arith, z), omega (arith, z))
 
-  pub elem-paid : (h : Elem) → Ans ws at (readElem (drop at ws)) (ok h (drop p ws)) p → 3 + at ≤ p
+  pub elem-paid : (h : Elem) → Ans ws at (readElem (drop at ws)) (ok h (drop p ws)) p → (3 + at ≤ p) × (h .property < 2) × (h .kind < 4294967295)
   elem-paid h a =
-      let g = elem-gives (drop at ws) .given h (drop p ws) (a .same) .0 in
-      let z = ap length g in
+      let g = elem-gives (drop at ws) .given h (drop p ws) (a .same) in
+      let z = ap length (g .0) in
       let b = a .from in
       let w = a .within in
-      omega (arith, simp (length-append, length-drop) at z)
+      (omega (arith, simp (length-append, length-drop) at z), g .4, omega (arith, g .1 .1))
+
+  -- a mark counts few expressions
+  pub mark-few : (kind w : ℕ) → wordIn (markLow kind) (markHigh kind) (drop at ws) ≡ ok w (drop p ws) → markKids kind w ≤ 2
+  mark-few kind w e = few kind w (word-gives (markLow kind) (markHigh kind) (drop at ws) .given w (drop p ws) e .2)
+    where
+      bound : (w : ℕ) (z o one two : Bool) → w < cond z 2 (cond o 4 3) → cond z w (cond o (cond one 2 (cond two 0 1)) (cond one 1 0)) ≤ 2
+      bound w true o one two h = omega arith
+      bound w false true true two h = omega arith
+      bound w false true false true h = omega arith
+      bound w false true false false h = omega arith
+      bound w false false true two h = omega arith
+      bound w false false false two h = omega arith
+
+      few : (kind w : ℕ) → w < markHigh kind → markKids kind w ≤ 2
+      few kind w h = bound w (eqb kind 0) (eqb kind 1) (eqb w 1) (eqb w 2) h

@@ -17,8 +17,8 @@ use Rattle.heads.specs.declared.Form.the-variants.{Leaf, Var, Unresolved, Prop,
 use Rattle.expr.proofs.Inverse.{never}
 use Rattle.fused.specs.Fused.{Both, Mode, Go, left, tailOf, rounds}
 use Rattle.steps.specs.Memory.{atOf, topOf, curOf, lastOf, saidOf, toldOf, slotsIn}
-use Rattle.steps.specs.Hold.{bonus, Fits, Fit, Holds, Frame, Costs, Ready, Left, ClosedIf, Closed}
-use Rattle.steps.proofs.Held.{Numbers, unset, store, lower, bonus-le, framed, framed-idle, frame-more}
+use Rattle.steps.specs.Hold.{Fits, Fit, Holds, Frame, Costs, Ready, Left, ClosedIf, Closed}
+use Rattle.steps.proofs.Held.{Numbers, unset, store, lower, framed, framed-idle, frame-more}
 use Rattle.walk.specs.Goes.{Goer, Comes, Came, Goes, Walked}
 
 -- ---- at another word
@@ -29,14 +29,13 @@ module _ (m : List ℕ) (p : ℕ) (size : length m ≡ 64) where
   pub placed-fit : {c i : ℕ} {ws tab vis found : List ℕ} → atOf m ≤ p → p ≤ length ws → i + atOf m ≤ c + p → Fit c ws tab m vis found → Fit i ws tab (set m 0 p) vis found
   placed-fit {c} {i} {ws} {tab} {vis} {found} l w h f =
       let q = placed in
-      let b = bonus-le tab (atOf m) p l .0 in
       record {
         size = q .size ∙ size;
         tabled = rw (q .top) (f .tabled);
         descends = rw (q .cur, q .top) (f .descends);
         cur = rw (q .cur, q .last) (f .cur);
         last = rw (q .last, q .at) (omega (arith, f .last));
-        count = rw (q .said, q .told, q .at) (omega (arith, f .count, b));
+        count = rw (q .said, q .told, q .at) (omega (arith, f .count));
         stack = rw (q .top, q .at) (omega (arith, f .stack));
         within = rw (q .at) w;
         names = f .names;

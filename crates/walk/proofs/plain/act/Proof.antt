@@ -1,89 +1,23 @@
+-- A variable, a name, or a type, each as `steps` has it (`Acts`).
 use borrow.Author.Needs.{needs}
+use native.Mathlib.Omega.{arith}
+use Rattle.walk.proofs.Acts.{var-ready, name-ready, type-ready, var-act, name-act, name-idle, type-act, type-idle}
 use Rattle.walk.proofs.plain.act.Statement.{statement}
 use Rattle.walk.proofs.plain.act.Tie as tie
-use Rattle.walk.proofs.plain.act.Reads as reads
-use Rattle.walk.proofs.plain.act.Lts as lts
-use Rattle.steps.proofs.use_name.Reads as use-name-reads
-use Rattle.steps.proofs.use_var.Reads as use-var-reads
-use Rattle.steps.proofs.at_type.Reads as at-type-reads
-use Rattle.walk.proofs.plain.type_by.Reads as type-by-reads
-
--- src/plain.rt:135:9
-use-var-requires : tie.Need-use-var-requires
-use-var-requires c κs = ?
-
--- src/plain.rt:136:9
-same-length : tie.Need-same-length
-same-length c = search needs
-
--- src/plain.rt:136:9
-same-length-2 : tie.Need-same-length-2
-same-length-2 c = search needs
-
--- src/plain.rt:136:9
-returns : tie.Need-returns
-returns c = ?
-
--- src/plain.rt:140:13
-use-name-requires : tie.Need-use-name-requires
-use-name-requires c κs = ?
-
--- src/plain.rt:142:9
-same-length-3 : tie.Need-same-length-3
-same-length-3 c = search needs
-
--- src/plain.rt:142:9
-same-length-4 : tie.Need-same-length-4
-same-length-4 c = search needs
-
--- src/plain.rt:142:9
-returns-2 : tie.Need-returns-2
-returns-2 c = ?
-
--- src/plain.rt:142:9
-returns-3 : tie.Need-returns-3
-returns-3 c = ?
-
--- src/plain.rt:145:50
-type-by-requires : tie.Need-type-by-requires
-type-by-requires c κs = search needs
-
--- src/plain.rt:145:9
-at-type-requires : tie.Need-at-type-requires
-at-type-requires c κs = ?
-
--- src/plain.rt:130:1
-same-length-5 : tie.Need-same-length-5
-same-length-5 c = search needs
-
--- src/plain.rt:130:1
-same-length-6 : tie.Need-same-length-6
-same-length-6 c = search needs
-
--- src/plain.rt:130:1
-returns-4 : tie.Need-returns-4
-returns-4 c = ?
-
--- src/plain.rt:130:1
-returns-5 : tie.Need-returns-5
-returns-5 c = ?
 
 pub act-spec : {M : Type 1} → statement M
 act-spec =
     tie.close
     (tie.spec
-    use-var-requires
-    same-length
-    same-length-2
-    returns
-    use-name-requires
-    same-length-3
-    same-length-4
-    returns-2
-    returns-3
-    type-by-requires
-    at-type-requires
-    same-length-5
-    same-length-6
-    returns-4
-    returns-5)
+    (λ c κs. let s = c .before .before .before .before .before .before .before .before in var-ready (s .args .code) (s .args .a) (c .before .before .if1 .taken) (s .pre .1 .1 .1))  -- use-var-requires
+    (λ c. search needs) (λ c. search needs)  -- same-length, same-length-2
+    (λ c. let s = c .before .before .before .before .before .before .before .before .before .before .before .before .before in var-act (s .args .code) (s .args .a) (s .args .mode) (c .before .before .before .before .before .before .before .if1 .taken) (c .before .before .before .before .use-var .ensures))  -- returns
+    (λ c κs. let s = c .before .before .before .before .before .before .before .before .before .before in name-ready (s .args .code) (s .args .a) (c .before .before .before .if2 .taken) (s .pre .1 .1 .0) (s .pre .1 .1 .1))  -- use-name-requires
+    (λ c. search needs) (λ c. search needs)  -- same-length-3, same-length-4
+    (λ c. let s = c .before .before .before .before .before .before .before .before .before .before .before .before .before .before .before in name-act (s .args .code) (s .args .a) (s .args .mode) (c .before .before .before .before .before .before .before .before .if2 .taken) (c .before .before .before .before .before .before .before .if3 .taken) (c .before .before .before .before .use-name .ensures))  -- returns-2
+    (λ c. let s = c .before .before .before .before .before .before .before .before in name-idle (s .args .code) (s .args .a) (s .args .mode) (c .before .if2 .taken) (c .if3 .left))  -- returns-3
+    (λ c κs. search needs)  -- type-by-requires
+    (λ c κs. let s = c .before .before .before .before .before .before .before .before .before .before .before in (omega arith, type-ready (s .args .code) (s .args .a) (s .pre .1 .1 .1)))  -- at-type-requires
+    (λ c. search needs) (λ c. search needs)  -- same-length-5, same-length-6
+    (λ c. let s = c .before .before .before .before .before .before .before .before .before .before .before .before .before .before .before .before in type-act (s .args .code) (s .args .a) (s .args .mode) (s .pre .0) (s .pre .1 .0) (c .before .before .before .before .before .before .before .before .before .before .if1 .left) (c .before .before .before .before .before .before .before .before .before .if2 .left) (c .before .before .before .before .before .type-by .ensures) (c .before .before .before .before .before .before .before .before .if4 .taken) (c .before .before .before .before .at-type .ensures))  -- returns-4
+    (λ c. let s = c .before .before .before .before .before .before .before .before in type-idle (s .args .code) (s .args .a) (s .args .mode) (s .pre .0) (s .pre .1 .0) (c .before .before .if1 .left) (c .before .if2 .left) (c .if4 .left)))  -- returns-5
