@@ -1,6 +1,12 @@
 -- The walks of an expression and a pattern, which call each other: a module for each, and the measures that fall at each call.
 use Rattle.walk.proofs.+walk_elem+walk_elems+walk_expr+walk_inner+walk_many+walk_mark+walk_marks+walk_part+walk_parts+walk_pattern+walk_rest+walk_row.{statement}
 mod Elem
+mod Elems
+mod Mark
+mod Marks
+mod Part
+mod Pattern
+mod Parts
 mod Measures
 
 pub +walk-elem+walk-elems+walk-expr+walk-inner+walk-many+walk-mark+walk-marks+walk-part+walk-parts+walk-pattern+walk-rest+walk-row-spec : {M : Type 1} → statement M
