@@ -1,5 +1,5 @@
 -- A mode as a number: x is the mode with the settings p (`mode-in`, `first-in`, `later-in`), or without names that are resolved
--- (`unresolved`). What is walked in such a mode is what is walked in the settings (`in-set`, `in-pair`, `in-marks`, `in-pattern`, `in-kinds`).
+-- (`unresolved`). What is walked in such a mode is what is walked in the settings (`in-set`, `in-pair`, `in-kids`, `in-marks`, `in-pattern`, `in-kinds`).
 use Prim.Native.Nat.{ℕ, _+_, _*_, _/_, _%_, _<_}
 use native.Mathlib.Omega.{arith}
 use mathlib.Core.Path.{_≡_, refl, ap, subst, _∙_}
@@ -43,6 +43,10 @@ module _ (mode p x : ℕ) (h : p < 64) (e : x ≡ mode / 64 * 64 + p) where
         subst (λ (k : Mode). Walked i ws tab m vis found m' vis' found' (λ id. rowGo (exprGo (worldAt ws tab id) (tablesIn tab) room k) n (pairOf p)) a) mode-in
         (subst (λ (c : Setting). Walked i ws tab m vis found m' vis' found' (λ id. rowGo (exprGo (worldAt ws tab id) (tablesIn tab) room (modeOf x)) n (both (settingOf (p % 8)) c)) a) later-in
         (subst (λ (c : Setting). Walked i ws tab m vis found m' vis' found' (λ id. rowGo (exprGo (worldAt ws tab id) (tablesIn tab) room (modeOf x)) n (both c (laterOf x))) a) first-in w))
+
+    -- the settings are a head's
+    pub in-kids : (n : ℕ) {q : Pair} → pairOf p ≡ q → Walked i ws tab m vis found m' vis' found' (rowAt ws tab room x n) a → Walked i ws tab m vis found m' vis' found' (rowIn ws tab room mode n q) a
+    in-kids n z w = subst (λ (k : Pair). Walked i ws tab m vis found m' vis' found' (rowIn ws tab room mode n k) a) z (in-pair n w)
 
     pub in-marks : (kind n : ℕ) → Walked i ws tab m vis found m' vis' found' (marksAt ws tab room x kind n) a → Walked i ws tab m vis found m' vis' found' (marksAt ws tab room mode kind n) a
     in-marks kind n w = subst (λ (k : Mode). Walked i ws tab m vis found m' vis' found' (λ id. rounds n (markGo (worldAt ws tab id) (exprGo (worldAt ws tab id) (tablesIn tab) room) k kind)) a) mode-in w

@@ -2,6 +2,8 @@
 use Rattle.walk.proofs.+walk_elem+walk_elems+walk_expr+walk_inner+walk_many+walk_mark+walk_marks+walk_part+walk_parts+walk_pattern+walk_rest+walk_row.{statement}
 mod Elem
 mod Elems
+mod Inner
+mod Rest
 mod Mark
 mod Marks
 mod Part

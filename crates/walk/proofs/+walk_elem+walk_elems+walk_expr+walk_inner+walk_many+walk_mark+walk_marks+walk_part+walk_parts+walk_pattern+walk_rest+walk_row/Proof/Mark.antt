@@ -39,7 +39,7 @@ holds t =
     start {keep = some (a .room)} {G = markAt (words (a .s .now)) (a .tab .now) (a .room) (a .mode) (a .kind)} (λ id u v. step (wordIn (k .before .mark-low .result) (k .mark-high .result)) λ w. last (rowGo (exprGo (worldAt (words (a .s .now)) (a .tab .now) id) (tablesIn (a .tab .now)) (a .room) (modeOf (a .mode))) (markKids (a .kind) w) plain v)) (s .pre .1 .1)
     (λ id s r. rw (← (k .before .mark-low .ensures), ← (k .mark-high .ensures)))) in
     let answer = fact (λ (k : After-known-told (calls t) (asks t) walk-mark.Post). rw (k .before .k .given .1) at (k .before .before .before .word-in .ensures)) in
-    let few = fact (λ (k : After-known-told (calls t) (asks t) walk-mark.Post). let a = k .before .before .before .before .before .before .before .before .before .before .before .before .args in mark-few (words (a .s .now)) (atOf (a .m .now)) _ (a .kind) (k .before .k .given .0 .0) (rw (k .before .before .before .before .before .mark-low .ensures, k .before .before .before .before .mark-high .ensures) at (answer k .same))) in
+    let few = fact (λ (k : After-known-told (calls t) (asks t) walk-mark.Post). let a = k .before .before .before .before .before .before .before .before .before .before .before .before .args in mark-few (words (a .s .now)) (atOf (a .m .now)) (atOf (a .m .now) + 1) (a .kind) (k .before .k .given .0 .0) (rw (k .before .before .before .before .before .mark-low .ensures, k .before .before .before .before .mark-high .ensures) at (answer k .same))) in
     let one = fact (λ (k : After-known-told (calls t) (asks t) walk-mark.Post). read (begun (k .before .before .before .before)) 0 (answer k) (omega arith)) in
     let ended = fact (λ (k : After-walk-row (calls t) (asks t) walk-mark.Post). let a = k .before .before .before .before .before .before .before .before .before .before .before .before .before .before .before .before .before .args in
     tail (k .walk-row .result) (omega arith) (one (k .before .before .before .before .before)) (in-pair (a .mode) 0 (a .mode / 64 * 64) (omega arith) (omega arith) (a .room) _ (rw (k .before .mark-kids .ensures) at (k .walk-row .ensures)))) in
