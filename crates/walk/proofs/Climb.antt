@@ -317,3 +317,32 @@ pub lighter : (n at p room d left k : ℕ) → at < p → p ≤ n → 0 < d → 
 lighter n at p room d left k h l g b m =
     let z : 64 * (n - p) + (room - (d - 1)) < 64 * (n - at) + (room - d) = omega arith in
     omega (arith, z, m)
+
+-- ---- any number of expressions, one after the other
+pub record Counting (ws tab m₀ vis₀ found₀ : List ℕ) (room mode n : ℕ) (m vis found : List ℕ) (left now later : ℕ) : Type 0 where
+  pub first : now < 8
+  pub others : later < 8
+  pub stage : Stage (some room) 0 ws tab m₀ vis₀ found₀ (rowAt ws tab room mode n) 0 m vis found (λ id s t. last (rowGo (within ws tab mode id room) left (both (settingOf now) (settingOf later)) t))
+
+pub count-begin : {ws tab m vis found : List ℕ} (room mode n : ℕ) → Ready 0 ws tab m vis found → Counting ws tab m vis found room mode n m vis found n (mode % 8) (mode / 8 % 8)
+count-begin room mode n h = record { first = omega arith; others = omega arith; stage = start _ h (λ id s r. refl) }
+
+module _ {ws tab m₀ vis₀ found₀ : List ℕ} {room mode n : ℕ} {m vis found : List ℕ} {left now later : ℕ} (o : Counting ws tab m₀ vis₀ found₀ room mode n m vis found left now later) where
+  count-next : 0 < left → Stage (some room) 0 ws tab m₀ vis₀ found₀ (rowAt ws tab room mode n) 0 m vis found
+      (λ id s t. step (within ws tab mode id room (settingOf now) t) (λ x. last (rowGo (within ws tab mode id room) (left - 1) (both (settingOf later) (settingOf later)) x)))
+  unfolding rowGo
+  count-next h =
+      let l : left ≡ suc (left - 1) = omega arith in
+      recast _ (o .stage) (λ id s t r. ap (λ (k : ℕ). rowGo (within ws tab mode id room) k (both (settingOf now) (settingOf later)) t r) l)
+
+  pub count-one : {m' vis' found' : List ℕ} {a : ℕ} → 0 < left → a ≡ 0 → Walked room ws tab m vis found m' vis' found' (exprIn ws tab room mode (settingOf now)) a → Counting ws tab m₀ vis₀ found₀ room mode n m' vis' found' (left - 1) later later
+  count-one h q x = record { first = o .others; others = o .others; stage = go (count-next h) x (omega arith) q }
+
+  pub count-fall : {m' vis' found' : List ℕ} (a : ℕ) → 0 < left → (a ≡ 0 → ⊥) → Walked room ws tab m vis found m' vis' found' (exprIn ws tab room mode (settingOf now)) a → Walked room ws tab m₀ vis₀ found₀ m' vis' found' (rowAt ws tab room mode n) a
+  count-fall a h q x = fell a q (count-next h) x
+
+  pub count-done : left ≤ 0 → Walked room ws tab m₀ vis₀ found₀ m vis found (rowAt ws tab room mode n) 0
+  unfolding rowGo
+  count-done h =
+      let z : left ≡ 0 = omega arith in
+      done (recast (λ id s t. last (ok t)) (o .stage) (λ id s t r. rw z))

@@ -1,5 +1,5 @@
 -- What is read pays for what is done: a head has as many words as its act costs and its name is in range (`form-paid`), a part as
--- many as its path costs (`part-paid`), an element three (`elem-paid`); a mark counts few expressions (`mark-few`).
+-- many as its path costs (`part-paid`), an element three (`elem-paid`); a mark counts few expressions (`mark-few`). A refusal for depth has a number (`deep-some`).
 use Prim.Native.Nat.{ℕ, _+_, _-_, _<_, _≤_}
 use native.Mathlib.Omega.{arith}
 use mathlib.Core.Bool.{Bool, true, false, cond}
@@ -10,7 +10,7 @@ use lib.ListN.{length, drop, length-append, length-drop}
 use Rattle.heads.specs.Got.{ok, wordIn}
 use Rattle.heads.specs.Answer.{Ans}
 use Rattle.heads.specs.Form.{readForm, formWords}
-use Rattle.heads.specs.Head.{readPart, readElem, markLow, markHigh, markKids}
+use Rattle.heads.specs.Head.{readPart, readElem, markLow, markHigh, markKids, deepCause}
 use Rattle.heads.specs.declared.Form.{Form}
 use Rattle.heads.specs.declared.Form.the-variants.{Leaf, Var, Unresolved, Prop, Two, Slice, Many, BinOp, UnaryOp, Case, IsNull, PatternPredicate, ListComprehension, PatternComprehension, ListPredicate, MapProjection}
 use Rattle.heads.specs.declared.Maybe.{Maybe}
@@ -103,3 +103,8 @@ module _ (ws : List ℕ) (at p : ℕ) where
 
       few : (kind w : ℕ) → w < markHigh kind → markKids kind w ≤ 2
       few kind w h = bound w (eqb kind 0) (eqb kind 1) (eqb w 1) (eqb w 2) h
+
+pub deep-some : (l : List ℕ) → deepCause l ≡ 0 → ⊥
+unfolding deepCause
+deep-some [] e = omega arith
+deep-some (w ∷ l) e = omega arith

@@ -2,7 +2,9 @@
 use Rattle.walk.proofs.+walk_elem+walk_elems+walk_expr+walk_inner+walk_many+walk_mark+walk_marks+walk_part+walk_parts+walk_pattern+walk_rest+walk_row.{statement}
 mod Elem
 mod Elems
+mod Expr
 mod Inner
+mod Many
 mod Rest
 mod Mark
 mod Marks
