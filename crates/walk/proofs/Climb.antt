@@ -1,7 +1,7 @@
 -- A row of expressions with what is left at each level: `climb` walks the k rows that wait above the level d. The loop of `walk_row` keeps
 -- `Rowing`: begun (`row-begin`), ended (`row-done`), back to the row that waits (`row-pop`), an expression walked (`row-one`) or refused
--- (`row-fall`). A plain head is read (`Heading`), and does nothing (`head-calm`) or its act (`head-acted`, which `head-ready` allows); without
--- parts the row goes on (`row-leaf`), else it waits a level higher while the parts are walked (`row-down`).
+-- (`row-fall`). A plain head is read (`Heading`), and does nothing (`head-calm`) or its act (`head-acted`; what it asks is `act-asks`); without
+-- parts the row goes on (`row-leaf`; `head-at` where the two meet), else it waits a level higher while the parts are walked (`row-down`).
 use Prim.Native.Nat.{ℕ, zero, suc, _+_, _-_, _*_, _/_, _%_, _^_, _<_, _≤_}
 use native.Mathlib.Omega.{arith}
 use native.Mathlib.Numerals.{add-one}
@@ -18,7 +18,7 @@ use Rattle.heads.proofs.Chain.{Chain, step, last, run}
 use Rattle.heads.proofs.Shapes.{bind-each, bind-bind}
 use Rattle.semantics.specs.Kinds.{Setting, Pair, both, settings}
 use Rattle.fused.specs.Fused.{Both, Go, rowGo, exprGo, headOf}
-use Rattle.steps.specs.Memory.{atOf, levelOf, namesIn, identIn, tablesIn, worldAt, modeOf, settingOf, firstOf}
+use Rattle.steps.specs.Memory.{atOf, levelOf, namesIn, slotsIn, identIn, tablesIn, worldAt, modeOf, settingOf, firstOf}
 use Rattle.steps.specs.Hold.{Fit, Holds, Frame, Costs, Steps, Ready, pairOf, costOf}
 use Rattle.steps.proofs.Held.{framed, frame-more}
 use Rattle.walk.specs.Goes.{Goer, Walked, exprIn, exprAt, rowAt}
@@ -193,6 +193,24 @@ module _ {ws tab m₀ vis₀ found₀ : List ℕ} {room mode n : ℕ} {m vis fou
     pub head-ready : Ready 0 ws tab m₀ vis₀ found₀ → Ready (costOf (headed code word)) ws tab (set m 0 end) vis found
     head-ready r = let l = law code word shaped (f .limited) .cost in ready (omega (arith, l, f .shaped)) r head
 
+    -- what `act`, `parts_of` and `pair` ask
+    pub act-asks : Ready 0 ws tab m₀ vis₀ found₀ → (0 < shape code) × ((word ≤ limit code) × ((shape code / 64 % 2 ≡ 1 → word < slotsIn tab) × Ready (costOf (headed code word)) ws tab (set m 0 end) vis found))
+    act-asks r =
+        let named : shape code / 64 % 2 ≡ 1 → word < namesIn tab = λ q. f .named (rw (f .shaped) q) in
+        (shaped, (f .limited, ((λ q. let n = named q in omega (arith, n, r .fine .places)), head-ready r)))
+
+    pub parts-ask : (t < 16777216) × (t / 32 % 2 ≤ t / 16 % 2)
+    parts-ask = let k = law code word shaped (f .limited) in rw (f .shaped) (k .small, k .halved)
+
+    pub pair-asks : (t ≡ shape code) × ((0 < t) × ((now < 8) × (word ≤ limit code)))
+    pair-asks = (f .shaped, (g, (o .first, f .limited)))
+
+    pub head-few : partsOf (shape code) word ≤ 524287
+    head-few = law code word shaped (f .limited) .few
+
+    pub head-end : (at < end) × (end ≤ length ws)
+    head-end = let w = f .within in (omega arith, omega arith)
+
     -- where the head does nothing
     pub head-calm : (t / 2 ^ (16 + now) % 2 ≡ 1 → ⊥) → Heading ws tab m₀ vis₀ found₀ room mode n m vis found end left now later d code word
     head-calm z =
@@ -311,6 +329,10 @@ module _ {ws tab m₀ vis₀ found₀ : List ℕ} {room mode n : ℕ} {m vis fou
           go false q =
               let e : i ≡ d = omega (arith, ltb-false d i q) in
               rw (e, mine) (omega (arith, o .count, o .others))
+
+-- where two ways meet
+pub head-at : {ws tab m₀ vis₀ found₀ : List ℕ} {room mode n : ℕ} {m vis found m' found' : List ℕ} {at left now later d code a : ℕ} → m' ≡ m → found' ≡ found → Heading ws tab m₀ vis₀ found₀ room mode n m vis found at left now later d code a → Heading ws tab m₀ vis₀ found₀ room mode n m' vis found' at left now later d code a
+head-at p q h = rw (p, q) h
 
 -- a head takes a word at least, which outweighs a level and what is left there
 pub lighter : (n at p room d left k : ℕ) → at < p → p ≤ n → 0 < d → d ≤ room → k ≤ 524287 → (64 * (n - p) + (room - (d - 1))) * 524288 + k < (64 * (n - at) + (room - d)) * 524288 + left

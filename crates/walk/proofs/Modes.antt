@@ -1,14 +1,15 @@
 -- A mode as a number: x is the mode with the settings p (`mode-in`, `first-in`, `later-in`), or without names that are resolved
--- (`unresolved`). What is walked in such a mode is what is walked in the settings (`in-set`, `in-pair`, `in-kids`, `in-marks`, `in-pattern`, `in-kinds`).
+-- (`unresolved`). What is walked in such a mode is what is walked in the settings (`in-set`, `in-pair`, `in-kids`, `in-marks`, `in-pattern`, `in-kinds`, `in-act`).
 use Prim.Native.Nat.{ℕ, _+_, _*_, _/_, _%_, _<_}
 use native.Mathlib.Omega.{arith}
 use mathlib.Core.Path.{_≡_, refl, ap, subst, _∙_}
 use mathlib.Core.List.{List}
 use lib.Dec.{eqb}
+use Rattle.heads.specs.declared.Form.{Form}
 use Rattle.semantics.specs.Kinds.{Setting, Pair, both}
-use Rattle.fused.specs.Fused.{Mode, unresolving, rowGo, markGo, patternGo, rounds, exprGo}
+use Rattle.fused.specs.Fused.{Mode, unresolving, rowGo, markGo, patternGo, rounds, exprGo, headOf}
 use Rattle.steps.specs.Memory.{worldAt, tablesIn, modeOf, settingOf, firstOf, laterOf}
-use Rattle.steps.specs.Hold.{pairOf}
+use Rattle.steps.specs.Hold.{Costs, pairOf}
 use Rattle.walk.specs.Goes.{Goer, Walked, exprIn, exprAt, rowAt, marksAt, patternAt}
 
 same-mode : (a b c d : ℕ) → a ≡ b → c ≡ d → _≡_ {A = Mode} (record { resolves = eqb a 1; checks = eqb c 1 }) (record { resolves = eqb b 1; checks = eqb d 1 })
@@ -53,6 +54,13 @@ module _ (mode p x : ℕ) (h : p < 64) (e : x ≡ mode / 64 * 64 + p) where
 
     pub in-pattern : Walked i ws tab m vis found m' vis' found' (patternAt ws tab room x) a → Walked i ws tab m vis found m' vis' found' (patternAt ws tab room mode) a
     in-pattern w = subst (λ (k : Mode). Walked i ws tab m vis found m' vis' found' (λ id. patternGo (worldAt ws tab id) (exprGo (worldAt ws tab id) (tablesIn tab) room) k) a) mode-in w
+
+-- what a head does in the setting
+pub in-act : {e t : ℕ} {ws tab m vis found m' vis' found' : List ℕ} (mode p x : ℕ) (f : Form) → p < 8 → x ≡ mode / 64 * 64 + p → Costs e t ws tab m vis found m' vis' found' (λ id. headOf (worldAt ws tab id) (modeOf x) f (firstOf x)) → Costs e t ws tab m vis found m' vis' found' (λ id. headOf (worldAt ws tab id) (modeOf mode) f (settingOf p))
+in-act {e} {t} {ws} {tab} {m} {vis} {found} {m'} {vis'} {found'} mode p x f h q w =
+    let b : p % 8 ≡ p = omega arith in
+    subst (λ (k : Mode). Costs e t ws tab m vis found m' vis' found' (λ id. headOf (worldAt ws tab id) k f (settingOf p))) (mode-in mode p x (omega arith) q)
+    (subst (λ (c : Setting). Costs e t ws tab m vis found m' vis' found' (λ id. headOf (worldAt ws tab id) (modeOf x) f c)) (first-in mode p x (omega arith) q ∙ ap (λ (n : ℕ). settingOf n) b) w)
 
 pub unresolved : (mode : ℕ) → modeOf (mode / 128 * 128) ≡ unresolving (modeOf mode)
 unresolved mode = same (omega arith) (omega arith)

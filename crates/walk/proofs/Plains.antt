@@ -17,12 +17,13 @@ use Rattle.heads.specs.declared.Form.{Form}
 use Rattle.semantics.specs.Log.{Finding}
 use Rattle.semantics.specs.World.{World}
 use Rattle.semantics.specs.Resolve.{State}
-use Rattle.semantics.specs.Kinds.{Setting, general, Pair, both, passes, isArithmetic, settings, typeOf, atType}
+use Rattle.semantics.specs.Kinds.{Setting, Pair, isArithmetic, settings, typeOf, atType}
 use Rattle.fused.specs.Fused.{Both, Mode, Go, when, told, step, same, tailOf, headOf, innerGo, rounds, rowGo, markGo, restGo, exprGo}
 use Rattle.expr.proofs.Inverse.{never}
 use Rattle.flat.proofs.Codes.{Each, _▹_}
 use Rattle.steps.specs.Memory.{settingOf}
 use Rattle.steps.specs.Hold.{pairOf, costOf}
+use Rattle.steps.proofs.Heads.{passed-low, passed-high}
 use Rattle.walk.proofs.Codes.{both-true}
 use Rattle.walk.specs.Plain.{shape, limit, headed, partsOf, typeBy, Plain, Plainly}
 
@@ -42,43 +43,45 @@ pub record Law (code a : ℕ) : Type 0 where
   pub kids : kidsOf (headed code a) ≡ partsOf (shape code) a
   pub few : partsOf (shape code) a ≤ 524287
   pub cost : costOf (headed code a) ≤ 1 + shape code % 2
+  pub small : shape code < 16777216
+  pub halved : shape code / 32 % 2 ≤ shape code / 16 % 2
   pub pair : (code ≡ 9 → ⊥) → (code ≡ 15 → ⊥) → (code ≡ 16 → ⊥) → (i : ℕ → Bool) (c : Setting) → pairOf (shape code / 256 % 64) ≡ settings i (headed code a) c
   pub type : (code ≡ 7 → ⊥) → (code ≡ 8 → ⊥) → (w : World) (m : Mode) (c : Setting) (s : Both) → headOf w m (headed code a) c s ≡ step m same (atType c (typeBy code)) s
   pub simple : Simple (headed code a)
 
 module _ {code a : ℕ} where
-  of : Sort code a → kidsOf (headed code a) ≡ partsOf (shape code) a → partsOf (shape code) a ≤ 524287 → costOf (headed code a) ≤ 1 + shape code % 2 → ((code ≡ 9 → ⊥) → (code ≡ 15 → ⊥) → (code ≡ 16 → ⊥) → (i : ℕ → Bool) (c : Setting) → pairOf (shape code / 256 % 64) ≡ settings i (headed code a) c) → ((code ≡ 7 → ⊥) → (code ≡ 8 → ⊥) → (w : World) (m : Mode) (c : Setting) (s : Both) → headOf w m (headed code a) c s ≡ step m same (atType c (typeBy code)) s) → ((w : World) (E : Mode → Setting → Go) (m : Mode) (s : Both) (r : List ℕ) → innerGo w E m (headed code a) s r ≡ ok s r) → ((m : Mode) (s t : Both) → tailOf m (headed code a) s t ≡ t) → itemsOf (headed code a) ≡ 0 → Law code a
-  of x k f o p t i l n = record { sort = x; kids = k; few = f; cost = o; pair = p; type = t; simple = record { items = n; inner = i; tail = l } }
+  of : Sort code a → kidsOf (headed code a) ≡ partsOf (shape code) a → partsOf (shape code) a ≤ 524287 → costOf (headed code a) ≤ 1 + shape code % 2 → shape code < 16777216 → shape code / 32 % 2 ≤ shape code / 16 % 2 → ((code ≡ 9 → ⊥) → (code ≡ 15 → ⊥) → (code ≡ 16 → ⊥) → (i : ℕ → Bool) (c : Setting) → pairOf (shape code / 256 % 64) ≡ settings i (headed code a) c) → ((code ≡ 7 → ⊥) → (code ≡ 8 → ⊥) → (w : World) (m : Mode) (c : Setting) (s : Both) → headOf w m (headed code a) c s ≡ step m same (atType c (typeBy code)) s) → ((w : World) (E : Mode → Setting → Go) (m : Mode) (s : Both) (r : List ℕ) → innerGo w E m (headed code a) s r ≡ ok s r) → ((m : Mode) (s t : Both) → tailOf m (headed code a) s t ≡ t) → itemsOf (headed code a) ≡ 0 → Law code a
+  of x k f o m h p t i l n = record { sort = x; kids = k; few = f; cost = o; small = m; halved = h; pair = p; type = t; simple = record { items = n; inner = i; tail = l } }
 
 laws : Each (λ code. (a : ℕ) → 0 < shape code → a ≤ limit code → Law code a)
 unfolding shapeOf limitOf formNone formOne typeOf settings
 laws =
     (λ a h l. absurd (omega arith))  -- none
-    ▹ (λ a h l. of (bare refl refl) (omega arith) (omega arith) (omega arith) (λ x y z i c. refl) (λ x y w m c s. refl) (λ w E m s r. refl) (λ m s t. refl) refl)  -- 1 Null
-    ▹ (λ a h l. of (bare refl refl) (omega arith) (omega arith) (omega arith) (λ x y z i c. refl) (λ x y w m c s. refl) (λ w E m s r. refl) (λ m s t. refl) refl)  -- 2 Bool
-    ▹ (λ a h l. of (bare refl refl) (omega arith) (omega arith) (omega arith) (λ x y z i c. refl) (λ x y w m c s. refl) (λ w E m s r. refl) (λ m s t. refl) refl)  -- 3 Int
-    ▹ (λ a h l. of (bare refl refl) (omega arith) (omega arith) (omega arith) (λ x y z i c. refl) (λ x y w m c s. refl) (λ w E m s r. refl) (λ m s t. refl) refl)  -- 4 Float
-    ▹ (λ a h l. of (bare refl refl) (omega arith) (omega arith) (omega arith) (λ x y z i c. refl) (λ x y w m c s. refl) (λ w E m s r. refl) (λ m s t. refl) refl)  -- 5 String
-    ▹ (λ a h l. of (bare refl refl) (omega arith) (omega arith) (omega arith) (λ x y z i c. refl) (λ x y w m c s. refl) (λ w E m s r. refl) (λ m s t. refl) refl)  -- 6 Param
-    ▹ (λ a h l. of (worded refl refl (λ names n. omega arith)) (omega arith) (omega arith) (omega arith) (λ x y z i c. refl) (λ x y w m c s. absurd (x refl)) (λ w E m s r. refl) (λ m s t. refl) refl)  -- 7 Var
-    ▹ (λ a h l. of (worded refl refl (λ names n. n refl)) (omega arith) (omega arith) (omega arith) (λ x y z i c. refl) (λ x y w m c s. absurd (y refl)) (λ w E m s r. refl) (λ m s t. refl) refl)  -- 8 Unresolved
-    ▹ (λ a h l. of (worded refl refl (λ names n. n refl)) (omega arith) (omega arith) (omega arith) (λ x y z i c. absurd (x refl)) (λ x y w m c s. refl) (λ w E m s r. refl) (λ m s t. refl) refl)  -- 9 Prop
-    ▹ (λ a h l. of (bare refl refl) (omega arith) (omega arith) (omega arith) (λ x y z i c. refl) (λ x y w m c s. refl) (λ w E m s r. refl) (λ m s t. refl) refl)  -- 10 Index
-    ▹ (λ a h l. of (worded refl refl (λ names n. omega arith)) (omega arith) (omega arith) (omega arith) (λ x y z i c. refl) (λ x y w m c s. refl) (λ w E m s r. refl) (λ m s t. refl) refl)  -- 11 Slice
-    ▹ (λ a h l. of (worded refl refl (λ names n. omega arith)) (omega arith) (omega arith) (omega arith) (λ x y z i c. refl) (λ x y w m c s. refl) (λ w E m s r. refl) (λ m s t. refl) refl)  -- 12 List
-    ▹ (λ a h l. of (worded refl refl (λ names n. omega arith)) (omega arith) (omega arith) (omega arith) (λ x y z i c. refl) (λ x y w m c s. refl) (λ w E m s r. refl) (λ m s t. refl) refl)  -- 13 Map
-    ▹ (λ a h l. of (worded refl refl (λ names n. omega arith)) (omega arith) (omega arith) (omega arith) (λ x y z i c. refl) (λ x y w m c s. refl) (λ w E m s r. refl) (λ m s t. refl) refl)  -- 14 Call
-    ▹ (λ a h l. of (worded refl refl (λ names n. omega arith)) (omega arith) (omega arith) (omega arith) (λ x y z i c. absurd (y refl)) (λ x y w m c s. refl) (λ w E m s r. refl) (λ m s t. refl) refl)  -- 15 BinOp
-    ▹ (λ a h l. of (worded refl refl (λ names n. omega arith)) (omega arith) (omega arith) (omega arith) (λ x y z i c. absurd (z refl)) (λ x y w m c s. refl) (λ w E m s r. refl) (λ m s t. refl) refl)  -- 16 UnaryOp
+    ▹ (λ a h l. of (bare refl refl) (omega arith) (omega arith) (omega arith) (omega arith) (omega arith) (λ x y z i c. refl) (λ x y w m c s. refl) (λ w E m s r. refl) (λ m s t. refl) refl)  -- 1 Null
+    ▹ (λ a h l. of (bare refl refl) (omega arith) (omega arith) (omega arith) (omega arith) (omega arith) (λ x y z i c. refl) (λ x y w m c s. refl) (λ w E m s r. refl) (λ m s t. refl) refl)  -- 2 Bool
+    ▹ (λ a h l. of (bare refl refl) (omega arith) (omega arith) (omega arith) (omega arith) (omega arith) (λ x y z i c. refl) (λ x y w m c s. refl) (λ w E m s r. refl) (λ m s t. refl) refl)  -- 3 Int
+    ▹ (λ a h l. of (bare refl refl) (omega arith) (omega arith) (omega arith) (omega arith) (omega arith) (λ x y z i c. refl) (λ x y w m c s. refl) (λ w E m s r. refl) (λ m s t. refl) refl)  -- 4 Float
+    ▹ (λ a h l. of (bare refl refl) (omega arith) (omega arith) (omega arith) (omega arith) (omega arith) (λ x y z i c. refl) (λ x y w m c s. refl) (λ w E m s r. refl) (λ m s t. refl) refl)  -- 5 String
+    ▹ (λ a h l. of (bare refl refl) (omega arith) (omega arith) (omega arith) (omega arith) (omega arith) (λ x y z i c. refl) (λ x y w m c s. refl) (λ w E m s r. refl) (λ m s t. refl) refl)  -- 6 Param
+    ▹ (λ a h l. of (worded refl refl (λ names n. omega arith)) (omega arith) (omega arith) (omega arith) (omega arith) (omega arith) (λ x y z i c. refl) (λ x y w m c s. absurd (x refl)) (λ w E m s r. refl) (λ m s t. refl) refl)  -- 7 Var
+    ▹ (λ a h l. of (worded refl refl (λ names n. n refl)) (omega arith) (omega arith) (omega arith) (omega arith) (omega arith) (λ x y z i c. refl) (λ x y w m c s. absurd (y refl)) (λ w E m s r. refl) (λ m s t. refl) refl)  -- 8 Unresolved
+    ▹ (λ a h l. of (worded refl refl (λ names n. n refl)) (omega arith) (omega arith) (omega arith) (omega arith) (omega arith) (λ x y z i c. absurd (x refl)) (λ x y w m c s. refl) (λ w E m s r. refl) (λ m s t. refl) refl)  -- 9 Prop
+    ▹ (λ a h l. of (bare refl refl) (omega arith) (omega arith) (omega arith) (omega arith) (omega arith) (λ x y z i c. refl) (λ x y w m c s. refl) (λ w E m s r. refl) (λ m s t. refl) refl)  -- 10 Index
+    ▹ (λ a h l. of (worded refl refl (λ names n. omega arith)) (omega arith) (omega arith) (omega arith) (omega arith) (omega arith) (λ x y z i c. refl) (λ x y w m c s. refl) (λ w E m s r. refl) (λ m s t. refl) refl)  -- 11 Slice
+    ▹ (λ a h l. of (worded refl refl (λ names n. omega arith)) (omega arith) (omega arith) (omega arith) (omega arith) (omega arith) (λ x y z i c. refl) (λ x y w m c s. refl) (λ w E m s r. refl) (λ m s t. refl) refl)  -- 12 List
+    ▹ (λ a h l. of (worded refl refl (λ names n. omega arith)) (omega arith) (omega arith) (omega arith) (omega arith) (omega arith) (λ x y z i c. refl) (λ x y w m c s. refl) (λ w E m s r. refl) (λ m s t. refl) refl)  -- 13 Map
+    ▹ (λ a h l. of (worded refl refl (λ names n. omega arith)) (omega arith) (omega arith) (omega arith) (omega arith) (omega arith) (λ x y z i c. refl) (λ x y w m c s. refl) (λ w E m s r. refl) (λ m s t. refl) refl)  -- 14 Call
+    ▹ (λ a h l. of (worded refl refl (λ names n. omega arith)) (omega arith) (omega arith) (omega arith) (omega arith) (omega arith) (λ x y z i c. absurd (y refl)) (λ x y w m c s. refl) (λ w E m s r. refl) (λ m s t. refl) refl)  -- 15 BinOp
+    ▹ (λ a h l. of (worded refl refl (λ names n. omega arith)) (omega arith) (omega arith) (omega arith) (omega arith) (omega arith) (λ x y z i c. absurd (z refl)) (λ x y w m c s. refl) (λ w E m s r. refl) (λ m s t. refl) refl)  -- 16 UnaryOp
     ▹ (λ a h l. absurd (omega arith))  -- 17 Case
-    ▹ (λ a h l. of (bare refl refl) (omega arith) (omega arith) (omega arith) (λ x y z i c. refl) (λ x y w m c s. refl) (λ w E m s r. refl) (λ m s t. refl) refl)  -- 18 IsNull
-    ▹ (λ a h l. of (bare refl refl) (omega arith) (omega arith) (omega arith) (λ x y z i c. refl) (λ x y w m c s. refl) (λ w E m s r. refl) (λ m s t. refl) refl)  -- 19 InList
+    ▹ (λ a h l. of (bare refl refl) (omega arith) (omega arith) (omega arith) (omega arith) (omega arith) (λ x y z i c. refl) (λ x y w m c s. refl) (λ w E m s r. refl) (λ m s t. refl) refl)  -- 18 IsNull
+    ▹ (λ a h l. of (bare refl refl) (omega arith) (omega arith) (omega arith) (omega arith) (omega arith) (λ x y z i c. refl) (λ x y w m c s. refl) (λ w E m s r. refl) (λ m s t. refl) refl)  -- 19 InList
     ▹ (λ a h l. absurd (omega arith))  -- 20 PatternPredicate
-    ▹ (λ a h l. of (worded refl refl (λ names n. omega arith)) (omega arith) (omega arith) (omega arith) (λ x y z i c. refl) (λ x y w m c s. refl) (λ w E m s r. refl) (λ m s t. refl) refl)  -- 21 ListComprehension
+    ▹ (λ a h l. of (worded refl refl (λ names n. omega arith)) (omega arith) (omega arith) (omega arith) (omega arith) (omega arith) (λ x y z i c. refl) (λ x y w m c s. refl) (λ w E m s r. refl) (λ m s t. refl) refl)  -- 21 ListComprehension
     ▹ (λ a h l. absurd (omega arith))  -- 22 PatternComprehension
-    ▹ (λ a h l. of (worded refl refl (λ names n. omega arith)) (omega arith) (omega arith) (omega arith) (λ x y z i c. refl) (λ x y w m c s. refl) (λ w E m s r. refl) (λ m s t. refl) refl)  -- 23 ListPredicate
+    ▹ (λ a h l. of (worded refl refl (λ names n. omega arith)) (omega arith) (omega arith) (omega arith) (omega arith) (omega arith) (λ x y z i c. refl) (λ x y w m c s. refl) (λ w E m s r. refl) (λ m s t. refl) refl)  -- 23 ListPredicate
     ▹ (λ a h l. absurd (omega arith))  -- 24 MapProjection
-    ▹ (λ a h l. of (bare refl refl) (omega arith) (omega arith) (omega arith) (λ x y z i c. refl) (λ x y w m c s. refl) (λ w E m s r. refl) (λ m s t. refl) refl)  -- 25 ExistsSubqueryDeferred
+    ▹ (λ a h l. of (bare refl refl) (omega arith) (omega arith) (omega arith) (omega arith) (omega arith) (λ x y z i c. refl) (λ x y w m c s. refl) (λ w E m s r. refl) (λ m s t. refl) refl)  -- 25 ExistsSubqueryDeferred
     ▹ record { at = λ k a h l. absurd (omega arith) }
 
 pub law : (code a : ℕ) → 0 < shape code → a ≤ limit code → Law code a
@@ -111,6 +114,10 @@ pub plain-made : (ws : List ℕ) (names room at t : ℕ) → 0 < room → t ≡ 
 plain-made ws names room at zero r e h l q n = tt
 plain-made ws names room at (suc t) r e h l q n =
     record { level = r; shaped = e; same = rw e (plain-read ws at names h l (omega arith) q (rw e at n)); within = h; limited = q; named = n }
+
+pub plain-some : {ws : List ℕ} {names room at : ℕ} (t : ℕ) → (t ≡ 0 → ⊥) → Plainly ws names room at t → Plain ws names room at t
+plain-some zero h p = absurd (h refl)
+plain-some (suc t) h p = p
 
 -- ---- what follows the head
 ends : (g : Got Both) (F : Both → Both) → ((t : Both) → F t ≡ t) → bind (bind g (λ s2 r2. ok s2 r2)) (λ s2 r2. ok (F s2) r2) ≡ g
@@ -205,25 +212,11 @@ module _ (i : ℕ → Bool) (code a : ℕ) (c : Setting) where
   unfolding shapeOf formOne settings
   binary-other e l h = let k : a ≤ 19 = rw e at l in rw (e, arith-ops a k .1 h)
 
--- a setting that is passed on, and one that is not
-passing : Each (λ n. n < 8 → (n < 3 → pairOf n ≡ both (passes (settingOf n)) general) × (3 ≤ n → pairOf 0 ≡ both (passes (settingOf n)) general))
-unfolding passes
-passing =
-    (λ l. (λ h. refl, λ h. absurd (omega arith)))
-    ▹ (λ l. (λ h. refl, λ h. absurd (omega arith)))
-    ▹ (λ l. (λ h. refl, λ h. absurd (omega arith)))
-    ▹ (λ l. (λ h. absurd (omega arith), λ h. refl))
-    ▹ (λ l. (λ h. absurd (omega arith), λ h. refl))
-    ▹ (λ l. (λ h. absurd (omega arith), λ h. refl))
-    ▹ (λ l. (λ h. absurd (omega arith), λ h. refl))
-    ▹ (λ l. (λ h. absurd (omega arith), λ h. refl))
-    ▹ record { at = λ k l. absurd (omega arith) }
-
-module _ (i : ℕ → Bool) (code a set : ℕ) (e : code ≡ 16) (l : set < 8) where
+module _ (i : ℕ → Bool) (code a set : ℕ) (e : code ≡ 16) where
   pub unary : set < 3 → pairOf set ≡ settings i (headed code a) (settingOf set)
   unfolding shapeOf formOne settings
-  unary h = rw e (passing .at set l .0 h)
+  unary h = rw e (passed-low set h)
 
   pub unary-other : 3 ≤ set → pairOf 0 ≡ settings i (headed code a) (settingOf set)
   unfolding shapeOf formOne settings
-  unary-other h = rw e (passing .at set l .1 h)
+  unary-other h = rw e (passed-high set h)

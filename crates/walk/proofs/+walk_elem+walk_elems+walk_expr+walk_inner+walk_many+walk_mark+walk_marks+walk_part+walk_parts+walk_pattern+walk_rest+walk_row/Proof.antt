@@ -6,6 +6,7 @@ mod Expr
 mod Inner
 mod Many
 mod Rest
+mod Row
 mod Mark
 mod Marks
 mod Part

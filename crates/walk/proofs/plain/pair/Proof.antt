@@ -21,8 +21,8 @@ pair-spec =
     (λ c. search needs)  -- shr-if4
     (λ c. (omega arith, binary _ _ _ _ (c .before .if3 .taken) (c .before .before .before .pre .1 .1 .1) (c .if4 .taken)))  -- returns-3
     (λ c. (omega arith, binary-other _ _ _ _ (c .before .if3 .taken) (c .before .before .before .pre .1 .1 .1) (c .if4 .left)))  -- returns-4
-    (λ c. let a = c .before .before .before .before .args in (omega arith, unary _ (a .code) (a .a) (a .set) (c .before .if5 .taken) (omega arith) (omega arith)))  -- returns-5
-    (λ c. let a = c .before .before .before .before .args in (omega arith, unary-other _ (a .code) (a .a) (a .set) (c .before .if5 .taken) (omega arith) (omega arith)))  -- returns-6
+    (λ c. let a = c .before .before .before .before .args in (omega arith, unary _ (a .code) (a .a) (a .set) (c .before .if5 .taken) (omega arith)))  -- returns-5
+    (λ c. let a = c .before .before .before .before .args in (omega arith, unary-other _ (a .code) (a .a) (a .set) (c .before .if5 .taken) (omega arith)))  -- returns-6
     (λ c.  -- returns-7
     let p = c .before .before .before .pre in
     let k = law _ _ (rw (p .0) at (p .1 .0)) (p .1 .1 .1) in
