@@ -38,8 +38,9 @@ use steps::pair_of;
 use words::word;
 ghost use Prim.Native.Nat.{ℕ, _≤_};
 ghost use Rattle.words.specs.Words.{words};
-ghost use Rattle.steps.specs.Hold.{Ready};
-ghost use Rattle.walk.specs.Goes.{Walked, exprAt, rowAt, restAt, innerAt, markAt, marksAt, elemAt, elemsAt, partAt, partsAt, patternAt};
+ghost use Rattle.steps.specs.Memory.{worldAt, modeOf};
+ghost use Rattle.steps.specs.Hold.{Ready, Steps, pathStep};
+ghost use Rattle.walk.specs.Goes.{Walked, pathCost, exprAt, rowAt, restAt, innerAt, markAt, marksAt, elemAt, elemsAt, partAt, partsAt, patternAt};
 
 // Each answers 0, or the refusal's number.
 
@@ -258,11 +259,19 @@ fn walk_part(s: &[u8], tab: &[u32], m: &mut [u32], vis: &mut [u32], found: &mut 
     };
     m[AT] = p as u32;
     let path = h.path;
+    bind_part(s, tab, m, vis, found, path, mode);
+    walk_elems(s, tab, m, vis, found, room, h.count, mode)
+}
+
+// A part's path, where it has one.
+fn bind_part(s: &[u8], tab: &[u32], m: &mut [u32], vis: &mut [u32], found: &mut [u32], path: Maybe, mode: u32)
+    requires { ⌜ Ready (pathCost path) (words (now s)) (now tab) (now m) (now vis) (now found) ⌝ }
+    ensures { λ r. ⌜ Steps (pathCost path) (words (now (s .entry))) (now (tab .entry)) (now (m .entry)) (now (vis .entry)) (now (found .entry)) (now (m .exit)) (now (vis .exit)) (now (found .exit)) (λ id. pathStep (worldAt (words (now (s .entry))) (now (tab .entry)) id) (modeOf mode) path) ⌝ }
+{
     match path {
         Maybe::Var(v) => bind_path(s, tab, m, vis, found, v, mode),
         Maybe::Nothing => {}
     }
-    walk_elems(s, tab, m, vis, found, room, h.count, mode)
 }
 
 fn walk_elems(s: &[u8], tab: &[u32], m: &mut [u32], vis: &mut [u32], found: &mut [u32], room: u32, n: u32, mode: u32) -> u32

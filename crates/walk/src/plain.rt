@@ -91,7 +91,7 @@ pub fn plain_at(s: &[u8], names: u32, at: usize, room: u32) -> u32
 
 // How many parts follow.
 pub fn parts_of(t: u32, a: u32) -> usize
-    requires { ⌜ t < 16777216 ⌝ }
+    requires { ⌜ (t < 16777216) × (t / 32 % 2 ≤ t / 16 % 2) ⌝ }
     ensures { λ r. ⌜ r ≡ partsOf t a ⌝ }
 {
     let c = if t / 16 % 2 == 1 { a } else { 0 };
@@ -112,7 +112,7 @@ pub fn pair(t: u32, code: u32, a: u32, set: u32, ident: u32) -> u32
         return 2;
     }
     if code == 15 {
-        if (3903 >> (a % 32)) % 2 == 1 {
+        if (3903u32 >> (a % 32)) % 2 == 1 {
             return 9;
         }
         return 0;

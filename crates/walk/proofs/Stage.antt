@@ -1,0 +1,351 @@
+-- How far a walk has come: from m₀, where G is to be walked, to m, and K is left, which goes by the state at m₀ and the state now. c words were
+-- read that nothing was done for yet: j before m₀, and those since. What was read moves on (`read`, `jump`), a step of the state (`did`) and a
+-- walk within (`go`) too; what was refused is G's refusal (`stop`, `halt`); at the end stands G's answer (`done`, `tail`, `close`). A loop is a
+-- walk of which `rounds` are left (`begun`, `turn`, `fall`, `over`).
+use Prim.Native.Nat.{ℕ, zero, suc, _+_, _-_, _*_, _<_, _≤_}
+use native.Mathlib.Omega.{arith}
+use mathlib.Core.Path.{_≡_, refl, ap, sym, _∙_}
+use mathlib.Core.Bool.{Bool, true, false}
+use mathlib.Core.List.{List}
+use mathlib.Core.Option.{Option, none, some}
+use lib.ListN.{length, getD, set, drop, length-set}
+use Rattle.heads.specs.Got.{Got, ok, no, bind}
+use Rattle.heads.specs.Answer.{Ans}
+use Rattle.heads.proofs.Chain.{Chain, step, last, run}
+use Rattle.heads.specs.declared.Form.{Form}
+use Rattle.heads.specs.declared.Form.the-variants.{Leaf, Var, Unresolved, Prop, Two, Slice, Many, BinOp, UnaryOp, Case, IsNull, PatternPredicate, ListComprehension, PatternComprehension, ListPredicate, MapProjection}
+use Rattle.expr.proofs.Inverse.{never}
+use Rattle.fused.specs.Fused.{Both, Mode, Go, left, tailOf, rounds}
+use Rattle.steps.specs.Memory.{atOf, topOf, curOf, lastOf, saidOf, toldOf, slotsIn}
+use Rattle.steps.specs.Hold.{Fits, Fit, Holds, Frame, Costs, Ready, Left, ClosedIf, Closed}
+use Rattle.steps.proofs.Held.{Numbers, unset, store, lower, framed, framed-idle, frame-more}
+use Rattle.walk.specs.Goes.{Goer, Comes, Came, Goes, Walked}
+
+-- ---- at another word
+module _ (m : List ℕ) (p : ℕ) (size : length m ≡ 64) where
+  pub placed : Numbers m (set m 0 p) p (topOf m) (curOf m) (lastOf m) (saidOf m) (toldOf m) (getD m 6 0) (getD m 7 0)
+  placed = store 0 p (omega arith) size unset
+
+  pub placed-fit : {c i : ℕ} {ws tab vis found : List ℕ} → atOf m ≤ p → p ≤ length ws → i + atOf m ≤ c + p → Fit c ws tab m vis found → Fit i ws tab (set m 0 p) vis found
+  placed-fit {c} {i} {ws} {tab} {vis} {found} l w h f =
+      let q = placed in
+      record {
+        size = q .size ∙ size;
+        tabled = rw (q .top) (f .tabled);
+        descends = rw (q .cur, q .top) (f .descends);
+        cur = rw (q .cur, q .last) (f .cur);
+        last = rw (q .last, q .at) (omega (arith, f .last));
+        count = rw (q .said, q .told, q .at) (omega (arith, f .count));
+        stack = rw (q .top, q .at) (omega (arith, f .stack));
+        within = rw (q .at) w;
+        names = f .names;
+        room = f .room;
+      }
+
+  pub placed-holds : {id : ℕ → ℕ} {tab vis found : List ℕ} {s : Both} → Holds id tab m vis found s → Holds id tab (set m 0 p) vis found s
+  placed-holds h =
+      let q = placed in
+      record {
+        visible = rw (q .top) (h .visible);
+        cur = q .cur ∙ h .cur;
+        last = q .last ∙ h .last;
+        log = rw (q .said) (h .log);
+        kinds = rw (q .told) (h .kinds);
+        known = rw (q .lost) (h .known);
+      }
+
+  pub placed-frame : {room : ℕ} {tab vis : List ℕ} → Frame room tab m vis (set m 0 p) vis
+  placed-frame = let q = placed in record { top = omega (arith, q .top); last = omega (arith, q .last); below = refl; held = q .held; levels = λ d h. q .levels d }
+
+-- ---- what is kept: with `some room` what was visible and the levels above the room; a WITH keeps nothing (`none`)
+abbrev KeepsAs : Option ℕ → (tab m vis m' vis' : List ℕ) → Type 0
+KeepsAs none tab m vis m' vis' = Unit {0}
+KeepsAs (some room) tab m vis m' vis' = Frame room tab m vis m' vis'
+
+pub record Keeps (keep : Option ℕ) (tab m vis m' vis' : List ℕ) : Type 0 where
+  pub kept : KeepsAs keep tab m vis m' vis'
+
+-- a frame of this room keeps it
+abbrev pub Under : ℕ → Option ℕ → Type 0
+Under i none = Unit {0}
+Under i (some room) = i ≤ room
+
+keeps-idle : (k : Option ℕ) {tab m vis : List ℕ} → Keeps k tab m vis m vis
+keeps-idle none = record { kept = tt }
+keeps-idle (some room) = record { kept = framed-idle }
+
+keeps-then : (k : Option ℕ) {i : ℕ} {tab m vis m1 vis1 m2 vis2 : List ℕ} → Under i k → Keeps k tab m vis m1 vis1 → Frame i tab m1 vis1 m2 vis2 → Keeps k tab m vis m2 vis2
+keeps-then none u x f = record { kept = tt }
+keeps-then (some room) u x f = record { kept = framed (x .kept) (frame-more u f) }
+
+under-none : (k : Option ℕ) → Under 0 k
+under-none none = tt
+under-none (some room) = omega arith
+
+-- ---- how far
+abbrev pub Rest : Type 1
+Rest = (ℕ → ℕ) → Both → Both → Chain Both
+
+pub record On (id : ℕ → ℕ) (ws tab m vis found : List ℕ) (K : Both → Chain Both) (g : Got Both) : Type 0 where
+  pub state : Both
+  pub holds : Holds id tab m vis found state
+  pub same : g ≡ run (K state) (drop (atOf m) ws)
+
+pub record Stage (keep : Option ℕ) (j : ℕ) (ws tab m₀ vis₀ found₀ : List ℕ) (G : Goer) (c : ℕ) (m vis found : List ℕ) (K : Rest) : Type 0 where
+  pub from : atOf m₀ ≤ atOf m
+  pub size : length m ≡ 64
+  pub sized : length m ≡ length m₀
+  pub seen : length vis ≡ length vis₀
+  pub wrote : length found ≡ length found₀
+  pub fit : (k : ℕ) → Fit (j + k) ws tab m₀ vis₀ found₀ → Fit (c + k) ws tab m vis found
+  pub keeps : Keeps keep tab m₀ vis₀ m vis
+  pub on : (id : ℕ → ℕ) (s : Both) → Holds id tab m₀ vis₀ found₀ s → On id ws tab m vis found (K id s) (G id s (drop (atOf m₀) ws))
+
+-- G is refused for the cause
+pub record Refuses (ws tab m vis found : List ℕ) (G : Goer) (cause : ℕ) : Type 0 where
+  pub same : (id : ℕ → ℕ) (s : Both) → Holds id tab m vis found s → G id s (drop (atOf m) ws) ≡ no cause
+
+pub start : {keep : Option ℕ} {j : ℕ} {ws tab m vis found : List ℕ} {G : Goer} (K : Rest) → Ready j ws tab m vis found → ((id : ℕ → ℕ) (s : Both) (r : List ℕ) → G id s r ≡ run (K id s s) r) → Stage keep j ws tab m vis found G j m vis found K
+start {keep} K h q =
+    record {
+      from = omega arith;
+      size = h .fit .size;
+      sized = refl;
+      seen = refl;
+      wrote = refl;
+      fit = λ k f. f;
+      keeps = keeps-idle keep;
+      on = λ id s k. record { state = s; holds = k; same = q id s _ };
+    }
+
+module _ {keep : Option ℕ} {j : ℕ} {ws tab m₀ vis₀ found₀ : List ℕ} {G : Goer} {c : ℕ} {m vis found : List ℕ} where
+  -- a step or a walk may begin where the last one came to
+  pub ready : {K : Rest} {i : ℕ} → i ≤ c → Ready j ws tab m₀ vis₀ found₀ → Stage keep j ws tab m₀ vis₀ found₀ G c m vis found K → Ready i ws tab m vis found
+  ready l h o = record { fine = h .fine; fit = lower (omega arith) (omega arith) (o .fit 0 (lower (omega arith) (omega arith) (h .fit))) }
+
+  -- what is left, put another way
+  pub recast : {K : Rest} (L : Rest) → Stage keep j ws tab m₀ vis₀ found₀ G c m vis found K → ((id : ℕ → ℕ) (s t : Both) (r : List ℕ) → run (K id s t) r ≡ run (L id s t) r) → Stage keep j ws tab m₀ vis₀ found₀ G c m vis found L
+  recast L o q =
+      record {
+        from = o .from;
+        size = o .size;
+        sized = o .sized;
+        seen = o .seen;
+        wrote = o .wrote;
+        fit = o .fit;
+        keeps = o .keeps;
+        on = λ id s h. let n = o .on id s h in record { state = n .state; holds = n .holds; same = n .same ∙ q id s (n .state) _ };
+      }
+
+  -- at another word, where what is left comes to the same
+  pub jump : {K : Rest} (L : Rest) (i q : ℕ) → Stage keep j ws tab m₀ vis₀ found₀ G c m vis found K → atOf m ≤ q → q ≤ length ws → i + atOf m ≤ c + q → ((id : ℕ → ℕ) (s t : Both) → run (K id s t) (drop (atOf m) ws) ≡ run (L id s t) (drop q ws)) → Stage keep j ws tab m₀ vis₀ found₀ G i (set m 0 q) vis found L
+  jump L i q o l w h z =
+      let p = placed m q (o .size) in
+      record {
+        from = omega (arith, o .from, p .at);
+        size = p .size ∙ o .size;
+        sized = p .size ∙ o .sized;
+        seen = o .seen;
+        wrote = o .wrote;
+        fit = λ k f. placed-fit m q (o .size) l w (omega arith) (o .fit k f);
+        keeps = keeps-then keep (under-none keep) (o .keeps) (placed-frame m q (o .size));
+        on = λ id s k. let n = o .on id s k in record { state = n .state; holds = placed-holds m q (o .size) (n .holds); same = rw (p .at) (n .same ∙ z id s (n .state)) };
+      }
+
+  -- with fewer words that nothing was done for
+  pub fewer : {K : Rest} (i : ℕ) → i ≤ c → Stage keep j ws tab m₀ vis₀ found₀ G c m vis found K → Stage keep j ws tab m₀ vis₀ found₀ G i m vis found K
+  fewer i h o =
+      record {
+        from = o .from;
+        size = o .size;
+        sized = o .sized;
+        seen = o .seen;
+        wrote = o .wrote;
+        fit = λ k f. lower (omega arith) (omega arith) (o .fit k f);
+        keeps = o .keeps;
+        on = o .on;
+      }
+
+  module _ {B : Type 0} {R : List ℕ → Got B} {K : (ℕ → ℕ) → B → Both → Both → Chain Both} (o : Stage keep j ws tab m₀ vis₀ found₀ G c m vis found (λ id s t. step R (λ x. K id x s t))) where
+    -- what was read, with i words that nothing was done for
+    pub read : (i : ℕ) {x : B} {q : ℕ} → Ans ws (atOf m) (R (drop (atOf m) ws)) (ok x (drop q ws)) q → i + atOf m ≤ c + q → Stage keep j ws tab m₀ vis₀ found₀ G i (set m 0 q) vis found (λ id. K id x)
+    read i {x} {q} a h = jump (λ id. K id x) i q o (a .from) (a .within) h (λ id s t. rw (a .same))
+
+    pub stop : {e k : ℕ} → Ans ws (atOf m) (R (drop (atOf m) ws)) (no e) k → Refuses ws tab m₀ vis₀ found₀ G e
+    stop a = record { same = λ id s h. rw (o .on id s h .same, a .same) }
+
+  -- a step for which e and t words pay, after which i are left
+  pub did : {F : (ℕ → ℕ) → Both → Both} {e t : ℕ} {m' vis' found' : List ℕ} (K : Rest) (i : ℕ) → e + i ≤ c → t + i ≤ c → Stage keep j ws tab m₀ vis₀ found₀ G c m vis found (λ id s u. K id s (F id u)) → Costs e t ws tab m vis found m' vis' found' F → Stage keep j ws tab m₀ vis₀ found₀ G i m' vis' found' K
+  did {F} {e} {t} K i a b o x =
+      let p = x .at in
+      record {
+        from = omega (arith, o .from, p);
+        size = x .sized ∙ o .size;
+        sized = x .sized ∙ o .sized;
+        seen = x .seen ∙ o .seen;
+        wrote = x .wrote ∙ o .wrote;
+        fit = λ k f. x .fit (i + k) (i + k) (lower (omega arith) (omega arith) (o .fit k f));
+        keeps = keeps-then keep (under-none keep) (o .keeps) (x .frame);
+        on = λ id s h. let n = o .on id s h in record { state = F id (n .state); holds = x .goes id (n .state) (n .holds); same = rw p (n .same) };
+      }
+
+-- ---- walks within, which answer a
+module _ {keep : Option ℕ} {j : ℕ} {ws tab m₀ vis₀ found₀ : List ℕ} {G : Goer} {c : ℕ} {m vis found : List ℕ} {i : ℕ} {H : Goer} {m' vis' found' : List ℕ} {a : ℕ} {K : Rest}
+    (o : Stage keep j ws tab m₀ vis₀ found₀ G c m vis found (λ id s t. step (H id t) (K id s))) (x : Walked i ws tab m vis found m' vis' found' H a) where
+  pub go : Under i keep → a ≡ 0 → Stage keep j ws tab m₀ vis₀ found₀ G c m' vis' found' K
+  go u q =
+      let y = rw q at (x .goes) in
+      record {
+        from = omega (arith, o .from, y .from);
+        size = x .sized ∙ o .size;
+        sized = x .sized ∙ o .sized;
+        seen = x .seen ∙ o .seen;
+        wrote = x .wrote ∙ o .wrote;
+        fit = λ k f. y .fit (c + k) (o .fit k f);
+        keeps = keeps-then keep u (o .keeps) (y .frame);
+        on = λ id s h. let n = o .on id s h in let l = y .goes id (n .state) (n .holds) in
+            record { state = l .state; holds = l .holds; same = rw (n .same, l .same) };
+      }
+
+refusal : {room : ℕ} {ws tab m vis found m' vis' found' : List ℕ} {H : Goer} (a : ℕ) → (a ≡ 0 → ⊥) → Walked room ws tab m vis found m' vis' found' H a → Refuses ws tab m vis found H a
+refusal zero h x = absurd (h refl)
+refusal (suc a) h x = record { same = x .goes }
+
+module _ {keep : Option ℕ} {j : ℕ} {ws tab m₀ vis₀ found₀ : List ℕ} {G : Goer} {c : ℕ} {m vis found : List ℕ} {i : ℕ} {H : Goer} {m' vis' found' : List ℕ} {a : ℕ} {K : Rest}
+    (o : Stage keep j ws tab m₀ vis₀ found₀ G c m vis found (λ id s t. step (H id t) (K id s))) (x : Walked i ws tab m vis found m' vis' found' H a) where
+  pub halt : (a ≡ 0 → ⊥) → Refuses ws tab m₀ vis₀ found₀ G a
+  halt q = record { same = λ id s h. let n = o .on id s h in rw (n .same, refusal a q x .same id (n .state) (n .holds)) }
+
+-- ---- the end, of a walk that keeps what was visible
+module _ {room : ℕ} {ws tab m₀ vis₀ found₀ : List ℕ} {G : Goer} {c : ℕ} {m vis found : List ℕ} where
+  -- refused at m
+  pub refused : {K : Rest} (a : ℕ) → (a ≡ 0 → ⊥) → Stage (some room) 0 ws tab m₀ vis₀ found₀ G c m vis found K → Refuses ws tab m₀ vis₀ found₀ G a → Walked room ws tab m₀ vis₀ found₀ m vis found G a
+  refused zero q o g = absurd (q refl)
+  refused (suc a) q o g = record { sized = o .sized; seen = o .seen; wrote = o .wrote; goes = g .same }
+
+  pub done : Stage (some room) 0 ws tab m₀ vis₀ found₀ G c m vis found (λ id s t. last (ok t)) → Walked room ws tab m₀ vis₀ found₀ m vis found G 0
+  done o =
+      record {
+        sized = o .sized;
+        seen = o .seen;
+        wrote = o .wrote;
+        goes = record {
+          from = o .from;
+          fit = λ k f. lower (omega arith) (omega arith) (o .fit k (lower (omega arith) (omega arith) f));
+          frame = o .keeps .kept;
+          goes = λ id s h. let n = o .on id s h in record { state = n .state; holds = n .holds; same = n .same };
+        };
+      }
+
+bind-ok : (g : Got Both) → g ≡ bind g (λ u r. ok u r)
+bind-ok (ok u r) = refl
+bind-ok (no e) = refl
+
+module _ {room : ℕ} {ws tab m₀ vis₀ found₀ : List ℕ} {G : Goer} {c : ℕ} {m vis found : List ℕ} {i : ℕ} {H : Goer} {m' vis' found' : List ℕ} where
+  -- refused by the walk within
+  pub fell : {K : Rest} (a : ℕ) → (a ≡ 0 → ⊥) → Stage (some room) 0 ws tab m₀ vis₀ found₀ G c m vis found (λ id s t. step (H id t) (K id s)) → Walked i ws tab m vis found m' vis' found' H a → Walked room ws tab m₀ vis₀ found₀ m' vis' found' G a
+  fell zero q o x = absurd (q refl)
+  fell (suc a) q o x = record { sized = x .sized ∙ o .sized; seen = x .seen ∙ o .seen; wrote = x .wrote ∙ o .wrote; goes = halt o x q .same }
+
+  -- the walk within is the last one
+  pub tail : (a : ℕ) → i ≤ room → Stage (some room) 0 ws tab m₀ vis₀ found₀ G c m vis found (λ id s t. last (H id t)) → Walked i ws tab m vis found m' vis' found' H a → Walked room ws tab m₀ vis₀ found₀ m' vis' found' G a
+  tail zero l o x = done (go {K = λ id s u. last (ok u)} (recast (λ id s t. step (H id t) (λ u. last (ok u))) o (λ id s t r. bind-ok (H id t r))) x l refl)
+  tail (suc a) l o x = fell {K = λ id s u. last (ok u)} (suc a) (λ e. never (cc)) (recast (λ id s t. step (H id t) (λ u. last (ok u))) o (λ id s t r. bind-ok (H id t r))) x
+
+-- ---- out of the scope that was opened at m₀
+module _ {room : ℕ} {ws tab m₀ vis₀ found₀ : List ℕ} {G : Goer} {c : ℕ} {m vis found m' vis' : List ℕ} where
+  out : (mode : Mode) → mode .resolves ≡ true → Stage (some room) 0 ws tab m₀ vis₀ found₀ G c m vis found (λ id s t. last (ok (left mode s t))) → Left tab m vis m' vis' (topOf m₀) (curOf m₀) → Walked room ws tab m₀ vis₀ found₀ m' vis' found G 0
+  out mode live o l =
+      let f = o .keeps .kept in
+      let q : Numbers m m' (atOf m) (topOf m₀) (curOf m₀) (lastOf m) (saidOf m) (toldOf m) (getD m 6 0) (getD m 7 0) =
+      rw (l .numbers) (store 2 (curOf m₀) (omega arith) (o .size) (store 1 (topOf m₀) (omega arith) (o .size) unset)) in
+      let seen₀ = l .below ∙ f .below in
+      record {
+        sized = q .size ∙ o .sized;
+        seen = l .kept ∙ o .seen;
+        wrote = o .wrote;
+        goes = record {
+          from = omega (arith, o .from, q .at);
+          fit = λ k y. let x = lower {i = 0 + k} {k = 0 + k} (omega arith) (omega arith) y in let g = o .fit k x in
+              record {
+                size = q .size ∙ o .size;
+                tabled = rw (q .top) (l .tabled);
+                descends = rw (q .cur, q .top, seen₀) (y .descends);
+                cur = rw (q .cur, q .last) (omega (arith, y .cur, f .last));
+                last = rw (q .last, q .at) (omega (arith, g .last));
+                count = rw (q .said, q .told, q .at) (omega (arith, g .count));
+                stack = rw (q .top, q .at) (omega (arith, g .stack, f .top));
+                within = rw (q .at) (g .within);
+                names = rw (l .kept) (g .names);
+                room = g .room;
+              };
+          frame = record { top = omega (arith, q .top); last = omega (arith, q .last, f .last); below = seen₀; held = q .held ∙ f .held; levels = λ d h. q .levels d ∙ f .levels d h };
+          goes = λ id s h. let n = o .on id s h in
+              record {
+                state = left mode s (n .state);
+                holds = record {
+                  visible = rw (q .top, seen₀, live) (h .visible);
+                  cur = rw (q .cur, live) (h .cur);
+                  last = rw (q .last, live) (n .holds .last);
+                  log = rw (q .said, live) (n .holds .log);
+                  kinds = rw (q .told) (n .holds .kinds);
+                  known = rw (q .lost) (n .holds .known);
+                };
+                same = rw (q .at) (n .same);
+              };
+        };
+      }
+
+  stayed : Stage (some room) 0 ws tab m₀ vis₀ found₀ G c m vis found (λ id s t. last (ok t)) → (m' ≡ m) × (vis' ≡ vis) → Walked room ws tab m₀ vis₀ found₀ m' vis' found G 0
+  stayed o l = rw (l .0, l .1) (done o)
+
+  out-if : (mode : Mode) (b : Bool) → mode .resolves ≡ b → Stage (some room) 0 ws tab m₀ vis₀ found₀ G c m vis found (λ id s t. last (ok (left mode s t))) → ClosedIf b tab m vis m' vis' (topOf m₀) (curOf m₀) → Walked room ws tab m₀ vis₀ found₀ m' vis' found G 0
+  out-if mode true q o l = out mode q o l
+  out-if mode false q o l = stayed (recast (λ id s t. last (ok t)) o (λ id s t r. rw q)) l
+
+  pub close : (mode : Mode) (f : Form) → Stage (some room) 0 ws tab m₀ vis₀ found₀ G c m vis found (λ id s t. last (ok (tailOf mode f s t))) → Closed tab m vis m' vis' (topOf m₀) (curOf m₀) mode f → Walked room ws tab m₀ vis₀ found₀ m' vis' found G 0
+  close mode (Leaf k) o l = stayed o l
+  close mode (Var v) o l = stayed o l
+  close mode (Unresolved x) o l = stayed o l
+  close mode (Prop x) o l = stayed o l
+  close mode (Two k) o l = stayed o l
+  close mode (Slice b) o l = stayed o l
+  close mode (Many k n) o l = stayed o l
+  close mode (BinOp p) o l = stayed o l
+  close mode (UnaryOp p) o l = stayed o l
+  close mode (Case b n) o l = stayed o l
+  close mode IsNull o l = stayed o l
+  close mode PatternPredicate o l = stayed o l
+  close mode (ListComprehension g) o l = stayed o l
+  close mode (PatternComprehension a b g) o l = out-if mode (mode .resolves) refl o l
+  close mode (ListPredicate g) o l = stayed o l
+  close mode (MapProjection n) o l = stayed o l
+
+-- ---- loops: of n rounds, left are left
+pub record Turning (room : ℕ) (ws tab m₀ vis₀ found₀ : List ℕ) (n : ℕ) (one : Goer) (m vis found : List ℕ) (left : ℕ) : Type 0 where
+  pub stage : Stage (some room) 0 ws tab m₀ vis₀ found₀ (λ id. rounds n (one id)) 0 m vis found (λ id s t. last (rounds left (one id) t))
+
+pub begun : {room : ℕ} {ws tab m vis found : List ℕ} (n : ℕ) (one : Goer) → Ready 0 ws tab m vis found → Turning room ws tab m vis found n one m vis found n
+begun n one h = record { stage = start (λ id s t. last (rounds n (one id) t)) h (λ id s r. refl) }
+
+ahead : (left : ℕ) (one : Go) (t : Both) (r : List ℕ) → 0 < left → rounds left one t r ≡ run (step (one t) (λ u. last (rounds (left - 1) one u))) r
+unfolding rounds
+ahead left one t r h =
+    let l : left ≡ suc (left - 1) = omega arith in
+    ap (λ (k : ℕ). rounds k one t r) l
+
+module _ {room : ℕ} {ws tab m₀ vis₀ found₀ : List ℕ} {n : ℕ} {one : Goer} {m vis found : List ℕ} {left : ℕ} (o : Turning room ws tab m₀ vis₀ found₀ n one m vis found left) where
+  next : 0 < left → Stage (some room) 0 ws tab m₀ vis₀ found₀ (λ id. rounds n (one id)) 0 m vis found (λ id s t. step (one id t) (λ u. last (rounds (left - 1) (one id) u)))
+  next h = recast _ (o .stage) (λ id s t r. ahead left (one id) t r h)
+
+  pub turn : {m' vis' found' : List ℕ} {i a : ℕ} → i ≤ room → 0 < left → a ≡ 0 → Walked i ws tab m vis found m' vis' found' one a → Turning room ws tab m₀ vis₀ found₀ n one m' vis' found' (left - 1)
+  turn l h q x = record { stage = go (next h) x l q }
+
+  pub fall : {m' vis' found' : List ℕ} {i : ℕ} (a : ℕ) → 0 < left → (a ≡ 0 → ⊥) → Walked i ws tab m vis found m' vis' found' one a → Walked room ws tab m₀ vis₀ found₀ m' vis' found' (λ id. rounds n (one id)) a
+  fall a h q x = fell a q (next h) x
+
+  pub over : left ≤ 0 → Walked room ws tab m₀ vis₀ found₀ m vis found (λ id. rounds n (one id)) 0
+  unfolding rounds
+  over h =
+      let z : left ≡ 0 = omega arith in
+      done (recast (λ id s t. last (ok t)) (o .stage) (λ id s t r. ap (λ (k : ℕ). rounds k (one id) t r) z))
