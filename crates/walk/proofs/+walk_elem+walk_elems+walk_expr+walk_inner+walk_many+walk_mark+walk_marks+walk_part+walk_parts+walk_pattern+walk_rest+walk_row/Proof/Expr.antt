@@ -48,7 +48,7 @@ holds t =
     did (λ id u v. step (restAt (words (a .s .now)) (a .tab .now) (a .room - 1) (a .mode) f id v) λ x. last (ok (tailOf (modeOf (a .mode)) f u x))) 0 (omega arith) (omega arith) (one (k .before .before .before .before .before .before)) (k .begin .ensures)) in
     let three = fact (λ (k : Else2 (calls t) (asks t) walk-expr.Post). go (two (k .before .before .before .before .before .before .before .before .before .before .before .before .before .before .before)) (k .before .before .before .before .before .before .before .walk-rest .ensures) (omega arith) (k .if2 .left)) in
     let bad = fact (λ (k : Then2 (calls t) (asks t) walk-expr.Post). fell (k .before .before .before .before .before .before .before .walk-rest .result) (k .if2 .taken) (two (k .before .before .before .before .before .before .before .before .before .before .before .before .before .before .before)) (k .before .before .before .before .before .before .before .walk-rest .ensures)) in
-    let ended = fact (λ (k : After-finish (calls t) (asks t) walk-expr.Post). close (modeOf (k .before .before .before .before .before .before .before .before .before .before .before .before .before .before .before .before .before .before .before .before .before .before .before .before .before .before .before .before .before .before .before .before .before .before .before .before .args .mode)) (k .before .before .before .before .before .before .before .before .before .before .before .before .before .before .before .before .before .before .before .before .before .before .before .before .before .f .given .0 .0) (three (k .before .before .before)) (k .finish .ensures)) in
+    let ended = fact (λ (k : After-finish (calls t) (asks t) walk-expr.Post). let s = k .before .before .before .before .before .before .before .before .before .before .before .before .before .before .before .before .before .before .before .before .before .before .before .before .before .before .before .before .before .before .before .before .before .before .before .before in close (modeOf (s .args .mode)) (k .before .before .before .before .before .before .before .before .before .before .before .before .before .before .before .before .before .before .before .before .before .before .before .before .before .f .given .0 .0) (s .pre .1 .1) (three (k .before .before .before)) (k .finish .ensures)) in
     spec (calls t) (asks t) walk-expr.Post
     (λ c. omega (arith, c .before .before .before .before .before .before .pre .1 .1 .fit .size)) (λ c. search needs) (λ c κs. search needs)  -- slice-read-at, cast-at, deep-cause-requires
     (λ c.  -- returns
