@@ -2,23 +2,23 @@
 -- read that nothing was done for yet: j before m₀, and those since. What was read moves on (`read`, `jump`), a step of the state (`did`) and a
 -- walk within (`go`) too; what was refused is G's refusal (`stop`, `halt`); at the end stands G's answer (`done`, `tail`, `close`). A loop is a
 -- walk of which `rounds` are left (`begun`, `turn`, `fall`, `over`).
-use Prim.Native.Nat.{ℕ, zero, suc, _+_, _-_, _*_, _<_, _≤_}
+use Prim.Native.Nat.{ℕ, zero, suc, _+_, _-_, _<_, _≤_}
 use native.Mathlib.Omega.{arith}
-use mathlib.Core.Path.{_≡_, refl, ap, sym, _∙_}
+use mathlib.Core.Path.{_≡_, refl, ap, _∙_}
 use mathlib.Core.List.{List}
 use mathlib.Core.Option.{Option, none, some}
-use lib.ListN.{length, getD, set, drop, length-set}
+use lib.ListN.{length, getD, set, drop}
 use Rattle.heads.specs.Got.{Got, ok, no, bind}
 use Rattle.heads.specs.Answer.{Ans}
 use Rattle.heads.proofs.Chain.{Chain, step, last, run}
 use Rattle.heads.specs.declared.Form.{Form}
 use Rattle.expr.proofs.Inverse.{never}
 use Rattle.fused.specs.Fused.{Both, Mode, Go, tailOf, rounds}
-use Rattle.steps.specs.Memory.{atOf, topOf, curOf, lastOf, saidOf, toldOf, slotsIn}
-use Rattle.steps.specs.Hold.{Fits, Fit, Holds, Frame, Costs, Ready, Closed}
+use Rattle.steps.specs.Memory.{atOf, topOf, curOf, lastOf, saidOf, toldOf}
+use Rattle.steps.specs.Hold.{Fit, Holds, Frame, Costs, Ready, Closed}
 use Rattle.steps.proofs.Heads.{closed-fits, closed-frame, closed-stays, closed-holds}
 use Rattle.steps.proofs.Held.{Numbers, unset, store, lower, framed, framed-idle, frame-more}
-use Rattle.walk.specs.Goes.{Goer, Comes, Came, Goes, Walked}
+use Rattle.walk.specs.Goes.{Goer, Walked}
 
 -- ---- at another word
 module _ (m : List ℕ) (p : ℕ) (size : length m ≡ 64) where

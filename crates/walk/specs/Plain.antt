@@ -1,13 +1,13 @@
 -- Plain heads: those whose parts follow at once, and uses. By code: how a plain head is read, how many parts it has and in which settings
 -- they stand.
-use Prim.Native.Nat.{ℕ, zero, suc, _+_, _-_, _*_, _/_, _%_, _^_, _<_, _≤_}
+use Prim.Native.Nat.{ℕ, zero, suc, _+_, _-_, _*_, _/_, _%_, _<_, _≤_}
 use mathlib.Core.Path.{_≡_}
-use mathlib.Core.Bool.{Bool, true, false, cond, _&&_}
+use mathlib.Core.Bool.{cond}
 use mathlib.Core.List.{List, [], _∷_}
 use lib.Dec.{eqb}
 use lib.ListN.{length, getD, drop}
 use Rattle.heads.specs.Got.{ok, look}
-use Rattle.heads.specs.Form.{shapeOf, formNone, formOne, readForm, kidsOf, itemsOf, hasPattern}
+use Rattle.heads.specs.Form.{shapeOf, formNone, formOne, readForm}
 use Rattle.heads.specs.declared.Form.{Form}
 
 -- What a shape is the sum of: that a head is plain; that a word follows its code; how many parts it has at least; that the word counts parts

@@ -5,13 +5,12 @@ use borrow.Author.Needs.{needs}
 use native.Mathlib.Omega.{arith}
 use borrow.Fn.Kinds.{In}
 use mathlib.Core.Logic.{⊎-elim}
-use mathlib.Core.Path.{refl, sym, ap, _∙_}
+use mathlib.Core.Path.{refl, sym, _∙_}
 use lib.ListN.{length, getD}
 use Rattle.words.specs.Words.{words}
 use Rattle.heads.proofs.Chain.{fact}
-use Rattle.steps.specs.Memory.{atOf}
-use Rattle.walk.specs.Plain.{shape, limit, headed, partsOf}
-use Rattle.walk.proofs.Plains.{law, plain-some}
+use Rattle.walk.specs.Plain.{headed}
+use Rattle.walk.proofs.Plains.{plain-some}
 use Rattle.walk.proofs.Modes.{in-set, in-act}
 use Rattle.walk.proofs.Stage.{placed}
 use Rattle.walk.proofs.Climb.{Rowing, row-begin, row-ready, row-within, row-done, row-pop, row-one, row-fall, act-asks, parts-ask, pair-asks, head-few, head-end, head-calm, head-acted, head-at, row-leaf, row-down, lighter}
