@@ -185,9 +185,9 @@ module _ {ws tab m₀ vis₀ found₀ : List ℕ} {room mode n : ℕ} {m vis fou
         let w = f .within in
         let z = here in
         rw (← (set-set m 0 at end)) (jump _ (1 + t % 2) end (next h) (omega arith) (omega arith) (omega arith)
-            (λ id s u. rw z (ap (λ (g : Got Both). bind g (λ x r2. bind (rowGo (within ws tab mode id d) (left - 1) (both (settingOf later) (settingOf later)) x r2) (λ y r3. climb (within ws tab mode id) (levelOf m) d (room - d) y r3)))
-                (ap (λ (k : ℕ). within ws tab mode id k (settingOf now) u (drop at ws)) one
-                ∙ plain-expr (worldAt ws tab id) (tablesIn tab) (d - 1) (modeOf mode) code word (settingOf now) u (drop at ws) (drop end ws) shaped (f .limited) (f .same)))))
+        (λ id s u. rw z (ap (λ (g : Got Both). bind g (λ x r2. bind (rowGo (within ws tab mode id d) (left - 1) (both (settingOf later) (settingOf later)) x r2) (λ y r3. climb (within ws tab mode id) (levelOf m) d (room - d) y r3)))
+        (ap (λ (k : ℕ). within ws tab mode id k (settingOf now) u (drop at ws)) one
+        ∙ plain-expr (worldAt ws tab id) (tablesIn tab) (d - 1) (modeOf mode) code word (settingOf now) u (drop at ws) (drop end ws) shaped (f .limited) (f .same)))))
 
     pub head-ready : Ready 0 ws tab m₀ vis₀ found₀ → Ready (costOf (headed code word)) ws tab (set m 0 end) vis found
     head-ready r = let l = law code word shaped (f .limited) .cost in ready (omega (arith, l, f .shaped)) r head
