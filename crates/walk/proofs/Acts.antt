@@ -2,20 +2,20 @@
 -- type that it shows (`type-act`, `type-idle`). A part without a path binds nothing (`path-none`).
 use Prim.Native.Nat.{ℕ, _/_, _%_, _<_, _≤_}
 use native.Mathlib.Omega.{arith}
-use mathlib.Core.Path.{_≡_, refl, sym, subst}
+use mathlib.Core.Path.{_≡_, refl, sym}
 use mathlib.Core.Bool.{Bool, true, false, _&&_}
 use mathlib.Core.List.{List, []}
 use mathlib.Core.Option.{none}
-use Rattle.heads.specs.Form.{shapeOf, formNone, formOne}
+use Rattle.heads.specs.Form.{shapeOf, formOne}
 use Rattle.heads.specs.declared.Maybe.{Maybe}
 use Rattle.heads.specs.declared.Maybe.the-variants as maybe
 use Rattle.expr.specs.Binders.{binder, allKnown}
 use Rattle.semantics.specs.World.{variable}
 use Rattle.semantics.specs.Resolve.{useVar, bindPath}
 use Rattle.semantics.specs.Kinds.{atType, atRow, misplaced, rowFor}
-use Rattle.fused.specs.Fused.{Both, Mode, when, told, step, same, nameUse, headOf}
+use Rattle.fused.specs.Fused.{when, told, step, nameUse, headOf}
 use Rattle.steps.specs.Memory.{slotsIn, worldAt, modeOf, firstOf}
-use Rattle.steps.specs.Hold.{Costs, Steps, Ready, costOf, costIn, actOf, onNames, onKinds, pathStep}
+use Rattle.steps.specs.Hold.{Steps, Ready, costOf, costIn, actOf, onNames, onKinds, pathStep}
 use Rattle.steps.specs.declared.head.Act.{Act}
 use Rattle.steps.specs.declared.head.Act.the-variants.{Shows, Uses, Names, Opens}
 use Rattle.steps.proofs.Held.{idle-step, as-steps, more-steps, ready-less}

@@ -8,24 +8,23 @@ use native.Mathlib.Numerals.{add-one}
 use mathlib.Core.Path.{_≡_, refl, ap, sym, _∙_}
 use mathlib.Core.Bool.{Bool, true, false}
 use mathlib.Core.List.{List}
-use mathlib.Core.Option.{Option, some}
+use mathlib.Core.Option.{some}
 use lib.Dec.{eqb, ltb}
 use borrow.Author.Tests.{ltb-true, ltb-false}
 use lib.ListN.{length, getD, set, drop, length-set}
 use lib.Seq.{getD-set-same, getD-set-other, set-getD, set-set, set-comm}
 use Rattle.heads.specs.Got.{Got, ok, no, bind}
-use Rattle.heads.proofs.Chain.{Chain, step, last, run}
+use Rattle.heads.proofs.Chain.{Chain, step, last}
 use Rattle.heads.proofs.Shapes.{bind-each, bind-bind}
-use Rattle.semantics.specs.Kinds.{Setting, Pair, both, settings}
+use Rattle.semantics.specs.Kinds.{Setting, both, settings}
 use Rattle.fused.specs.Fused.{Both, Go, rowGo, exprGo, headOf}
-use Rattle.steps.specs.Memory.{atOf, levelOf, namesIn, slotsIn, identIn, tablesIn, worldAt, modeOf, settingOf, firstOf}
-use Rattle.steps.specs.Hold.{Fit, Holds, Frame, Costs, Steps, Ready, pairOf, costOf}
-use Rattle.steps.proofs.Held.{framed, frame-more}
-use Rattle.walk.specs.Goes.{Goer, Walked, exprIn, exprAt, rowAt}
+use Rattle.steps.specs.Memory.{atOf, levelOf, namesIn, slotsIn, identIn, tablesIn, worldAt, modeOf, settingOf}
+use Rattle.steps.specs.Hold.{Steps, Ready, pairOf, costOf}
+use Rattle.steps.proofs.Held.{framed}
+use Rattle.walk.specs.Goes.{Goer, Walked, exprIn, rowAt}
 use Rattle.walk.specs.Plain.{shape, limit, headed, partsOf, Plain}
 use Rattle.walk.proofs.Plains.{law, plain-expr, plain-calm}
-use Rattle.walk.proofs.Modes.{in-set}
-use Rattle.walk.proofs.Stage.{Keeps, Rest, Stage, placed, start, ready, recast, jump, fewer, did, go, fell, done}
+use Rattle.walk.proofs.Stage.{Rest, Stage, placed, start, ready, recast, jump, fewer, did, go, fell, done}
 
 -- ---- rows that wait
 unfoldable pub climb : (ℕ → Setting → Go) → (ℕ → ℕ) → ℕ → ℕ → Go
@@ -186,9 +185,9 @@ module _ {ws tab m₀ vis₀ found₀ : List ℕ} {room mode n : ℕ} {m vis fou
         let w = f .within in
         let z = here in
         rw (← (set-set m 0 at end)) (jump _ (1 + t % 2) end (next h) (omega arith) (omega arith) (omega arith)
-            (λ id s u. rw z (ap (λ (g : Got Both). bind g (λ x r2. bind (rowGo (within ws tab mode id d) (left - 1) (both (settingOf later) (settingOf later)) x r2) (λ y r3. climb (within ws tab mode id) (levelOf m) d (room - d) y r3)))
-                (ap (λ (k : ℕ). within ws tab mode id k (settingOf now) u (drop at ws)) one
-                ∙ plain-expr (worldAt ws tab id) (tablesIn tab) (d - 1) (modeOf mode) code word (settingOf now) u (drop at ws) (drop end ws) shaped (f .limited) (f .same)))))
+        (λ id s u. rw z (ap (λ (g : Got Both). bind g (λ x r2. bind (rowGo (within ws tab mode id d) (left - 1) (both (settingOf later) (settingOf later)) x r2) (λ y r3. climb (within ws tab mode id) (levelOf m) d (room - d) y r3)))
+        (ap (λ (k : ℕ). within ws tab mode id k (settingOf now) u (drop at ws)) one
+        ∙ plain-expr (worldAt ws tab id) (tablesIn tab) (d - 1) (modeOf mode) code word (settingOf now) u (drop at ws) (drop end ws) shaped (f .limited) (f .same)))))
 
     pub head-ready : Ready 0 ws tab m₀ vis₀ found₀ → Ready (costOf (headed code word)) ws tab (set m 0 end) vis found
     head-ready r = let l = law code word shaped (f .limited) .cost in ready (omega (arith, l, f .shaped)) r head

@@ -2,7 +2,7 @@
 -- (`unresolved`). What is walked in such a mode is what is walked in the settings (`in-set`, `in-pair`, `in-kids`, `in-marks`, `in-pattern`, `in-kinds`, `in-act`).
 use Prim.Native.Nat.{ℕ, _+_, _*_, _/_, _%_, _<_}
 use native.Mathlib.Omega.{arith}
-use mathlib.Core.Path.{_≡_, refl, ap, subst, _∙_}
+use mathlib.Core.Path.{_≡_, ap, subst, _∙_}
 use mathlib.Core.List.{List}
 use lib.Dec.{eqb}
 use Rattle.heads.specs.declared.Form.{Form}

@@ -4,7 +4,7 @@ use Prim.Native.Nat.{ℕ, _+_, _-_, _<_, _≤_}
 use native.Mathlib.Omega.{arith}
 use mathlib.Core.Bool.{Bool, true, false, cond}
 use lib.Dec.{eqb}
-use mathlib.Core.Path.{_≡_, refl, ap, sym, _∙_}
+use mathlib.Core.Path.{_≡_, ap}
 use mathlib.Core.List.{List, [], _∷_, _++_}
 use lib.ListN.{length, drop, length-append, length-drop}
 use Rattle.heads.specs.Got.{ok, wordIn}

@@ -1,14 +1,14 @@
 -- What a plain head is by its code (`laws`, one line for each code): how it is read, its parts, their settings, and what it does itself.
 -- `plain-read`: it is read there. `plain-expr`: an expression with such a head is what the head does, and then its parts in a row, a level
 -- lower. `plain-calm`: where the shape has no bit for a setting, the head does nothing there.
-use Prim.Native.Nat.{ℕ, zero, suc, _+_, _-_, _*_, _/_, _%_, _^_, _≤_, _<_}
+use Prim.Native.Nat.{ℕ, zero, suc, _+_, _-_, _/_, _%_, _^_, _≤_, _<_}
 use native.Mathlib.Omega.{arith}
-use mathlib.Core.Path.{_≡_, refl, sym, ap, _∙_}
-use mathlib.Core.Bool.{Bool, true, false, cond, _&&_, _||_}
+use mathlib.Core.Path.{_≡_, refl, ap, _∙_}
+use mathlib.Core.Bool.{Bool, true, false, cond, _&&_}
 use mathlib.Core.List.{List, [], _∷_}
-use lib.Dec.{eqb, ltb, leb}
+use lib.Dec.{eqb}
 use lib.ListN.{length, getD, drop}
-use borrow.Author.Tests.{lt-ltb, le-leb, eqb-true, eqb-false, ltb-true}
+use borrow.Author.Tests.{lt-ltb, le-leb, eqb-true, eqb-false}
 use Rattle.words.proofs.Words.{drop-word}
 use Rattle.heads.specs.Got.{Got, ok, no, bind, wordIn}
 use Rattle.heads.specs.Form.{shapeOf, limitOf, formNone, formOne, restOf, readForm, kidsOf, itemsOf}
@@ -17,8 +17,8 @@ use Rattle.heads.specs.declared.Form.{Form}
 use Rattle.semantics.specs.Log.{Finding}
 use Rattle.semantics.specs.World.{World}
 use Rattle.semantics.specs.Resolve.{State}
-use Rattle.semantics.specs.Kinds.{Setting, Pair, isArithmetic, settings, typeOf, atType}
-use Rattle.fused.specs.Fused.{Both, Mode, Go, when, told, step, same, tailOf, headOf, innerGo, rounds, rowGo, markGo, restGo, exprGo}
+use Rattle.semantics.specs.Kinds.{Setting, isArithmetic, settings, typeOf, atType}
+use Rattle.fused.specs.Fused.{Both, Mode, Go, when, told, step, same, tailOf, headOf, innerGo, rounds, rowGo, restGo, exprGo}
 use Rattle.expr.proofs.Inverse.{never}
 use Rattle.flat.proofs.Codes.{Each, _▹_}
 use Rattle.steps.specs.Memory.{settingOf}

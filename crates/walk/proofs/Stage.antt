@@ -2,24 +2,23 @@
 -- read that nothing was done for yet: j before m₀, and those since. What was read moves on (`read`, `jump`), a step of the state (`did`) and a
 -- walk within (`go`) too; what was refused is G's refusal (`stop`, `halt`); at the end stands G's answer (`done`, `tail`, `close`). A loop is a
 -- walk of which `rounds` are left (`begun`, `turn`, `fall`, `over`).
-use Prim.Native.Nat.{ℕ, zero, suc, _+_, _-_, _*_, _<_, _≤_}
+use Prim.Native.Nat.{ℕ, zero, suc, _+_, _-_, _<_, _≤_}
 use native.Mathlib.Omega.{arith}
-use mathlib.Core.Path.{_≡_, refl, ap, sym, _∙_}
-use mathlib.Core.Bool.{Bool, true, false}
+use mathlib.Core.Path.{_≡_, refl, ap, _∙_}
 use mathlib.Core.List.{List}
 use mathlib.Core.Option.{Option, none, some}
-use lib.ListN.{length, getD, set, drop, length-set}
+use lib.ListN.{length, getD, set, drop}
 use Rattle.heads.specs.Got.{Got, ok, no, bind}
 use Rattle.heads.specs.Answer.{Ans}
 use Rattle.heads.proofs.Chain.{Chain, step, last, run}
 use Rattle.heads.specs.declared.Form.{Form}
-use Rattle.heads.specs.declared.Form.the-variants.{Leaf, Var, Unresolved, Prop, Two, Slice, Many, BinOp, UnaryOp, Case, IsNull, PatternPredicate, ListComprehension, PatternComprehension, ListPredicate, MapProjection}
 use Rattle.expr.proofs.Inverse.{never}
-use Rattle.fused.specs.Fused.{Both, Mode, Go, left, tailOf, rounds}
-use Rattle.steps.specs.Memory.{atOf, topOf, curOf, lastOf, saidOf, toldOf, slotsIn}
-use Rattle.steps.specs.Hold.{Fits, Fit, Holds, Frame, Costs, Ready, Left, ClosedIf, Closed}
+use Rattle.fused.specs.Fused.{Both, Mode, Go, tailOf, rounds}
+use Rattle.steps.specs.Memory.{atOf, topOf, curOf, lastOf, saidOf, toldOf}
+use Rattle.steps.specs.Hold.{Fit, Holds, Frame, Costs, Ready, Closed}
+use Rattle.steps.proofs.Heads.{closed-fits, closed-frame, closed-stays, closed-holds}
 use Rattle.steps.proofs.Held.{Numbers, unset, store, lower, framed, framed-idle, frame-more}
-use Rattle.walk.specs.Goes.{Goer, Comes, Came, Goes, Walked}
+use Rattle.walk.specs.Goes.{Goer, Walked}
 
 -- ---- at another word
 module _ (m : List ℕ) (p : ℕ) (size : length m ≡ 64) where
@@ -252,74 +251,24 @@ module _ {room : ℕ} {ws tab m₀ vis₀ found₀ : List ℕ} {G : Goer} {c : �
   tail zero l o x = done (go {K = λ id s u. last (ok u)} (recast (λ id s t. step (H id t) (λ u. last (ok u))) o (λ id s t r. bind-ok (H id t r))) x l refl)
   tail (suc a) l o x = fell {K = λ id s u. last (ok u)} (suc a) (λ e. never (cc)) (recast (λ id s t. step (H id t) (λ u. last (ok u))) o (λ id s t r. bind-ok (H id t r))) x
 
--- ---- out of the scope that was opened at m₀
-module _ {room : ℕ} {ws tab m₀ vis₀ found₀ : List ℕ} {G : Goer} {c : ℕ} {m vis found m' vis' : List ℕ} where
-  out : (mode : Mode) → mode .resolves ≡ true → Stage (some room) 0 ws tab m₀ vis₀ found₀ G c m vis found (λ id s t. last (ok (left mode s t))) → Left tab m vis m' vis' (topOf m₀) (curOf m₀) → Walked room ws tab m₀ vis₀ found₀ m' vis' found G 0
-  out mode live o l =
-      let f = o .keeps .kept in
-      let q : Numbers m m' (atOf m) (topOf m₀) (curOf m₀) (lastOf m) (saidOf m) (toldOf m) (getD m 6 0) (getD m 7 0) =
-      rw (l .numbers) (store 2 (curOf m₀) (omega arith) (o .size) (store 1 (topOf m₀) (omega arith) (o .size) unset)) in
-      let seen₀ = l .below ∙ f .below in
-      record {
-        sized = q .size ∙ o .sized;
-        seen = l .kept ∙ o .seen;
-        wrote = o .wrote;
-        goes = record {
-          from = omega (arith, o .from, q .at);
-          fit = λ k y. let x = lower {i = 0 + k} {k = 0 + k} (omega arith) (omega arith) y in let g = o .fit k x in
-              record {
-                size = q .size ∙ o .size;
-                tabled = rw (q .top) (l .tabled);
-                descends = rw (q .cur, q .top, seen₀) (y .descends);
-                cur = rw (q .cur, q .last) (omega (arith, y .cur, f .last));
-                last = rw (q .last, q .at) (omega (arith, g .last));
-                count = rw (q .said, q .told, q .at) (omega (arith, g .count));
-                stack = rw (q .top, q .at) (omega (arith, g .stack, f .top));
-                within = rw (q .at) (g .within);
-                names = rw (l .kept) (g .names);
-                room = g .room;
-              };
-          frame = record { top = omega (arith, q .top); last = omega (arith, q .last, f .last); below = seen₀; held = q .held ∙ f .held; levels = λ d h. q .levels d ∙ f .levels d h };
-          goes = λ id s h. let n = o .on id s h in
-              record {
-                state = left mode s (n .state);
-                holds = record {
-                  visible = rw (q .top, seen₀, live) (h .visible);
-                  cur = rw (q .cur, live) (h .cur);
-                  last = rw (q .last, live) (n .holds .last);
-                  log = rw (q .said, live) (n .holds .log);
-                  kinds = rw (q .told) (n .holds .kinds);
-                  known = rw (q .lost) (n .holds .known);
-                };
-                same = rw (q .at) (n .same);
-              };
-        };
-      }
-
-  stayed : Stage (some room) 0 ws tab m₀ vis₀ found₀ G c m vis found (λ id s t. last (ok t)) → (m' ≡ m) × (vis' ≡ vis) → Walked room ws tab m₀ vis₀ found₀ m' vis' found G 0
-  stayed o l = rw (l .0, l .1) (done o)
-
-  out-if : (mode : Mode) (b : Bool) → mode .resolves ≡ b → Stage (some room) 0 ws tab m₀ vis₀ found₀ G c m vis found (λ id s t. last (ok (left mode s t))) → ClosedIf b tab m vis m' vis' (topOf m₀) (curOf m₀) → Walked room ws tab m₀ vis₀ found₀ m' vis' found G 0
-  out-if mode true q o l = out mode q o l
-  out-if mode false q o l = stayed (recast (λ id s t. last (ok t)) o (λ id s t r. rw q)) l
-
-  pub close : (mode : Mode) (f : Form) → Stage (some room) 0 ws tab m₀ vis₀ found₀ G c m vis found (λ id s t. last (ok (tailOf mode f s t))) → Closed tab m vis m' vis' (topOf m₀) (curOf m₀) mode f → Walked room ws tab m₀ vis₀ found₀ m' vis' found G 0
-  close mode (Leaf k) o l = stayed o l
-  close mode (Var v) o l = stayed o l
-  close mode (Unresolved x) o l = stayed o l
-  close mode (Prop x) o l = stayed o l
-  close mode (Two k) o l = stayed o l
-  close mode (Slice b) o l = stayed o l
-  close mode (Many k n) o l = stayed o l
-  close mode (BinOp p) o l = stayed o l
-  close mode (UnaryOp p) o l = stayed o l
-  close mode (Case b n) o l = stayed o l
-  close mode IsNull o l = stayed o l
-  close mode PatternPredicate o l = stayed o l
-  close mode (ListComprehension g) o l = stayed o l
-  close mode (PatternComprehension a b g) o l = out-if mode (mode .resolves) refl o l
-  close mode (ListPredicate g) o l = stayed o l
-  close mode (MapProjection n) o l = stayed o l
+-- ---- out of the scope that a head opened at m₀
+pub close : {room : ℕ} {ws tab m₀ vis₀ found₀ : List ℕ} {G : Goer} {c : ℕ} {m vis found m' vis' : List ℕ} (mode : Mode) (f : Form) → Ready 0 ws tab m₀ vis₀ found₀ → Stage (some room) 0 ws tab m₀ vis₀ found₀ G c m vis found (λ id s t. last (ok (tailOf mode f s t))) → Closed tab m vis m' vis' (topOf m₀) (curOf m₀) mode f → Walked room ws tab m₀ vis₀ found₀ m' vis' found G 0
+close mode f h o l =
+    let r = o .keeps .kept in
+    let g = ready {i = 0} (omega arith) h o .fit in
+    let z = closed-stays mode f (h .fit) g r l in
+    record {
+      sized = z .sized ∙ o .sized;
+      seen = z .seen ∙ o .seen;
+      wrote = o .wrote;
+      goes = record {
+        from = omega (arith, o .from, z .at);
+        fit = λ k y. closed-fits mode f y (lower (omega arith) (omega arith) (o .fit k (lower (omega arith) (omega arith) y))) r l;
+        frame = closed-frame mode f (h .fit) g r l;
+        goes = λ id s k. let n = o .on id s k in
+            record { state = tailOf mode f s (n .state); holds = closed-holds mode f (h .fit) g r l k (n .holds); same = rw (z .at) (n .same) };
+      };
+    }
 
 -- ---- loops: of n rounds, left are left
 pub record Turning (room : ℕ) (ws tab m₀ vis₀ found₀ : List ℕ) (n : ℕ) (one : Goer) (m vis found : List ℕ) (left : ℕ) : Type 0 where

@@ -1,17 +1,17 @@
 -- Plain heads: those whose parts follow at once, and uses. By code: how a plain head is read, how many parts it has and in which settings
 -- they stand.
-use Prim.Native.Nat.{ℕ, zero, suc, _+_, _-_, _*_, _/_, _%_, _^_, _<_, _≤_}
+use Prim.Native.Nat.{ℕ, zero, suc, _+_, _-_, _*_, _/_, _%_, _<_, _≤_}
 use mathlib.Core.Path.{_≡_}
-use mathlib.Core.Bool.{Bool, true, false, cond, _&&_}
+use mathlib.Core.Bool.{cond}
 use mathlib.Core.List.{List, [], _∷_}
 use lib.Dec.{eqb}
 use lib.ListN.{length, getD, drop}
 use Rattle.heads.specs.Got.{ok, look}
-use Rattle.heads.specs.Form.{shapeOf, formNone, formOne, readForm, kidsOf, itemsOf, hasPattern}
+use Rattle.heads.specs.Form.{shapeOf, formNone, formOne, readForm}
 use Rattle.heads.specs.declared.Form.{Form}
 
--- What a shape is the sum of: that a head is plain; that a word follows its code; how many parts it has at least; that the word counts parts
--- more, and that half of it is counted twice; that the word is a name; the settings (`settingOf`) of the first part and of the others; and
+-- What a shape is the sum of: that a head is plain; that a word follows its code; how many parts it has at least; that the word counts
+-- more parts, and that half of it is not counted (a Slice's bits); that the word is a name; the settings (`settingOf`) of the first part and of the others; and
 -- 65536 times a bit for each setting in which the head does something itself.
 abbrev pub worded : ℕ
 worded = 1

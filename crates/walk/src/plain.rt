@@ -127,7 +127,16 @@ pub fn pair(t: u32, code: u32, a: u32, set: u32, ident: u32) -> u32
 }
 
 // What the head does itself.
-pub fn act(s: &[u8], tab: &[u32], m: &mut [u32], vis: & [u32], found: &mut [u32], code: u32, a: u32, mode: u32)
+pub fn act(
+    s: &[u8],
+    tab: &[u32],
+    m: &mut [u32],
+    vis: &[u32],
+    found: &mut [u32],
+    code: u32,
+    a: u32,
+    mode: u32,
+)
     requires { ⌜ (0 < shape code) × ((a ≤ limit code) × ((shape code / 64 % 2 ≡ 1 → a < slotsIn (now tab)) × Ready (costOf (headed code a)) (words (now s)) (now tab) (now m) (now vis) (now found))) ⌝ }
     ensures { λ r. ⌜ Steps (costOf (headed code a)) (words (now (s .entry))) (now (tab .entry)) (now (m .entry)) (now (vis .entry)) (now (found .entry)) (now (m .exit)) (now (vis .entry)) (now (found .exit)) (λ id. headOf (worldAt (words (now (s .entry))) (now (tab .entry)) id) (modeOf mode) (headed code a) (firstOf mode)) ⌝ }
 {

@@ -1,14 +1,12 @@
 -- An expression: its head (`one`), what the head does (`two`), what follows it (`three`), and out of its scope. A head takes a word at least,
 -- so what is left falls.
-use Prim.Native.Nat.{ℕ, _*_, _/_}
+use Prim.Native.Nat.{ℕ, suc, _-_}
 use borrow.Author.Needs.{needs}
 use native.Mathlib.Omega.{arith}
 use borrow.Fn.Kinds.{In}
-use mathlib.Core.Path.{refl}
+use mathlib.Core.Path.{refl, _≡_, ap, sym, _∙_}
 use Rattle.words.specs.Words.{words}
 use Rattle.heads.proofs.Chain.{step, last, fact}
-use Prim.Native.Nat.{suc, _-_}
-use mathlib.Core.Path.{_≡_, ap, sym, _∙_}
 use mathlib.Core.Option.{some}
 use Rattle.heads.specs.Got.{ok}
 use Rattle.heads.specs.Form.{readForm}
@@ -24,7 +22,7 @@ use Rattle.heads.proofs.read_form.Reads as read-form
 use Rattle.steps.proofs.begin.Reads as begin
 use Rattle.walk.proofs.walk_rest.Reads as walk-rest
 use Rattle.steps.proofs.finish.Reads as finish
-use Rattle.walk.proofs.+walk_elem+walk_elems+walk_expr+walk_inner+walk_many+walk_mark+walk_marks+walk_part+walk_parts+walk_pattern+walk_rest+walk_row.Lts-walk_expr.{Claims, Closed, ps, spec, Then1, Else1, After-known-told, After-begin, Then2, Else2, After-finish}
+use Rattle.walk.proofs.+walk_elem+walk_elems+walk_expr+walk_inner+walk_many+walk_mark+walk_marks+walk_part+walk_parts+walk_pattern+walk_rest+walk_row.Lts-walk_expr.{Claims, Closed, ps, spec, Else1, After-known-told, After-begin, Then2, Else2, After-finish}
 use Rattle.walk.proofs.+walk_elem+walk_elems+walk_expr+walk_inner+walk_many+walk_mark+walk_marks+walk_part+walk_parts+walk_pattern+walk_rest+walk_row.Proof.Measures.{is, below, μ-expr, μ-rest}
 
 abbrev calls : ℕ → Claims
@@ -48,7 +46,7 @@ holds t =
     did (λ id u v. step (restAt (words (a .s .now)) (a .tab .now) (a .room - 1) (a .mode) f id v) λ x. last (ok (tailOf (modeOf (a .mode)) f u x))) 0 (omega arith) (omega arith) (one (k .before .before .before .before .before .before)) (k .begin .ensures)) in
     let three = fact (λ (k : Else2 (calls t) (asks t) walk-expr.Post). go (two (k .before .before .before .before .before .before .before .before .before .before .before .before .before .before .before)) (k .before .before .before .before .before .before .before .walk-rest .ensures) (omega arith) (k .if2 .left)) in
     let bad = fact (λ (k : Then2 (calls t) (asks t) walk-expr.Post). fell (k .before .before .before .before .before .before .before .walk-rest .result) (k .if2 .taken) (two (k .before .before .before .before .before .before .before .before .before .before .before .before .before .before .before)) (k .before .before .before .before .before .before .before .walk-rest .ensures)) in
-    let ended = fact (λ (k : After-finish (calls t) (asks t) walk-expr.Post). close (modeOf (k .before .before .before .before .before .before .before .before .before .before .before .before .before .before .before .before .before .before .before .before .before .before .before .before .before .before .before .before .before .before .before .before .before .before .before .before .args .mode)) (k .before .before .before .before .before .before .before .before .before .before .before .before .before .before .before .before .before .before .before .before .before .before .before .before .before .f .given .0 .0) (three (k .before .before .before)) (k .finish .ensures)) in
+    let ended = fact (λ (k : After-finish (calls t) (asks t) walk-expr.Post). let s = k .before .before .before .before .before .before .before .before .before .before .before .before .before .before .before .before .before .before .before .before .before .before .before .before .before .before .before .before .before .before .before .before .before .before .before .before in close (modeOf (s .args .mode)) (k .before .before .before .before .before .before .before .before .before .before .before .before .before .before .before .before .before .before .before .before .before .before .before .before .before .f .given .0 .0) (s .pre .1 .1) (three (k .before .before .before)) (k .finish .ensures)) in
     spec (calls t) (asks t) walk-expr.Post
     (λ c. omega (arith, c .before .before .before .before .before .before .pre .1 .1 .fit .size)) (λ c. search needs) (λ c κs. search needs)  -- slice-read-at, cast-at, deep-cause-requires
     (λ c.  -- returns

@@ -4,12 +4,8 @@ use borrow.Author.Needs.{needs}
 use native.Mathlib.Omega.{arith}
 use borrow.Fn.Kinds.{In}
 use mathlib.Core.Path.{refl}
-use Rattle.words.specs.Words.{words}
-use Rattle.heads.proofs.Chain.{step, last, fact}
-use mathlib.Core.Option.{some}
+use Rattle.heads.proofs.Chain.{last, fact}
 use Rattle.heads.specs.Got.{ok}
-use Rattle.heads.specs.declared.Form.{Form}
-use Rattle.walk.specs.Goes.{innerAt}
 use Rattle.walk.proofs.Modes.{in-pattern, in-kinds}
 use Rattle.walk.proofs.Stage.{start, done}
 use Rattle.walk.proofs.walk_inner.Reads as walk-inner

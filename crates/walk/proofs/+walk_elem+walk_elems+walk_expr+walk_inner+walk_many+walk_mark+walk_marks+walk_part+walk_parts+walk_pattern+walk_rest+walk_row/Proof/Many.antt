@@ -1,12 +1,10 @@
 -- n expressions, any number: a row where the loop of `walk_row` can count them, else one after the other.
-use Prim.Native.Nat.{ℕ, _*_, _/_}
-use borrow.Author.Needs.{needs}
+use Prim.Native.Nat.{ℕ, _*_, _/_, _+_}
 use native.Mathlib.Omega.{arith}
 use borrow.Fn.Kinds.{In}
 use mathlib.Core.Path.{refl}
 use Rattle.words.specs.Words.{words}
-use Rattle.heads.proofs.Chain.{step, last, fact}
-use Prim.Native.Nat.{_+_}
+use Rattle.heads.proofs.Chain.{fact}
 use Rattle.walk.proofs.Modes.{in-set}
 use Rattle.walk.proofs.Stage.{ready}
 use Rattle.walk.proofs.Climb.{Counting, count-begin, count-one, count-fall, count-done}

@@ -1,12 +1,10 @@
 -- A mark: a word (`one`), and then as many expressions as it says.
-use Prim.Native.Nat.{ℕ, _*_, _/_}
+use Prim.Native.Nat.{ℕ, _*_, _/_, _+_}
 use borrow.Author.Needs.{needs}
 use native.Mathlib.Omega.{arith}
 use borrow.Fn.Kinds.{In}
-use mathlib.Core.Path.{refl}
 use Rattle.words.specs.Words.{words}
 use Rattle.heads.proofs.Chain.{step, last, fact}
-use Prim.Native.Nat.{_+_}
 use mathlib.Core.Option.{some}
 use Rattle.heads.specs.Got.{wordIn}
 use Rattle.heads.specs.Head.{markKids}

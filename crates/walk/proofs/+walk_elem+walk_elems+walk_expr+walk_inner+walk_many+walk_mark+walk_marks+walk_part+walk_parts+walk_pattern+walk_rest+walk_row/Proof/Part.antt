@@ -1,5 +1,5 @@
 -- A part of a pattern: its head (`one`), its path (`two`), and then its elements.
-use Prim.Native.Nat.{ℕ, _*_, _/_}
+use Prim.Native.Nat.{ℕ}
 use borrow.Author.Needs.{needs}
 use native.Mathlib.Omega.{arith}
 use borrow.Fn.Kinds.{In}

@@ -1,12 +1,11 @@
 -- A pattern: the number of its parts (`one`), and the parts.
-use Prim.Native.Nat.{ℕ, _*_, _/_}
+use Prim.Native.Nat.{ℕ, _+_}
 use borrow.Author.Needs.{needs}
 use native.Mathlib.Omega.{arith}
 use borrow.Fn.Kinds.{In}
 use mathlib.Core.Path.{refl}
 use Rattle.words.specs.Words.{words}
 use Rattle.heads.proofs.Chain.{step, last, fact}
-use Prim.Native.Nat.{_+_}
 use mathlib.Core.Option.{some}
 use Rattle.heads.specs.Got.{anyWord}
 use Rattle.fused.specs.Fused.{patternGo}

@@ -1,18 +1,16 @@
 -- What follows a head: its pattern (`one`), its expressions (`two`), and its items.
-use Prim.Native.Nat.{ℕ, _*_, _/_}
+use Prim.Native.Nat.{ℕ, _*_, _/_, _+_}
 use borrow.Author.Needs.{needs}
 use native.Mathlib.Omega.{arith}
 use borrow.Fn.Kinds.{In}
 use mathlib.Core.Path.{refl}
 use Rattle.words.specs.Words.{words}
 use Rattle.heads.proofs.Chain.{step, last, fact}
-use Prim.Native.Nat.{_+_}
-use mathlib.Core.Path.{subst}
 use mathlib.Core.Option.{some}
 use Rattle.heads.specs.Form.{kidsOf, itemsOf}
 use Rattle.semantics.specs.Kinds.{settings}
 use Rattle.fused.specs.Fused.{rowGo, exprGo, restGo}
-use Rattle.steps.specs.Memory.{identIn, tablesIn, worldAt, modeOf, firstOf}
+use Rattle.steps.specs.Memory.{tablesIn, worldAt, modeOf, firstOf}
 use Rattle.walk.specs.Goes.{innerAt, marksAt}
 use Rattle.walk.proofs.Modes.{in-kids, in-marks}
 use Rattle.walk.proofs.Stage.{ready, start, go, fell, tail}
@@ -23,7 +21,7 @@ use Rattle.steps.proofs.pair_of.Reads as pair-of
 use Rattle.walk.proofs.walk_many.Reads as walk-many
 use Rattle.heads.proofs.items_of.Reads as items-of
 use Rattle.walk.proofs.walk_marks.Reads as walk-marks
-use Rattle.walk.proofs.+walk_elem+walk_elems+walk_expr+walk_inner+walk_many+walk_mark+walk_marks+walk_part+walk_parts+walk_pattern+walk_rest+walk_row.Lts-walk_rest.{Claims, Closed, ps, spec, After-slice-known3, After-walk-inner, Then1, Else1, After-walk-many, Then2, Else2, After-walk-marks}
+use Rattle.walk.proofs.+walk_elem+walk_elems+walk_expr+walk_inner+walk_many+walk_mark+walk_marks+walk_part+walk_parts+walk_pattern+walk_rest+walk_row.Lts-walk_rest.{Claims, Closed, ps, spec, After-slice-known3, Then1, Else1, After-walk-many, Then2, Else2, After-walk-marks}
 use Rattle.walk.proofs.+walk_elem+walk_elems+walk_expr+walk_inner+walk_many+walk_mark+walk_marks+walk_part+walk_parts+walk_pattern+walk_rest+walk_row.Proof.Measures.{is, below, μ-inner, μ-many, μ-marks, μ-rest}
 
 abbrev calls : ℕ → Claims

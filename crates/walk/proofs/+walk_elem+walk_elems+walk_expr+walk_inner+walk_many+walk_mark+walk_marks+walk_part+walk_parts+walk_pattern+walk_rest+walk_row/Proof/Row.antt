@@ -5,13 +5,12 @@ use borrow.Author.Needs.{needs}
 use native.Mathlib.Omega.{arith}
 use borrow.Fn.Kinds.{In}
 use mathlib.Core.Logic.{⊎-elim}
-use mathlib.Core.Path.{refl, sym, ap, _∙_}
+use mathlib.Core.Path.{refl, sym, _∙_}
 use lib.ListN.{length, getD}
 use Rattle.words.specs.Words.{words}
 use Rattle.heads.proofs.Chain.{fact}
-use Rattle.steps.specs.Memory.{atOf}
-use Rattle.walk.specs.Plain.{shape, limit, headed, partsOf}
-use Rattle.walk.proofs.Plains.{law, plain-some}
+use Rattle.walk.specs.Plain.{headed}
+use Rattle.walk.proofs.Plains.{plain-some}
 use Rattle.walk.proofs.Modes.{in-set, in-act}
 use Rattle.walk.proofs.Stage.{placed}
 use Rattle.walk.proofs.Climb.{Rowing, row-begin, row-ready, row-within, row-done, row-pop, row-one, row-fall, act-asks, parts-ask, pair-asks, head-few, head-end, head-calm, head-acted, head-at, row-leaf, row-down, lighter}
@@ -45,7 +44,7 @@ holds t =
     in-set (a .mode) (l .set) (a .mode / 64 * 64 + l .set) (omega (arith, l .inv .first)) refl (l .d) (l .inv .first) (k .walk-expr .ensures)) in
     let bad = fact (λ (k : Then4 (calls t) (asks t) walk-row.Post inv measure). row-fall (k .before .before .before .before .before .before .before .before .before .before .before .before .before .before .before .loop .inv) (k .before .before .before .before .before .before .before .walk-expr .result) (omega arith) (k .if4 .taken) (walked (k .before .before .before .before .before .before .before))) in
     let plain = fact (λ (k : Else3 (calls t) (asks t) walk-row.Post inv measure). plain-some (k .before .plain-at .result) (k .if3 .left) (k .before .plain-at .ensures)) in
-    let did = fact (λ (k : Joined5 (calls t) (asks t) walk-row.Post inv measure). let a = k .before .before .before .before .before .before .before .before .before .before .before .before .before .before .args in let e = k .before .before .before in let l = e .before .before .before .before .loop in let h : 0 < l .left = omega (arith, e .before .before .before .if1 .left) in let g : 0 < e .before .plain-at .result = omega (arith, e .if3 .left) in 
+    let did = fact (λ (k : Joined5 (calls t) (asks t) walk-row.Post inv measure). let a = k .before .before .before .before .before .before .before .before .before .before .before .before .before .before .args in let e = k .before .before .before in let l = e .before .before .before .before .loop in let h : 0 < l .left = omega (arith, e .before .before .before .if1 .left) in let g : 0 < e .before .plain-at .result = omega (arith, e .if3 .left) in
     ⊎-elim
     (λ w. head-at (w .9) (w .10) (head-acted (l .inv) h g (plain e) (in-act (a .mode) (l .set) (a .mode / 64 * 64 + l .set) (headed (getD (words (a .s .now)) (l .at) 0) (getD (words (a .s .now)) (l .at + 1) 0)) (l .inv .first) refl (rw (k .before .before .word .ensures, k .before .word2 .ensures) at (w .4 .ensures)))))
     (λ w. head-at (w .1) (w .2) (head-calm (l .inv) h g (plain e) (w .0 .left)))
