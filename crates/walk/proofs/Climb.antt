@@ -2,6 +2,7 @@
 -- `Rowing`: begun (`row-begin`), ended (`row-done`), back to the row that waits (`row-pop`), an expression walked (`row-one`) or refused
 -- (`row-fall`). A plain head is read (`Heading`), and does nothing (`head-calm`) or its act (`head-acted`; what it asks is `act-asks`); without
 -- parts the row goes on (`row-leaf`; `head-at` where the two meet), else it waits a level higher while the parts are walked (`row-down`).
+-- The loop of `walk_many` keeps `Counting` (`count-begin`, `count-one`, `count-fall`, `count-done`).
 use Prim.Native.Nat.{ℕ, zero, suc, _+_, _-_, _*_, _/_, _%_, _^_, _<_, _≤_}
 use native.Mathlib.Omega.{arith}
 use native.Mathlib.Numerals.{add-one}

@@ -1,7 +1,9 @@
 -- How far a walk has come: from m₀, where G is to be walked, to m, and K is left, which goes by the state at m₀ and the state now. c words were
--- read that nothing was done for yet: j before m₀, and those since. What was read moves on (`read`, `jump`), a step of the state (`did`) and a
--- walk within (`go`) too; what was refused is G's refusal (`stop`, `halt`); at the end stands G's answer (`done`, `tail`, `close`). A loop is a
--- walk of which `rounds` are left (`begun`, `turn`, `fall`, `over`).
+-- read that nothing was done for yet: j before m₀, and those since (`Stage`, begun by `start`). What is left may be put another way (`recast`,
+-- `fewer`); what was read moves on (`read`, `jump`), a step of the state (`did`) and a walk within (`go`; `went` for one of any kind) too, and
+-- a step or a walk may begin there (`ready`). What was refused is G's refusal (`stop`, `halt`; `refused` and `fell` for a walk that keeps what was
+-- visible). At the end stands G's answer (`comes`, `done`, `tail`, `close`). A loop is a walk of which `rounds` are left (`begun`, `unrolled`,
+-- `turn`, `fall`, `ran`, `over`).
 use Prim.Native.Nat.{ℕ, zero, suc, _+_, _-_, _<_, _≤_}
 use native.Mathlib.Omega.{arith}
 use mathlib.Core.Path.{_≡_, refl, ap, _∙_}
@@ -18,7 +20,7 @@ use Rattle.steps.specs.Memory.{atOf, topOf, curOf, lastOf, saidOf, toldOf}
 use Rattle.steps.specs.Hold.{Fit, Holds, Frame, Costs, Ready, Closed}
 use Rattle.steps.proofs.Heads.{closed-fits, closed-frame, closed-stays, closed-holds}
 use Rattle.steps.proofs.Held.{Numbers, unset, store, lower, framed, framed-idle, frame-more}
-use Rattle.walk.specs.Goes.{Goer, Walked}
+use Rattle.walk.specs.Goes.{Goer, Comes, Walked}
 
 -- ---- at another word
 module _ (m : List ℕ) (p : ℕ) (size : length m ≡ 64) where
@@ -72,6 +74,10 @@ Under i (some room) = i ≤ room
 keeps-idle : (k : Option ℕ) {tab m vis : List ℕ} → Keeps k tab m vis m vis
 keeps-idle none = record { kept = tt }
 keeps-idle (some room) = record { kept = framed-idle }
+
+keeps-both : (k : Option ℕ) {tab m vis m1 vis1 m2 vis2 : List ℕ} → Keeps k tab m vis m1 vis1 → Keeps k tab m1 vis1 m2 vis2 → Keeps k tab m vis m2 vis2
+keeps-both none x y = record { kept = tt }
+keeps-both (some room) x y = record { kept = framed (x .kept) (y .kept) }
 
 keeps-then : (k : Option ℕ) {i : ℕ} {tab m vis m1 vis1 m2 vis2 : List ℕ} → Under i k → Keeps k tab m vis m1 vis1 → Frame i tab m1 vis1 m2 vis2 → Keeps k tab m vis m2 vis2
 keeps-then none u x f = record { kept = tt }
@@ -188,23 +194,48 @@ module _ {keep : Option ℕ} {j : ℕ} {ws tab m₀ vis₀ found₀ : List ℕ} 
         on = λ id s h. let n = o .on id s h in record { state = F id (n .state); holds = x .goes id (n .state) (n .holds); same = rw p (n .same) };
       }
 
--- ---- walks within, which answer a
-module _ {keep : Option ℕ} {j : ℕ} {ws tab m₀ vis₀ found₀ : List ℕ} {G : Goer} {c : ℕ} {m vis found : List ℕ} {i : ℕ} {H : Goer} {m' vis' found' : List ℕ} {a : ℕ} {K : Rest}
-    (o : Stage keep j ws tab m₀ vis₀ found₀ G c m vis found (λ id s t. step (H id t) (K id s))) (x : Walked i ws tab m vis found m' vis' found' H a) where
-  pub go : Under i keep → a ≡ 0 → Stage keep j ws tab m₀ vis₀ found₀ G c m' vis' found' K
-  go u q =
-      let y = rw q at (x .goes) in
-      record {
-        from = omega (arith, o .from, y .from);
-        size = x .sized ∙ o .size;
-        sized = x .sized ∙ o .sized;
-        seen = x .seen ∙ o .seen;
-        wrote = x .wrote ∙ o .wrote;
-        fit = λ k f. y .fit (c + k) (o .fit k f);
-        keeps = keeps-then keep u (o .keeps) (y .frame);
-        on = λ id s h. let n = o .on id s h in let l = y .goes id (n .state) (n .holds) in
-            record { state = l .state; holds = l .holds; same = rw (n .same, l .same) };
-      }
+-- ---- walks within: one went on, paid for by j words before it and those that it read
+pub record Went (keep : Option ℕ) (j : ℕ) (ws tab m vis found m' vis' found' : List ℕ) (H : Goer) : Type 0 where
+  pub from : atOf m ≤ atOf m'
+  pub sized : length m' ≡ length m
+  pub seen : length vis' ≡ length vis
+  pub wrote : length found' ≡ length found
+  pub fit : (k : ℕ) → Fit (j + k) ws tab m vis found → Fit k ws tab m' vis' found'
+  pub keeps : Keeps keep tab m vis m' vis'
+  pub goes : (id : ℕ → ℕ) (s : Both) → Holds id tab m vis found s → Comes id ws tab m' vis' found' (H id s (drop (atOf m) ws))
+
+pub went : {keep : Option ℕ} {j : ℕ} {ws tab m₀ vis₀ found₀ : List ℕ} {G : Goer} {c : ℕ} {m vis found : List ℕ} {i : ℕ} {H : Goer} {m' vis' found' : List ℕ} {K : Rest} (l : ℕ) → i + l ≤ c →
+    Stage keep j ws tab m₀ vis₀ found₀ G c m vis found (λ id s t. step (H id t) (K id s)) → Went keep i ws tab m vis found m' vis' found' H → Stage keep j ws tab m₀ vis₀ found₀ G l m' vis' found' K
+went {keep} l b o x =
+    record {
+      from = omega (arith, o .from, x .from);
+      size = x .sized ∙ o .size;
+      sized = x .sized ∙ o .sized;
+      seen = x .seen ∙ o .seen;
+      wrote = x .wrote ∙ o .wrote;
+      fit = λ k f. x .fit (l + k) (lower (omega arith) (omega arith) (o .fit k f));
+      keeps = keeps-both keep (o .keeps) (x .keeps);
+      on = λ id s h. let n = o .on id s h in let y = x .goes id (n .state) (n .holds) in
+          record { state = y .state; holds = y .holds; same = rw (n .same, y .same) };
+    }
+
+-- a walk of this crate went on, where it keeps as much
+pub walked-on : {keep : Option ℕ} {ws tab m vis found m' vis' found' : List ℕ} {i : ℕ} {H : Goer} {a : ℕ} → Under i keep → a ≡ 0 → Walked i ws tab m vis found m' vis' found' H a → Went keep 0 ws tab m vis found m' vis' found' H
+walked-on {keep} u q x =
+    let y = rw q at (x .goes) in
+    record {
+      from = y .from;
+      sized = x .sized;
+      seen = x .seen;
+      wrote = x .wrote;
+      fit = λ k f. y .fit k (lower (omega arith) (omega arith) f);
+      keeps = keeps-then keep u (keeps-idle keep) (y .frame);
+      goes = y .goes;
+    }
+
+pub go : {keep : Option ℕ} {j : ℕ} {ws tab m₀ vis₀ found₀ : List ℕ} {G : Goer} {c : ℕ} {m vis found : List ℕ} {i : ℕ} {H : Goer} {m' vis' found' : List ℕ} {a : ℕ} {K : Rest} →
+    Stage keep j ws tab m₀ vis₀ found₀ G c m vis found (λ id s t. step (H id t) (K id s)) → Walked i ws tab m vis found m' vis' found' H a → Under i keep → a ≡ 0 → Stage keep j ws tab m₀ vis₀ found₀ G c m' vis' found' K
+go {c = c} o x u q = went c (omega arith) o (walked-on u q x)
 
 refusal : {room : ℕ} {ws tab m vis found m' vis' found' : List ℕ} {H : Goer} (a : ℕ) → (a ≡ 0 → ⊥) → Walked room ws tab m vis found m' vis' found' H a → Refuses ws tab m vis found H a
 refusal zero h x = absurd (h refl)
@@ -215,7 +246,11 @@ module _ {keep : Option ℕ} {j : ℕ} {ws tab m₀ vis₀ found₀ : List ℕ} 
   pub halt : (a ≡ 0 → ⊥) → Refuses ws tab m₀ vis₀ found₀ G a
   halt q = record { same = λ id s h. let n = o .on id s h in rw (n .same, refusal a q x .same id (n .state) (n .holds)) }
 
--- ---- the end, of a walk that keeps what was visible
+-- ---- the end
+pub comes : {keep : Option ℕ} {j : ℕ} {ws tab m₀ vis₀ found₀ : List ℕ} {G : Goer} {c : ℕ} {m vis found : List ℕ} → Stage keep j ws tab m₀ vis₀ found₀ G c m vis found (λ id s t. last (ok t)) → (id : ℕ → ℕ) (s : Both) → Holds id tab m₀ vis₀ found₀ s → Comes id ws tab m vis found (G id s (drop (atOf m₀) ws))
+comes o id s h = let n = o .on id s h in record { state = n .state; holds = n .holds; same = n .same }
+
+-- of a walk that keeps what was visible
 module _ {room : ℕ} {ws tab m₀ vis₀ found₀ : List ℕ} {G : Goer} {c : ℕ} {m vis found : List ℕ} where
   -- refused at m
   pub refused : {K : Rest} (a : ℕ) → (a ≡ 0 → ⊥) → Stage (some room) 0 ws tab m₀ vis₀ found₀ G c m vis found K → Refuses ws tab m₀ vis₀ found₀ G a → Walked room ws tab m₀ vis₀ found₀ m vis found G a
@@ -232,7 +267,7 @@ module _ {room : ℕ} {ws tab m₀ vis₀ found₀ : List ℕ} {G : Goer} {c : �
           from = o .from;
           fit = λ k f. lower (omega arith) (omega arith) (o .fit k (lower (omega arith) (omega arith) f));
           frame = o .keeps .kept;
-          goes = λ id s h. let n = o .on id s h in record { state = n .state; holds = n .holds; same = n .same };
+          goes = comes o;
         };
       }
 
@@ -271,10 +306,10 @@ close mode f h o l =
     }
 
 -- ---- loops: of n rounds, left are left
-pub record Turning (room : ℕ) (ws tab m₀ vis₀ found₀ : List ℕ) (n : ℕ) (one : Goer) (m vis found : List ℕ) (left : ℕ) : Type 0 where
-  pub stage : Stage (some room) 0 ws tab m₀ vis₀ found₀ (λ id. rounds n (one id)) 0 m vis found (λ id s t. last (rounds left (one id) t))
+pub record Turning (keep : Option ℕ) (ws tab m₀ vis₀ found₀ : List ℕ) (n : ℕ) (one : Goer) (m vis found : List ℕ) (left : ℕ) : Type 0 where
+  pub stage : Stage keep 0 ws tab m₀ vis₀ found₀ (λ id. rounds n (one id)) 0 m vis found (λ id s t. last (rounds left (one id) t))
 
-pub begun : {room : ℕ} {ws tab m vis found : List ℕ} (n : ℕ) (one : Goer) → Ready 0 ws tab m vis found → Turning room ws tab m vis found n one m vis found n
+pub begun : {keep : Option ℕ} {ws tab m vis found : List ℕ} (n : ℕ) (one : Goer) → Ready 0 ws tab m vis found → Turning keep ws tab m vis found n one m vis found n
 begun n one h = record { stage = start (λ id s t. last (rounds n (one id) t)) h (λ id s r. refl) }
 
 ahead : (left : ℕ) (one : Go) (t : Both) (r : List ℕ) → 0 < left → rounds left one t r ≡ run (step (one t) (λ u. last (rounds (left - 1) one u))) r
@@ -283,18 +318,24 @@ ahead left one t r h =
     let l : left ≡ suc (left - 1) = omega arith in
     ap (λ (k : ℕ). rounds k one t r) l
 
-module _ {room : ℕ} {ws tab m₀ vis₀ found₀ : List ℕ} {n : ℕ} {one : Goer} {m vis found : List ℕ} {left : ℕ} (o : Turning room ws tab m₀ vis₀ found₀ n one m vis found left) where
-  next : 0 < left → Stage (some room) 0 ws tab m₀ vis₀ found₀ (λ id. rounds n (one id)) 0 m vis found (λ id s t. step (one id t) (λ u. last (rounds (left - 1) (one id) u)))
-  next h = recast _ (o .stage) (λ id s t r. ahead left (one id) t r h)
+module _ {keep : Option ℕ} {ws tab m₀ vis₀ found₀ : List ℕ} {n : ℕ} {one : Goer} {m vis found : List ℕ} {left : ℕ} (o : Turning keep ws tab m₀ vis₀ found₀ n one m vis found left) where
+  -- one more is to be walked
+  pub unrolled : 0 < left → Stage keep 0 ws tab m₀ vis₀ found₀ (λ id. rounds n (one id)) 0 m vis found (λ id s t. step (one id t) (λ u. last (rounds (left - 1) (one id) u)))
+  unrolled h = recast _ (o .stage) (λ id s t r. ahead left (one id) t r h)
 
-  pub turn : {m' vis' found' : List ℕ} {i a : ℕ} → i ≤ room → 0 < left → a ≡ 0 → Walked i ws tab m vis found m' vis' found' one a → Turning room ws tab m₀ vis₀ found₀ n one m' vis' found' (left - 1)
-  turn l h q x = record { stage = go (next h) x l q }
+  pub turn : {m' vis' found' : List ℕ} {i a : ℕ} → Under i keep → 0 < left → a ≡ 0 → Walked i ws tab m vis found m' vis' found' one a → Turning keep ws tab m₀ vis₀ found₀ n one m' vis' found' (left - 1)
+  turn u h q x = record { stage = go (unrolled h) x u q }
 
+  -- none is left
+  pub ran : left ≤ 0 → Stage keep 0 ws tab m₀ vis₀ found₀ (λ id. rounds n (one id)) 0 m vis found (λ id s t. last (ok t))
+  unfolding rounds
+  ran h =
+      let z : left ≡ 0 = omega arith in
+      recast (λ id s t. last (ok t)) (o .stage) (λ id s t r. ap (λ (k : ℕ). rounds k (one id) t r) z)
+
+module _ {room : ℕ} {ws tab m₀ vis₀ found₀ : List ℕ} {n : ℕ} {one : Goer} {m vis found : List ℕ} {left : ℕ} (o : Turning (some room) ws tab m₀ vis₀ found₀ n one m vis found left) where
   pub fall : {m' vis' found' : List ℕ} {i : ℕ} (a : ℕ) → 0 < left → (a ≡ 0 → ⊥) → Walked i ws tab m vis found m' vis' found' one a → Walked room ws tab m₀ vis₀ found₀ m' vis' found' (λ id. rounds n (one id)) a
-  fall a h q x = fell a q (next h) x
+  fall a h q x = fell a q (unrolled o h) x
 
   pub over : left ≤ 0 → Walked room ws tab m₀ vis₀ found₀ m vis found (λ id. rounds n (one id)) 0
-  unfolding rounds
-  over h =
-      let z : left ≡ 0 = omega arith in
-      done (recast (λ id s t. last (ok t)) (o .stage) (λ id s t r. ap (λ (k : ℕ). rounds k (one id) t r) z))
+  over h = done (ran o h)
