@@ -29,7 +29,20 @@ kept-none false = refl
 module _ {s : List ℕ} {p : Places} {tab m vis found held : List ℕ} (h : Set s p tab) (w : Wide (length (words s)) vis found held) (f : Fresh m vis) where
   -- the numbers where the walks stand at the head
   stood : Numbers m (set m 0 (p .head)) (p .head) 0 0 0 0 0 0 (heldOf m)
-  stood = rw (f .zeros 1, f .zeros 2, f .zeros 3, f .zeros 4, f .zeros 5, f .zeros 6) at (store 0 (p .head) (omega arith) (f .size) unset)
+  stood =
+      let n : Numbers m (set m 0 (p .head)) (p .head) (topOf m) (curOf m) (lastOf m) (saidOf m) (toldOf m) (lostOf m) (heldOf m) = store {m = m} {n = m} 0 (p .head) (omega arith) (f .size) unset in
+      record {
+        size = n .size;
+        at = n .at;
+        top = n .top ∙ f .zeros 1;
+        cur = n .cur ∙ f .zeros 2;
+        last = n .last ∙ f .zeros 3;
+        said = n .said ∙ f .zeros 4;
+        told = n .told ∙ f .zeros 5;
+        lost = n .lost ∙ f .zeros 6;
+        held = n .held;
+        levels = n .levels;
+      }
 
   pub begin-roomy : Roomy (set m 0 (p .head)) found
   begin-roomy =

@@ -64,6 +64,13 @@ module _ {ws tab m vis found held m' vis' found' held' : List ℕ} {from to : �
 
 -- the walk of a section is the definition's
 module _ {s : List ℕ} {p : Places} {tab : List ℕ} (h : Set s p tab) where
+  -- its end is within the words
+  pub tail-long : p .tail ≤ length (words s)
+  tail-long = omega (arith, h .places .tail, h .places .trailer, length-words s)
+
+  pub trailer-long : p .trailer ≤ length (words s)
+  trailer-long = omega (arith, h .places .trailer, length-words s)
+
   pub head-is : (id : ℕ → ℕ) (u : Both) → usedUp (clausesAt (take (p .tail) (words s)) tab 192 (p .clauses) id u (drop (p .head) (take (p .tail) (words s)))) ≡ headIn (words s) p tab id u
   unfolding headGo
   head-is id u =

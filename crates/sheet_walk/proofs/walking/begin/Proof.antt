@@ -1,34 +1,26 @@
+-- Zeros hold nothing, and the Root is said where it is wanted (`begins`).
+use native.Mathlib.Omega.{arith}
 use borrow.Author.Needs.{needs}
+use lib.ListN.{length-set}
+use Rattle.sheet_walk.proofs.Begun.{begin-roomy, begins}
 use Rattle.sheet_walk.proofs.walking.begin.Statement.{statement}
 use Rattle.sheet_walk.proofs.walking.begin.Tie as tie
-use Rattle.sheet_walk.proofs.walking.begin.Reads as reads
-use Rattle.sheet_walk.proofs.walking.begin.Lts as lts
-use Rattle.steps.proofs.say_wanted.Reads as say-wanted-reads
-
--- src/walking.rt:20:13
-cast-m : tie.Need-cast-m
-cast-m c = search needs
-
--- src/walking.rt:20:5
-slice-write-m : tie.Need-slice-write-m
-slice-write-m c = search needs
-
--- src/walking.rt:21:5
-say-wanted-requires : tie.Need-say-wanted-requires
-say-wanted-requires c κs = ?
-
--- src/walking.rt:15:1
-same-length : tie.Need-same-length
-same-length c = ?
-
--- src/walking.rt:15:1
-same-length-2 : tie.Need-same-length-2
-same-length-2 c = search needs
-
--- src/walking.rt:15:1
-returns : tie.Need-returns
-returns c = ?
 
 pub begin-spec : {M : Type 1} → statement M
 begin-spec =
-    tie.close (tie.spec cast-m slice-write-m say-wanted-requires same-length same-length-2 returns)
+    tie.close
+    (tie.spec
+    (λ c. search needs)  -- cast-m
+    (λ c. search needs)  -- slice-write-m
+    (λ c κs.  -- say-wanted-requires
+    let k = c .before .before .before .before .before .before .before .before in
+    let q = k .pre in
+    (omega (arith, q .0 .0 .fine .long), begin-roomy (q .0 .0) (q .0 .1) (q .1)))
+    (λ c.  -- same-length
+    let a = c .before .before .before .before .before .before .before .before .before .before .before .before .before .args in
+    omega (arith, length-set (a .m .now) 0 (a .p .head)))
+    (λ c. search needs)  -- same-length-2
+    (λ c.  -- returns
+    let k = c .before .before .before .before in
+    let q = k .before .before .before .before .before .before .before .before .before .pre in
+    begins (q .0 .0) (q .0 .1) (q .1) (k .say-wanted .ensures)))
