@@ -18,7 +18,7 @@ use Rattle.tables.specs.Row.{Row, rowId, readRow}
 use Rattle.tables.proofs.Fresh.{same-comm}
 use Rattle.tables.proofs.Index.{index-is}
 use Rattle.sheet.specs.Trailer.{section}
-use Rattle.sheet.specs.Read.{Sheet, accepted, refused, locate}
+use Rattle.sheet.specs.Read.{Sheet, accepted, refused, locate, readRows, readSections, readSheet}
 use Rattle.sheet.specs.Answer.{InPlaces, Tabled}
 use Rattle.sheet.specs.declared.trailer.Places.{Places}
 use Rattle.sheet.proofs.Placing.{in-places}
@@ -56,6 +56,15 @@ slots-of n = go (eqb n 0) refl
     go : (b : Bool) → eqb n 0 ≡ b → (0 < cond b 1 n) × (n ≤ cond b 1 n) × (cond b 1 n ≤ n + 1)
     go true e = let z : n ≡ 0 = eqb-true n 0 e in (omega arith, omega arith, omega arith)
     go false e = (omega (arith, eqb-false n 0 e), omega arith, omega arith)
+
+-- cause 3, and cause 4
+pub names-no : (s : List ℕ) (p : Places) {places ids : List ℕ} → locate s ≡ accepted p → Tabled (p .names) (take (p .rows * 4) s) places ids false → readSheet s ≡ refused 3
+unfolding readSheet readSections
+names-no s p placed t = rw (placed, t .same)
+
+pub rows-refuse : (s : List ℕ) (p : Places) {places ids : List ℕ} → locate s ≡ accepted p → Tabled (p .names) (take (p .rows * 4) s) places ids true → readRows (p .names) (p .bindings) (section (words s) (p .rows) (p .head)) ≡ refused 4 → readSheet s ≡ refused 4
+unfolding readSheet readSections
+rows-refuse s p placed t r = rw (placed, t .same, r)
 
 module _ {s : List ℕ} {p : Places} {choice : ℕ} {places ids old tab : List ℕ} (placed : locate s ≡ accepted p) (t : Tabled (p .names) (take (p .rows * 4) s) places ids true) (r : Rowed s p old) (q : Settles s p choice places old tab) (wide : 16 ≤ length tab) where
   inside : InPlaces s p

@@ -70,7 +70,7 @@ module _ {s : List ℕ} {p : Places} (h : InPlaces s p) where
 well-at : (names : ℕ) (rs : List Row) (r : List ℕ) → Each (WellRow names) rs → (j : ℕ) → j < length rs → (getD (flatMap rowWords rs ++ r) (j * 5 + 1) 0 < names) × (getD (flatMap rowWords rs ++ r) (j * 5 + 2) 0 ≤ 4)
 unfolding Each WellRow flatMap rowWords
 well-at names [] r w j h = absurd (omega arith)
-well-at names (row i x k a b ∷ rs) r w zero h = (w .0 .1, w .0 .2 .0 .1)
+well-at names (row i x k a b ∷ rs) r w zero h = (w .0 .1, w .0 .2 .1)
 well-at names (row i x k a b ∷ rs) r w (suc j) h =
     let y : suc j * 5 + 1 ≡ suc (suc (suc (suc (suc (j * 5 + 1))))) = omega arith in
     let z : suc j * 5 + 2 ≡ suc (suc (suc (suc (suc (j * 5 + 2))))) = omega arith in

@@ -37,9 +37,9 @@ lent-is : (tab : List ℕ) (mult shift : ℕ) → lent tab mult shift ≡ drop 1
 lent-is tab mult shift =
     take-all (length (hashed tab mult shift) - 16) (drop 16 (hashed tab mult shift)) (omega (arith, length-drop 16 (hashed tab mult shift))) ∙ chains-stay tab mult shift
 
-module _ {ws tab : List ℕ} {rows n head mult shift : ℕ} (c : Clear (length ws) tab) (sh : Shift head shift) (fit : rows + n * 5 ≤ head) (long : head + 10 ≤ length ws) where
-  pub hang-empty : Empty shift n (lent tab mult shift)
-  hang-empty =
+module _ {w : ℕ} {tab : List ℕ} (mult shift : ℕ) (c : Clear w tab) where
+  pub hang-empty : {n head : ℕ} → Shift head shift → n * 5 ≤ head → head + 10 ≤ w → Empty shift n (lent tab mult shift)
+  hang-empty {n} {head} sh fit long =
       rw (lent-is tab mult shift)
       (record {
         low = sh .low;
@@ -53,8 +53,8 @@ module _ {ws tab : List ℕ} {rows n head mult shift : ℕ} (c : Clear (length w
       List·getD-append (take 16 (hashed tab mult shift)) l 0 i (omega (arith, length-take 16 (hashed tab mult shift), hashed-long tab mult shift, c .long))
       ∙ getD-take 16 (hashed tab mult shift) i 0 h
 
-  pub hung-up : {new : List ℕ} {r : Bool} → Indexed mult shift rows n ws (lent tab mult shift) new r → HungUp ws rows n (putMid 16 (length (hashed tab mult shift) - 16) (hashed tab mult shift) new) r
-  hung-up {new} {r} x =
+  pub hung-up : {ws new : List ℕ} {rows n : ℕ} {r : Bool} → Indexed mult shift rows n ws (lent tab mult shift) new r → HungUp ws rows n (putMid 16 (length (hashed tab mult shift) - 16) (hashed tab mult shift) new) r
+  hung-up {ws} {new} {rows} {n} {r} x =
       let xs = hashed tab mult shift in
       let l = drop (length xs - 16) (drop 16 xs) in
       let z : l ≡ [] = drop-none (drop 16 xs) (length xs - 16) (omega (arith, length-drop 16 xs)) in

@@ -1,63 +1,37 @@
+-- The numbers of the hash stand before the chains, which have room for the slots and the bindings, all zeros (`hang-empty`); and the
+-- chains that are made stand there too (`hung-up`).
+use native.Mathlib.Omega.{arith}
+use mathlib.Core.Path.{_∙_}
 use borrow.Author.Needs.{needs}
+use borrow.Rule.Slice.PartMut.{same-len-mid}
+use lib.ListN.{length-set}
+use Rattle.heads.proofs.Chain.{fact}
+use Rattle.sheet_walk.proofs.Table.{hashed, hashed-long, hang-empty, hung-up}
 use Rattle.sheet_walk.proofs.reading.hang.Statement.{statement}
 use Rattle.sheet_walk.proofs.reading.hang.Tie as tie
-use Rattle.sheet_walk.proofs.reading.hang.Reads as reads
-use Rattle.sheet_walk.proofs.reading.hang.Lts as lts
-use Rattle.rows.proofs.index_rows.Reads as index-rows-reads
-use Rattle.sheet_walk.proofs.reading.mult_for.Reads as mult-for-reads
-use Rattle.sheet_walk.proofs.reading.shift_for.Reads as shift-for-reads
-
--- src/reading.rt:79:9
-shift-for-requires : tie.Need-shift-for-requires
-shift-for-requires c κs = search needs
-
--- src/reading.rt:80:9
-mult-for-requires : tie.Need-mult-for-requires
-mult-for-requires c κs = search needs
-
--- src/reading.rt:81:5
-slice-write-tab : tie.Need-slice-write-tab
-slice-write-tab c = search needs
-
--- src/reading.rt:82:5
-slice-write-tab-2 : tie.Need-slice-write-tab-2
-slice-write-tab-2 c = ?
-
--- src/reading.rt:83:19
-sub-index-rows : tie.Need-sub-index-rows
-sub-index-rows c = ?
-
--- src/reading.rt:83:19
-part-index-rows-start : tie.Need-part-index-rows-start
-part-index-rows-start c = ?
-
--- src/reading.rt:83:19
-part-index-rows-end : tie.Need-part-index-rows-end
-part-index-rows-end c = search needs
-
--- src/reading.rt:83:5
-index-rows-requires : tie.Need-index-rows-requires
-index-rows-requires c κs = ?
-
--- src/reading.rt:75:1
-same-length : tie.Need-same-length
-same-length c = ?
-
--- src/reading.rt:75:1
-returns : tie.Need-returns
-returns c = ?
 
 pub hang-spec : {M : Type 1} → statement M
 hang-spec =
+    let wide =
+    fact
+    (λ (k : tie.After-mult-for).
+    let a = k .before .before .before .before .args in
+    hashed-long (a .tab .now) (k .mult-for .result) (k .before .shift-for .result)) in
     tie.close
     (tie.spec
-    shift-for-requires
-    mult-for-requires
-    slice-write-tab
-    slice-write-tab-2
-    sub-index-rows
-    part-index-rows-start
-    part-index-rows-end
-    index-rows-requires
-    same-length
-    returns)
+    (λ c κs. search needs)  -- shift-for-requires
+    (λ c κs. search needs)  -- mult-for-requires
+    (λ c. search needs)  -- slice-write-tab
+    (λ c. let a = c .before .before .before .before .args in omega (arith, length-set (a .tab .now) 7 (c .mult-for .result)))  -- slice-write-tab-2
+    (λ c. omega (arith, wide c))  -- sub-index-rows
+    (λ c. omega (arith, wide c))  -- part-index-rows-start
+    (λ c. search needs)  -- part-index-rows-end
+    (λ c κs.  -- index-rows-requires
+    let q = c .before .before .before .before .before .pre in
+    (omega arith, hang-empty (c .before .mult-for .result) (c .before .before .shift-for .result) (q .1) (c .before .before .shift-for .ensures) (omega (arith, q .0 .0)) (q .0 .1)))
+    (λ c.  -- same-length
+    let k = c .before .before .before .before in
+    same-len-mid 16 _ _ _ (c .before .before .index-rows .ensures .kept) ∙ wide k)
+    (λ c.  -- returns
+    let q = c .before .before .before .before .before .before .before .before .pre in
+    hung-up (c .before .before .before .before .mult-for .result) (c .before .before .before .before .before .shift-for .result) (q .1) (c .before .before .index-rows .ensures)))

@@ -1,83 +1,37 @@
+-- The names decide first, then the bindings; where both are right, what the walks go by is known (`known`).
+use Prim.Native.Nat.{_≤_, _*_}
+use native.Mathlib.Omega.{arith}
 use borrow.Author.Needs.{needs}
+use borrow.Author.Tests.{not-true, not-false}
+use lib.ListN.{length, length-take}
+use Rattle.words.proofs.Words.{length-words}
+use Rattle.heads.proofs.Chain.{fact}
+use Rattle.sheet.proofs.Placing.{in-places}
+use Rattle.sheet_walk.proofs.Known.{names-no, rows-refuse, known}
 use Rattle.sheet_walk.proofs.reading.read_tables.Statement.{statement}
 use Rattle.sheet_walk.proofs.reading.read_tables.Tie as tie
-use Rattle.sheet_walk.proofs.reading.read_tables.Reads as reads
-use Rattle.sheet_walk.proofs.reading.read_tables.Lts as lts
-use Rattle.sheet_walk.proofs.reading.names_of.Reads as names-of-reads
-use Rattle.sheet_walk.proofs.reading.rows_of.Reads as rows-of-reads
-use Rattle.sheet_walk.proofs.reading.settle.Reads as settle-reads
-
--- src/reading.rt:131:9
-names-of-requires : tie.Need-names-of-requires
-names-of-requires c κs = ?
-
--- src/reading.rt:132:9
-same-length : tie.Need-same-length
-same-length c = search needs
-
--- src/reading.rt:132:9
-same-length-2 : tie.Need-same-length-2
-same-length-2 c = search needs
-
--- src/reading.rt:132:9
-returns : tie.Need-returns
-returns c = ?
-
--- src/reading.rt:134:9
-rows-of-requires : tie.Need-rows-of-requires
-rows-of-requires c κs = ?
-
--- src/reading.rt:135:9
-same-length-3 : tie.Need-same-length-3
-same-length-3 c = search needs
-
--- src/reading.rt:135:9
-same-length-4 : tie.Need-same-length-4
-same-length-4 c = search needs
-
--- src/reading.rt:135:9
-same-length-5 : tie.Need-same-length-5
-same-length-5 c = search needs
-
--- src/reading.rt:135:9
-returns-2 : tie.Need-returns-2
-returns-2 c = ?
-
--- src/reading.rt:137:5
-settle-requires : tie.Need-settle-requires
-settle-requires c κs = ?
-
--- src/reading.rt:127:1
-same-length-6 : tie.Need-same-length-6
-same-length-6 c = search needs
-
--- src/reading.rt:127:1
-same-length-7 : tie.Need-same-length-7
-same-length-7 c = search needs
-
--- src/reading.rt:127:1
-same-length-8 : tie.Need-same-length-8
-same-length-8 c = search needs
-
--- src/reading.rt:127:1
-returns-3 : tie.Need-returns-3
-returns-3 c = ?
 
 pub read-tables-spec : {M : Type 1} → statement M
 read-tables-spec =
+    let named = fact (λ (k : tie.Else1). rw (not-false (k .before .before .before .before .before .names-of .result) (k .if1 .left)) at (k .before .before .before .before .before .names-of .ensures)) in
+    let placed = fact (λ (k : tie.Else1). in-places (k .before .before .before .before .before .before .before .before .before .before .before .before .args .s .now) (k .before .before .before .before .before .before .before .before .before .before .before .before .args .p) (k .before .before .before .before .before .before .before .before .before .before .before .before .pre .0 .0)) in
+    let rowed = fact (λ (k : tie.Else2). rw (not-false (k .before .before .before .rows-of .result) (k .if2 .left)) at (k .before .before .before .rows-of .ensures)) in
     tie.close
     (tie.spec
-    names-of-requires
-    same-length
-    same-length-2
-    returns
-    rows-of-requires
-    same-length-3
-    same-length-4
-    same-length-5
-    returns-2
-    settle-requires
-    same-length-6
-    same-length-7
-    same-length-8
-    returns-3)
+    (λ c κs.  -- names-of-requires
+    let q = c .before .before .before .before .before .before .pre in
+    (in-places (c .before .before .before .before .before .before .args .s .now) (c .before .before .before .before .before .before .args .p) (q .0 .0), q .0 .1))
+    (λ c. search needs) (λ c. search needs)  -- same-length, same-length-2
+    (λ c.  -- returns
+    let k = c .before .before .before .before .before in
+    names-no (c .before .before .before .before .before .before .before .before .before .before .before .before .args .s .now) (c .before .before .before .before .before .before .before .before .before .before .before .before .args .p) (c .before .before .before .before .before .before .before .before .before .before .before .before .pre .0 .0) (rw (not-true (k .names-of .result) (c .if1 .taken)) at (k .names-of .ensures)))
+    (λ c κs. (placed (c .before), c .before .before .before .before .before .before .before .before .before .before .before .before .before .pre .1))  -- rows-of-requires
+    (λ c. search needs) (λ c. search needs) (λ c. search needs)  -- same-length-3, -4, -5
+    (λ c.  -- returns-2
+    let k = c .before .before .before in
+    rows-refuse (c .before .before .before .before .before .before .before .before .before .before .before .before .before .before .before .before .before .args .s .now) (c .before .before .before .before .before .before .before .before .before .before .before .before .before .before .before .before .before .args .p) (c .before .before .before .before .before .before .before .before .before .before .before .before .before .before .before .before .before .pre .0 .0) (named (k .before .before)) (rw (not-true (k .rows-of .result) (c .if2 .taken)) at (k .rows-of .ensures)))
+    (λ c κs. ?)  -- settle-requires
+    (λ c. search needs) (λ c. search needs) (λ c. search needs)  -- same-length-6, -7, -8
+    (λ c.  -- returns-3
+    let e = c .before .before .before .before .before in
+    known (c .before .before .before .before .before .before .before .before .before .before .before .before .before .before .before .before .before .before .before .before .before .before .pre .0 .0) (named (e .before .before .before .before .before)) (rowed e) (c .before .before .settle .ensures) (omega arith)))

@@ -1,133 +1,48 @@
+-- The head's walk begins where nothing was walked, the arms' where the head ends; what each says makes up what the sheet's says.
+use native.Mathlib.Omega.{arith}
+use mathlib.Core.Path.{refl}
 use borrow.Author.Needs.{needs}
+use Rattle.heads.proofs.Chain.{fact}
+use Rattle.sheet_walk.proofs.Ended.{stands-on}
+use Rattle.sheet_walk.proofs.Whole.{wide-same, head-refused, arms-refused, rows-lacking, both-done}
 use Rattle.sheet_walk.proofs.walking.walk_both.Statement.{statement}
 use Rattle.sheet_walk.proofs.walking.walk_both.Tie as tie
-use Rattle.sheet_walk.proofs.walking.walk_both.Reads as reads
-use Rattle.sheet_walk.proofs.walking.walk_both.Lts as lts
-use Rattle.sheet_walk.proofs.walking.begin.Reads as begin-reads
-use Rattle.sheet_walk.proofs.walking.walk_head.Reads as walk-head-reads
-use Rattle.sheet_walk.proofs.walking.walk_tail.Reads as walk-tail-reads
-
--- src/walking.rt:63:5
-begin-requires : tie.Need-begin-requires
-begin-requires c κs = search needs
-
--- src/walking.rt:64:9
-walk-head-requires : tie.Need-walk-head-requires
-walk-head-requires c κs = ?
-
--- src/walking.rt:66:9
-same-length : tie.Need-same-length
-same-length c = search needs
-
--- src/walking.rt:66:9
-same-length-2 : tie.Need-same-length-2
-same-length-2 c = search needs
-
--- src/walking.rt:66:9
-same-length-3 : tie.Need-same-length-3
-same-length-3 c = search needs
-
--- src/walking.rt:66:9
-same-length-4 : tie.Need-same-length-4
-same-length-4 c = search needs
-
--- src/walking.rt:66:9
-returns : tie.Need-returns
-returns c = ?
-
--- src/walking.rt:68:9
-walk-tail-requires : tie.Need-walk-tail-requires
-walk-tail-requires c κs = ?
-
--- src/walking.rt:70:9
-same-length-5 : tie.Need-same-length-5
-same-length-5 c = search needs
-
--- src/walking.rt:70:9
-same-length-6 : tie.Need-same-length-6
-same-length-6 c = search needs
-
--- src/walking.rt:70:9
-same-length-7 : tie.Need-same-length-7
-same-length-7 c = search needs
-
--- src/walking.rt:70:9
-same-length-8 : tie.Need-same-length-8
-same-length-8 c = search needs
-
--- src/walking.rt:70:9
-returns-2 : tie.Need-returns-2
-returns-2 c = ?
-
--- src/walking.rt:72:8
-slice-read-if3 : tie.Need-slice-read-if3
-slice-read-if3 c = ?
-
--- src/walking.rt:73:9
-same-length-9 : tie.Need-same-length-9
-same-length-9 c = search needs
-
--- src/walking.rt:73:9
-same-length-10 : tie.Need-same-length-10
-same-length-10 c = search needs
-
--- src/walking.rt:73:9
-same-length-11 : tie.Need-same-length-11
-same-length-11 c = search needs
-
--- src/walking.rt:73:9
-same-length-12 : tie.Need-same-length-12
-same-length-12 c = search needs
-
--- src/walking.rt:73:9
-returns-3 : tie.Need-returns-3
-returns-3 c = ?
-
--- src/walking.rt:59:1
-same-length-13 : tie.Need-same-length-13
-same-length-13 c = search needs
-
--- src/walking.rt:59:1
-same-length-14 : tie.Need-same-length-14
-same-length-14 c = search needs
-
--- src/walking.rt:59:1
-same-length-15 : tie.Need-same-length-15
-same-length-15 c = search needs
-
--- src/walking.rt:59:1
-same-length-16 : tie.Need-same-length-16
-same-length-16 c = search needs
-
--- src/walking.rt:59:1
-returns-4 : tie.Need-returns-4
-returns-4 c = ?
 
 pub walk-both-spec : {M : Type 1} → statement M
 walk-both-spec =
+    let begun = fact (λ (k : tie.After-walk-head). k .before .before .before .before .before .before .before .before .before .begin .ensures) in
+    let asked = fact (λ (k : tie.After-walk-head). k .before .before .before .before .before .before .before .before .before .before .before .before .before .before .before .before .before .before .before .before .pre) in
+    let headed = fact (λ (k : tie.Else1). rw (k .if1 .left) at (k .before .before .before .before .before .before .before .before .before .walk-head .ensures)) in
+    let armed = fact (λ (k : tie.Else2). rw (k .if2 .left) at (k .before .before .before .before .before .before .before .before .before .walk-tail .ensures)) in
     tie.close
     (tie.spec
-    begin-requires
-    walk-head-requires
-    same-length
-    same-length-2
-    same-length-3
-    same-length-4
-    returns
-    walk-tail-requires
-    same-length-5
-    same-length-6
-    same-length-7
-    same-length-8
-    returns-2
-    slice-read-if3
-    same-length-9
-    same-length-10
-    same-length-11
-    same-length-12
-    returns-3
-    same-length-13
-    same-length-14
-    same-length-15
-    same-length-16
-    returns-4)
+    (λ c κs. search needs)  -- begin-requires
+    (λ c κs.  -- walk-head-requires
+    let q = c .before .before .before .before .before .before .before .before .before .before .before .before .before .before .before .before .before .before .before .pre in
+    let g = c .before .before .before .before .before .before .before .before .begin .ensures in
+    ((q .0 .0, wide-same refl (g .wrote) refl (q .0 .1)), g .stands))
+    (λ c. search needs) (λ c. search needs) (λ c. search needs) (λ c. search needs)  -- same-length
+    (λ c. head-refused (begun (c .before .before .before .before .before .before .before .before .before)) (c .if1 .taken) (c .before .before .before .before .before .before .before .before .before .walk-head .ensures))  -- returns
+    (λ c κs.  -- walk-tail-requires
+    let e = c .before .before .before .before in
+    let k = e .before .before .before .before .before .before .before .before .before in
+    let q = asked k in
+    let x = headed e in
+    let w = wide-same (x .seen) (x .wrote) ? (wide-same refl (begun k .wrote) refl (q .0 .1)) in
+    ((q .0 .0, w), stands-on (q .0 .0) w (x .done .stands)))
+    (λ c. search needs) (λ c. search needs) (λ c. search needs) (λ c. search needs)  -- same-length-5
+    (λ c.  -- returns-2
+    let e = c .before .before .before .before .before .before .before .before .before .before .before .before .before .before in
+    arms-refused (begun (e .before .before .before .before .before .before .before .before .before)) (headed e) (c .if2 .taken) (c .before .before .before .before .before .before .before .before .before .walk-tail .ensures))
+    (λ c. omega (arith, armed (c .before) .done .stands .fit .size))  -- slice-read-if3
+    (λ c. search needs) (λ c. search needs) (λ c. search needs) (λ c. search needs)  -- same-length-9
+    (λ c.  -- returns-3
+    let a = c .before .before in
+    let e = a .before .before .before .before .before .before .before .before .before .before .before .before .before .before in
+    let k = e .before .before .before .before .before .before .before .before .before in
+    both-done (begun k) (headed e) (armed a) (asked k .0 .0 .places .trailer) (c .if3 .taken))
+    (λ c. search needs) (λ c. search needs) (λ c. search needs) (λ c. search needs)  -- same-length-13
+    (λ c.  -- returns-4
+    let a = c .before .before in
+    let e = a .before .before .before .before .before .before .before .before .before .before .before .before .before .before in
+    rows-lacking (begun (e .before .before .before .before .before .before .before .before .before)) (headed e) (armed a) (c .if3 .left)))
