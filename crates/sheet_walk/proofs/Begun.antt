@@ -1,5 +1,5 @@
 -- Where both walks begin: zeros hold the empty state, and the Root is said where it is wanted (`begins`).
-use Prim.Native.Nat.{ℕ, _+_, _*_, _<_, _≤_}
+use Prim.Native.Nat.{ℕ, zero, suc, _+_, _*_, _<_, _≤_}
 use native.Mathlib.Omega.{arith}
 use mathlib.Core.Path.{_≡_, refl, ap, sym, _∙_}
 use mathlib.Core.Bool.{Bool, true, false}
@@ -20,6 +20,21 @@ use Rattle.sheet_walk.specs.Parts.{Set, Wide, Unseen, Fresh, Stands, Beg
 -- no names, no events, no findings
 abbrev nothing : Both
 nothing = record { names = record { visible = []; cur = 0; last = 0; log = [] }; kinds = []; known = true }
+
+-- n zeros
+unfoldable pub zeros : ℕ → List ℕ
+zeros zero = []
+zeros (suc n) = 0 ∷ zeros n
+
+zero-at : (n i : ℕ) → getD (zeros n) i 0 ≡ 0
+unfolding zeros
+zero-at zero i = refl
+zero-at (suc n) zero = refl
+zero-at (suc n) (suc i) = zero-at n i
+
+pub fresh : (vis : List ℕ) → Unseen vis → Fresh (zeros 64) vis
+unfolding zeros
+fresh vis u = record { size = refl; zeros = zero-at 64; unseen = u }
 
 kept-none : (b : Bool) → kept b [] ≡ []
 unfolding kept

@@ -1,8 +1,9 @@
 -- The two tables where both are right: what the walks go by is in order, and the World is that of the names and the bindings (`known`).
 -- Distinct names have `*` and `id` at one index at most, and a row that is found is the table's.
-use Prim.Native.Nat.{ℕ, suc, _+_, _*_, _<_, _≤_}
+use Prim.Native.Nat.{ℕ, zero, suc, _+_, _*_, _<_, _≤_}
 use native.Mathlib.Omega.{arith}
 use mathlib.Core.Path.{_≡_, refl, ap, sym, _∙_}
+use mathlib.Core.Logic.{_≢_}
 use mathlib.Core.Bool.{Bool, true, false, cond, _&&_, and-true, and-false}
 use mathlib.Core.List.{List, [], _∷_, map}
 use lib.Dec.{eqb}
@@ -32,7 +33,7 @@ use Rattle.rows.proofs.Found.{row-found}
 use Rattle.steps.specs.Memory.{worldAt, slotsIn, rowsIn, bindingsIn, multIn, shiftIn, chainsIn}
 use Rattle.steps.specs.Hold.{Fine}
 use Rattle.sheet_walk.specs.Runs.{warnsBy, wantsBy}
-use Rattle.sheet_walk.specs.Parts.{Rowed, namesBy, Settles, Set, Tables}
+use Rattle.sheet_walk.specs.Parts.{Rowed, namesBy, Settles, Set, Tables, TablesAs}
 use Rattle.sheet_walk.proofs.Rows.{row-words}
 
 -- the names `*` and `id` as texts that are the same
@@ -66,6 +67,10 @@ pub rows-refuse : (s : List ℕ) (p : Places) {places ids : List ℕ} → locate
 unfolding readSheet readSections
 rows-refuse s p placed t r = rw (placed, t .same, r)
 
+-- each name takes a word at least
+pub names-few : (n e : ℕ) (s : List ℕ) {places ids : List ℕ} → Tabled n (take (e * 4) s) places ids true → n ≤ e
+names-few n e s t = omega (arith, t .many refl, length-take (e * 4) s)
+
 module _ {s : List ℕ} {p : Places} {choice : ℕ} {places ids old tab : List ℕ} (placed : locate s ≡ accepted p) (t : Tabled (p .names) (take (p .rows * 4) s) places ids true) (r : Rowed s p old) (q : Settles s p choice places old tab) (wide : 16 ≤ length tab) where
   inside : InPlaces s p
   inside = in-places s p placed
@@ -89,7 +94,7 @@ module _ {s : List ℕ} {p : Places} {choice : ℕ} {places ids old tab : List �
   apart = names-hold (p .names) (take (p .rows * 4) s) .held (namesBy s p places) (t .same) .1
 
   few : p .names ≤ p .rows
-  few = omega (arith, t .many refl, length-take (p .rows * 4) s)
+  few = names-few (p .names) (p .rows) s t
 
   fine : Fine (words s) tab
   fine =
@@ -127,3 +132,8 @@ module _ {s : List ℕ} {p : Places} {choice : ℕ} {places ids old tab : List �
 
   pub known : Tables s p choice places ids tab
   known = record { rows = r .rows; has = record { places = placed; names = t .same; rows = r .read }; tabled = t; set = set; world = world; wants = q .wants }
+
+-- the cause that the tables give
+pub tables-no : {s : List ℕ} {p : Places} {choice : ℕ} {places ids tab : List ℕ} {c : ℕ} → c ≢ 0 → TablesAs s p choice places ids tab c → readSheet s ≡ refused c
+tables-no {c = zero} ne x = absurd (ne refl)
+tables-no {c = suc c} ne x = x

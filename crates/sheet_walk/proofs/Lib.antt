@@ -5,3 +5,4 @@ pub mod Table
 pub mod Rows
 pub mod Known
 pub mod Whole
+pub mod Told

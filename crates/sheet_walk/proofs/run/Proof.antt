@@ -1,98 +1,46 @@
+-- Places, tables, head and arms, in the definition's order: the first that is refused refuses the sheet; else what was said is the
+-- statement's (`runs`).
+use Prim.Native.Nat.{_+_, _*_, _≤_}
+use native.Mathlib.Omega.{arith}
+use mathlib.Core.Path.{_≡_, refl, sym, _∙_}
 use borrow.Author.Needs.{needs}
+use lib.ListN.{length}
+use Rattle.words.specs.Words.{words}
+use Rattle.words.proofs.Words.{length-words}
+use Rattle.heads.proofs.Chain.{fact}
+use Rattle.sheet.proofs.Placing.{opened-at, opened-no}
+use Rattle.sheet_walk.proofs.Known.{tables-no}
+use Rattle.sheet_walk.proofs.Told.{places-no, runs}
 use Rattle.sheet_walk.proofs.run.Statement.{statement}
 use Rattle.sheet_walk.proofs.run.Tie as tie
-use Rattle.sheet_walk.proofs.run.Reads as reads
-use Rattle.sheet_walk.proofs.run.Lts as lts
-use Rattle.sheet.proofs.find_places.Reads as find-places-reads
-use Rattle.sheet_walk.proofs.reading.read_tables.Reads as read-tables-reads
-use Rattle.sheet_walk.proofs.walk_all.Reads as walk-all-reads
-
--- src/lib.rt:44:19
-find-places-requires : tie.Need-find-places-requires
-find-places-requires c κs = search needs
-
--- src/lib.rt:45:25
-enum-known-c : tie.Need-enum-known-c
-enum-known-c c = search needs
-
--- src/lib.rt:46:13
-returns : tie.Need-returns
-returns c = ?
-
--- src/lib.rt:48:20
-enum-known-p : tie.Need-enum-known-p
-enum-known-p c = search needs
-
--- src/lib.rt:50:9
-read-tables-requires : tie.Need-read-tables-requires
-read-tables-requires c κs = ?
-
--- src/lib.rt:52:9
-same-length : tie.Need-same-length
-same-length c = search needs
-
--- src/lib.rt:52:9
-same-length-2 : tie.Need-same-length-2
-same-length-2 c = search needs
-
--- src/lib.rt:52:9
-same-length-3 : tie.Need-same-length-3
-same-length-3 c = search needs
-
--- src/lib.rt:52:9
-returns-2 : tie.Need-returns-2
-returns-2 c = ?
-
--- src/lib.rt:54:5
-walk-all-requires : tie.Need-walk-all-requires
-walk-all-requires c κs = ?
-
--- src/lib.rt:40:1
-same-length-4 : tie.Need-same-length-4
-same-length-4 c = search needs
-
--- src/lib.rt:40:1
-same-length-5 : tie.Need-same-length-5
-same-length-5 c = search needs
-
--- src/lib.rt:40:1
-same-length-6 : tie.Need-same-length-6
-same-length-6 c = search needs
-
--- src/lib.rt:40:1
-same-length-7 : tie.Need-same-length-7
-same-length-7 c = search needs
-
--- src/lib.rt:40:1
-same-length-8 : tie.Need-same-length-8
-same-length-8 c = search needs
-
--- src/lib.rt:40:1
-same-length-9 : tie.Need-same-length-9
-same-length-9 c = search needs
-
--- src/lib.rt:40:1
-returns-3 : tie.Need-returns-3
-returns-3 c = ?
 
 pub run-spec : {M : Type 1} → statement M
 run-spec =
+    let tabled = fact (λ (k : tie.Else1). rw (k .if1 .left) at (k .before .before .before .before .before .before .before .read-tables .ensures)) in
     tie.close
     (tie.spec
-    find-places-requires
-    enum-known-c
-    returns
-    enum-known-p
-    read-tables-requires
-    same-length
-    same-length-2
-    same-length-3
-    returns-2
-    walk-all-requires
-    same-length-4
-    same-length-5
-    same-length-6
-    same-length-7
-    same-length-8
-    same-length-9
-    returns-3)
+    (λ c κs. search needs)  -- find-places-requires
+    (λ c. search needs)  -- enum-known-c
+    (λ c.  -- returns
+    let s = c .before .before .before .before .before .before .before .before .before .before .before .args .s .now in
+    record { placed = refl; used = refl; wrote = refl; ran = places-no s (opened-no s (c .before .before .before .find-places .ensures) (c .before .c .given .1)) })
+    (λ c. search needs)  -- enum-known-p
+    (λ c κs.  -- read-tables-requires
+    let s = c .before .before .before .before .before .before .before .before .before .before .before .before .before .before .args .s .now in
+    let q = c .before .before .before .before .before .before .before .before .before .before .before .before .before .before .pre in
+    let o = opened-at s (c .before .before .before .before .before .before .find-places .ensures) (c .before .before .before .before .p .given .1) in
+    ((o .0, record { short = o .1 .short; places = omega (arith, q .placed, length-words s); uses = omega (arith, q .used, length-words s) }), record { long = q .long; clear = q .clear }))
+    (λ c. search needs) (λ c. search needs) (λ c. search needs)  -- same-length
+    (λ c.  -- returns-2
+    record { placed = omega arith; used = omega arith; wrote = refl; ran = tables-no (c .if1 .taken) (c .before .before .before .before .before .before .before .read-tables .ensures) })
+    (λ c κs.  -- walk-all-requires
+    let q = c .before .before .before .before .before .before .before .before .before .before .before .before .before .before .before .before .before .before .before .before .before .before .before .before .before .before .pre in
+    ((tabled (c .before .before .before .before) .set, record { names = q .names; room = q .room; pairs = q .pairs }), record { unseen = q .unseen }))
+    (λ c. search needs) (λ c. search needs) (λ c. search needs) (λ c. search needs) (λ c. search needs) (λ c. search needs)  -- same-length-4
+    (λ c.  -- returns-3
+    let k = c .before .before .before .before .before in
+    let e = k .before .before .before .before .before in
+    let q = e .before .before .before .before .before .before .before .before .before .before .before .before .before .before .before .before .before .before .before .before .before .before .pre in
+    let x = k .walk-all .ensures in
+    let z = e .before .before .before .before .before .before .before .read-tables .ensures in
+    record { placed = ?; used = ?; wrote = x .wrote; ran = runs (tabled e) ? (rw (x .wrote) (q .room)) (k .walk-all .result) (x .ran) }))

@@ -1,10 +1,11 @@
 -- The numbers of the hash stand before the chains, which have room for the slots and the bindings, all zeros (`hang-empty`); and the
 -- chains that are made stand there too (`hung-up`).
+use Prim.Native.Nat.{ℕ, _-_}
 use native.Mathlib.Omega.{arith}
 use mathlib.Core.Path.{_∙_}
 use borrow.Author.Needs.{needs}
 use borrow.Rule.Slice.PartMut.{same-len-mid}
-use lib.ListN.{length-set}
+use lib.ListN.{length, length-set}
 use Rattle.heads.proofs.Chain.{fact}
 use Rattle.sheet_walk.proofs.Table.{hashed, hashed-long, hang-empty, hung-up}
 use Rattle.sheet_walk.proofs.reading.hang.Statement.{statement}
@@ -31,7 +32,8 @@ hang-spec =
     (omega arith, hang-empty (c .before .mult-for .result) (c .before .before .shift-for .result) (q .1) (c .before .before .shift-for .ensures) (omega (arith, q .0 .0)) (q .0 .1)))
     (λ c.  -- same-length
     let k = c .before .before .before .before in
-    same-len-mid 16 _ _ _ (c .before .before .index-rows .ensures .kept) ∙ wide k)
+    let xs = hashed (c .before .before .before .before .before .before .before .before .args .tab .now) (k .mult-for .result) (k .before .shift-for .result) in
+    same-len-mid {X = ℕ} 16 (length xs - 16) xs (c .before .before .index-rows .last .1 .0) (c .before .before .index-rows .ensures .kept) ∙ wide k)
     (λ c.  -- returns
     let q = c .before .before .before .before .before .before .before .before .pre in
     hung-up (c .before .before .before .before .mult-for .result) (c .before .before .before .before .before .shift-for .result) (q .1) (c .before .before .index-rows .ensures)))

@@ -7,7 +7,7 @@ use lib.ListN.{length, length-take}
 use Rattle.words.proofs.Words.{length-words}
 use Rattle.heads.proofs.Chain.{fact}
 use Rattle.sheet.proofs.Placing.{in-places}
-use Rattle.sheet_walk.proofs.Known.{names-no, rows-refuse, known}
+use Rattle.sheet_walk.proofs.Known.{names-no, rows-refuse, names-few, known}
 use Rattle.sheet_walk.proofs.reading.read_tables.Statement.{statement}
 use Rattle.sheet_walk.proofs.reading.read_tables.Tie as tie
 
@@ -30,7 +30,12 @@ read-tables-spec =
     (λ c.  -- returns-2
     let k = c .before .before .before in
     rows-refuse (c .before .before .before .before .before .before .before .before .before .before .before .before .before .before .before .before .before .args .s .now) (c .before .before .before .before .before .before .before .before .before .before .before .before .before .before .before .before .before .args .p) (c .before .before .before .before .before .before .before .before .before .before .before .before .before .before .before .before .before .pre .0 .0) (named (k .before .before)) (rw (not-true (k .rows-of .result) (c .if2 .taken)) at (k .rows-of .ensures)))
-    (λ c κs. ?)  -- settle-requires
+    (λ c κs.  -- settle-requires
+    let e = c .before .before in
+    let f = e .before .before .before .before .before in
+    let n = names-few (f .before .before .before .before .before .before .before .before .before .before .before .before .args .p .names) (f .before .before .before .before .before .before .before .before .before .before .before .before .args .p .rows) (f .before .before .before .before .before .before .before .before .before .before .before .before .args .s .now) (named f) in
+    let q = placed f in
+    ((q, omega (arith, n, q)), (omega (arith, n, q), omega arith)))
     (λ c. search needs) (λ c. search needs) (λ c. search needs)  -- same-length-6, -7, -8
     (λ c.  -- returns-3
     let e = c .before .before .before .before .before in

@@ -1,6 +1,6 @@
 -- The head's walk begins where nothing was walked, the arms' where the head ends; what each says makes up what the sheet's says.
 use native.Mathlib.Omega.{arith}
-use mathlib.Core.Path.{refl}
+use mathlib.Core.Path.{refl, _∙_}
 use borrow.Author.Needs.{needs}
 use Rattle.heads.proofs.Chain.{fact}
 use Rattle.sheet_walk.proofs.Ended.{stands-on}
@@ -18,9 +18,10 @@ walk-both-spec =
     (tie.spec
     (λ c κs. search needs)  -- begin-requires
     (λ c κs.  -- walk-head-requires
+    let a = c .before .before .before .before .before .before .before .before .before .before .before .before .before .before .before .before .before .before .before .args in
     let q = c .before .before .before .before .before .before .before .before .before .before .before .before .before .before .before .before .before .before .before .pre in
     let g = c .before .before .before .before .before .before .before .before .begin .ensures in
-    ((q .0 .0, wide-same refl (g .wrote) refl (q .0 .1)), g .stands))
+    ((q .0 .0, wide-same (a .vis .now) (a .found .now) (a .held .now) refl (g .wrote) refl (q .0 .1)), g .stands))
     (λ c. search needs) (λ c. search needs) (λ c. search needs) (λ c. search needs)  -- same-length
     (λ c. head-refused (begun (c .before .before .before .before .before .before .before .before .before)) (c .if1 .taken) (c .before .before .before .before .before .before .before .before .before .walk-head .ensures))  -- returns
     (λ c κs.  -- walk-tail-requires
@@ -28,7 +29,8 @@ walk-both-spec =
     let k = e .before .before .before .before .before .before .before .before .before in
     let q = asked k in
     let x = headed e in
-    let w = wide-same (x .seen) (x .wrote) ? (wide-same refl (begun k .wrote) refl (q .0 .1)) in
+    let a = k .before .before .before .before .before .before .before .before .before .before .before .before .before .before .before .before .before .before .before .before .args in
+    let w = wide-same (a .vis .now) (a .found .now) (a .held .now) (x .seen) (x .wrote ∙ begun k .wrote) (omega arith) (q .0 .1) in
     ((q .0 .0, w), stands-on (q .0 .0) w (x .done .stands)))
     (λ c. search needs) (λ c. search needs) (λ c. search needs) (λ c. search needs)  -- same-length-5
     (λ c.  -- returns-2
