@@ -33,7 +33,7 @@ use Rattle.rows.proofs.Found.{row-found}
 use Rattle.steps.specs.Memory.{worldAt, slotsIn, rowsIn, bindingsIn, multIn, shiftIn, chainsIn}
 use Rattle.steps.specs.Hold.{Fine}
 use Rattle.sheet_walk.specs.Runs.{warnsBy, wantsBy}
-use Rattle.sheet_walk.specs.Parts.{Rowed, namesBy, Settles, Set, Tables, TablesAs}
+use Rattle.sheet_walk.specs.Parts.{Rowed, namesBy, Settles, Set, Tables, TablesAs, ReadsTables}
 use Rattle.sheet_walk.proofs.Rows.{row-words}
 
 -- the names `*` and `id` as texts that are the same
@@ -134,6 +134,9 @@ module _ {s : List ℕ} {p : Places} {choice : ℕ} {places ids old tab : List �
   known = record { rows = r .rows; has = record { places = placed; names = t .same; rows = r .read }; tabled = t; set = set; world = world; wants = q .wants }
 
 -- the cause that the tables give
-pub tables-no : {s : List ℕ} {p : Places} {choice : ℕ} {places ids tab : List ℕ} {c : ℕ} → c ≢ 0 → TablesAs s p choice places ids tab c → readSheet s ≡ refused c
-tables-no {c = zero} ne x = absurd (ne refl)
-tables-no {c = suc c} ne x = x
+pub tables-no : {s : List ℕ} {p : Places} {choice : ℕ} {places ids tab : List ℕ} {r : ℕ} → r ≢ 0 → ReadsTables s p choice places ids tab r → readSheet s ≡ refused r
+tables-no {s} {p} {choice} {places} {ids} {tab} {r} ne x = go r ne (x .tables)
+  where
+    go : (r : ℕ) → r ≢ 0 → TablesAs s p choice places ids tab r → readSheet s ≡ refused r
+    go zero ne y = absurd (ne refl)
+    go (suc c) ne y = y

@@ -71,8 +71,8 @@ module _ {s : List ℕ} {p : Places} {choice : ℕ} {places ids tab : List ℕ} 
         wide = omega (arith, x .few);
       }
 
-  pub runs : {found : List ℕ} → length (words s) ≤ length places → length (words s) * 6 ≤ length found → (r : Ran) → RanBothAs s p tab found r → RanAs choice s places ids found r
-  runs many room (ran.Is n k) x = said many room x
-  runs many room (ran.Refused c) x =
+  pub runs : (found : List ℕ) → length (words s) ≤ length places → length (words s) * 6 ≤ length found → (r : Ran) → RanBothAs s p tab found r → RanAs choice s places ids found r
+  runs found many room (ran.Is n k) x = said many room x
+  runs found many room (ran.Refused c) x =
       let id : ℕ → ℕ = λ i. useId (getD (namesBy s p places) i []) in
       when-refused (t .has) (warnsBy choice) (worldAt (words s) tab id) (t .world) (x id)

@@ -97,6 +97,9 @@ abbrev pub TablesAs : List ℕ → Places → ℕ → (places ids tab : List ℕ
 TablesAs s p choice places ids tab zero = Tables s p choice places ids tab
 TablesAs s p choice places ids tab (suc c) = readSheet s ≡ refused (suc c)
 
+pub record ReadsTables (s : List ℕ) (p : Places) (choice : ℕ) (places ids tab : List ℕ) (r : ℕ) : Type 0 where
+  pub tables : TablesAs s p choice places ids tab r
+
 -- ---- the sections
 
 -- the lent words have room for w words

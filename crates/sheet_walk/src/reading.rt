@@ -26,7 +26,7 @@ ghost use Rattle.words.specs.Words.{words};
 ghost use Rattle.tables.specs.Answer.{Roomy};
 ghost use Rattle.sheet.specs.Answer.{InPlaces, Tabled};
 ghost use Rattle.sheet.specs.Read.{locate, accepted};
-ghost use Rattle.sheet_walk.specs.Parts.{Shift, Clear, RowedIf, HungUp, Settles, TablesAs};
+ghost use Rattle.sheet_walk.specs.Parts.{Shift, Clear, RowedIf, HungUp, Settles, ReadsTables};
 
 // The shift of a hash for the bindings before a word: 8, 64 or 256 slots.
 fn shift_for(words: usize) -> u32
@@ -126,7 +126,7 @@ fn settle(s: &[u8], p: Places, choice: u32, places: &[u32], tab: &mut [u32])
 // All of them: 0, or the refusal's number.
 pub fn read_tables(s: &[u8], p: Places, choice: u32, places: &mut [u32], ids: &mut [u32], tab: &mut [u32]) -> u32
     requires { ⌜ ((locate (now s) ≡ accepted p) × Roomy (now s) (now places) (now ids)) × Clear (length (words (now s))) (now tab) ⌝ }
-    ensures { λ r. ⌜ TablesAs (now (s .entry)) p choice (now (places .exit)) (now (ids .exit)) (now (tab .exit)) r ⌝ }
+    ensures { λ r. ⌜ ReadsTables (now (s .entry)) p choice (now (places .exit)) (now (ids .exit)) (now (tab .exit)) r ⌝ }
 {
     if !names_of(s, p, places, ids) {
         return 3;

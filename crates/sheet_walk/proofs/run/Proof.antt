@@ -16,7 +16,7 @@ use Rattle.sheet_walk.proofs.run.Tie as tie
 
 pub run-spec : {M : Type 1} → statement M
 run-spec =
-    let tabled = fact (λ (k : tie.Else1). rw (k .if1 .left) at (k .before .before .before .before .before .before .before .read-tables .ensures)) in
+    let tabled = fact (λ (k : tie.Else1). (rw (k .if1 .left) at (k .before .before .before .before .before .before .before .read-tables .ensures)) .tables) in
     tie.close
     (tie.spec
     (λ c κs. search needs)  -- find-places-requires
@@ -38,9 +38,9 @@ run-spec =
     ((tabled (c .before .before .before .before) .set, record { names = q .names; room = q .room; pairs = q .pairs }), record { unseen = q .unseen }))
     (λ c. search needs) (λ c. search needs) (λ c. search needs) (λ c. search needs) (λ c. search needs) (λ c. search needs)  -- same-length-4
     (λ c.  -- returns-3
-    let k = c .before .before .before .before .before in
+    let k = c .before .before .before .before .before .before in
     let e = k .before .before .before .before .before in
     let q = e .before .before .before .before .before .before .before .before .before .before .before .before .before .before .before .before .before .before .before .before .before .before .pre in
     let x = k .walk-all .ensures in
-    let z = e .before .before .before .before .before .before .before .read-tables .ensures in
-    record { placed = ?; used = ?; wrote = x .wrote; ran = runs (tabled e) ? (rw (x .wrote) (q .room)) (k .walk-all .result) (x .ran) }))
+    let z = e .before .before .before .before .before .before .places .given in
+    record { placed = omega (arith, z); used = omega (arith, e .before .before .before .before .ids .given); wrote = x .wrote; ran = runs (tabled e) _ (omega (arith, z, q .placed)) (omega (arith, x .wrote, q .room)) (k .walk-all .result) (x .ran) }))

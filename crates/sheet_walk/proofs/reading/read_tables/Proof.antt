@@ -24,19 +24,19 @@ read-tables-spec =
     (λ c. search needs) (λ c. search needs)  -- same-length, same-length-2
     (λ c.  -- returns
     let k = c .before .before .before .before .before in
-    names-no (c .before .before .before .before .before .before .before .before .before .before .before .before .args .s .now) (c .before .before .before .before .before .before .before .before .before .before .before .before .args .p) (c .before .before .before .before .before .before .before .before .before .before .before .before .pre .0 .0) (rw (not-true (k .names-of .result) (c .if1 .taken)) at (k .names-of .ensures)))
+    record { tables = names-no (c .before .before .before .before .before .before .before .before .before .before .before .before .args .s .now) (c .before .before .before .before .before .before .before .before .before .before .before .before .args .p) (c .before .before .before .before .before .before .before .before .before .before .before .before .pre .0 .0) (rw (not-true (k .names-of .result) (c .if1 .taken)) at (k .names-of .ensures)) })
     (λ c κs. (placed (c .before), c .before .before .before .before .before .before .before .before .before .before .before .before .before .pre .1))  -- rows-of-requires
     (λ c. search needs) (λ c. search needs) (λ c. search needs)  -- same-length-3, -4, -5
     (λ c.  -- returns-2
     let k = c .before .before .before in
-    rows-refuse (c .before .before .before .before .before .before .before .before .before .before .before .before .before .before .before .before .before .args .s .now) (c .before .before .before .before .before .before .before .before .before .before .before .before .before .before .before .before .before .args .p) (c .before .before .before .before .before .before .before .before .before .before .before .before .before .before .before .before .before .pre .0 .0) (named (k .before .before)) (rw (not-true (k .rows-of .result) (c .if2 .taken)) at (k .rows-of .ensures)))
+    record { tables = rows-refuse (c .before .before .before .before .before .before .before .before .before .before .before .before .before .before .before .before .before .args .s .now) (c .before .before .before .before .before .before .before .before .before .before .before .before .before .before .before .before .before .args .p) (c .before .before .before .before .before .before .before .before .before .before .before .before .before .before .before .before .before .pre .0 .0) (named (k .before .before)) (rw (not-true (k .rows-of .result) (c .if2 .taken)) at (k .rows-of .ensures)) })
     (λ c κs.  -- settle-requires
     let e = c .before .before in
     let f = e .before .before .before .before .before in
     let n = names-few (f .before .before .before .before .before .before .before .before .before .before .before .before .args .p .names) (f .before .before .before .before .before .before .before .before .before .before .before .before .args .p .rows) (f .before .before .before .before .before .before .before .before .before .before .before .before .args .s .now) (named f) in
     let q = placed f in
-    ((q, omega (arith, n, q)), (omega (arith, n, q), omega arith)))
+    ((q, omega (arith, n, q, f .before .before .before .before .places .given, f .before .before .before .before .before .before .before .before .before .before .before .before .pre .0 .1 .places)), (omega (arith, n, q), omega (arith, e .before .before .tab .given, f .before .before .before .before .before .before .before .before .before .before .before .before .pre .1 .long))))
     (λ c. search needs) (λ c. search needs) (λ c. search needs)  -- same-length-6, -7, -8
     (λ c.  -- returns-3
     let e = c .before .before .before .before .before in
-    known (c .before .before .before .before .before .before .before .before .before .before .before .before .before .before .before .before .before .before .before .before .before .before .pre .0 .0) (named (e .before .before .before .before .before)) (rowed e) (c .before .before .settle .ensures) (omega arith)))
+    record { tables = known (c .before .before .before .before .before .before .before .before .before .before .before .before .before .before .before .before .before .before .before .before .before .before .pre .0 .0) (named (e .before .before .before .before .before)) (rowed e) (c .before .before .settle .ensures) (omega (arith, c .before .tab2 .given, e .before .before .tab .given, c .before .before .before .before .before .before .before .before .before .before .before .before .before .before .before .before .before .before .before .before .before .before .pre .1 .long)) }))
