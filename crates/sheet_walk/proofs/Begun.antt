@@ -41,7 +41,7 @@ unfolding kept
 kept-none true = refl
 kept-none false = refl
 
-module _ {s : List ℕ} {p : Places} {tab m vis found held : List ℕ} (h : Set s p tab) (w : Wide (length (words s)) vis found held) (f : Fresh m vis) where
+module _ {s : List ℕ} {p : Places} {tab m vis found : List ℕ} (h : Set s p tab) (w : Wide (length (words s)) vis found) (f : Fresh m vis) where
   -- the numbers where the walks stand at the head
   stood : Numbers m (set m 0 (p .head)) (p .head) 0 0 0 0 0 0 (heldOf m)
   stood =

@@ -82,16 +82,13 @@ module _ {s : List ℕ} {p : Places} {tab : List ℕ} (h : Set s p tab) where
       rw (world-part (words s) tab (p .trailer) (omega (arith, h .rows, h .places .head, h .places .tail)) id, h .names)
 
   -- what the walks ask of a part up to the word `to`
-  module _ {m vis found held : List ℕ} {from to : ℕ} (w : Wide (length (words s)) vis found held) (above : p .head ≤ to) (below : to ≤ p .trailer) (st : Stands (words s) tab m vis found from to) where
-    pub ready-in : Ready 0 (take to (words s)) tab m vis found
-    ready-in = record { fine = fine-part (words s) tab to (omega (arith, h .rows)) (omega (arith, h .places .trailer, length-words s)) (h .fine); fit = st .fit }
-
-    pub room-in : length (take to (words s)) ≤ length held
-    room-in = omega (arith, w .pairs, length-take to (words s))
+  pub ready-in : {m vis found : List ℕ} {from to : ℕ} → p .head ≤ to → to ≤ p .trailer → Stands (words s) tab m vis found from to → Ready 0 (take to (words s)) tab m vis found
+  ready-in {to = to} above below st =
+      record { fine = fine-part (words s) tab to (omega (arith, h .rows)) (omega (arith, h .places .trailer, length-words s)) (h .fine); fit = st .fit }
 
   -- the end of a section is the beginning of the next
-  pub stands-on : {m vis found held : List ℕ} → Wide (length (words s)) vis found held → Stands (words s) tab m vis found (p .tail) (p .tail) → Stands (words s) tab m vis found (p .tail) (p .trailer)
-  stands-on {m} {vis} {found} {held} w st =
+  pub stands-on : {m vis found : List ℕ} → Wide (length (words s)) vis found → Stands (words s) tab m vis found (p .tail) (p .tail) → Stands (words s) tab m vis found (p .tail) (p .trailer)
+  stands-on {m} {vis} {found} w st =
       let f = st .fit in
       let l : length (take (p .trailer) (words s)) ≡ p .trailer = omega (arith, length-take (p .trailer) (words s), h .places .trailer, length-words s) in
       record {

@@ -18,8 +18,8 @@ use Rattle.steps.specs.Hold.{Holds}
 use Rattle.sheet_walk.specs.Parts.{Set, Wide, Ends, Done, DoneAs, Walks, headIn, armsIn, Begins, WalkedAs, WalksBoth}
 
 -- as wide as before
-pub wide-same : {w : ℕ} (vis found held : List ℕ) {vis' found' held' : List ℕ} → length vis' ≡ length vis → length found' ≡ length found → length held' ≡ length held → Wide w vis found held → Wide w vis' found' held'
-wide-same vis found held a b c x = record { names = rw a (x .names); room = rw b (x .room); pairs = rw c (x .pairs) }
+pub wide-same : {w : ℕ} (vis found : List ℕ) {vis' found' : List ℕ} → length vis' ≡ length vis → length found' ≡ length found → Wide w vis found → Wide w vis' found'
+wide-same vis found a b x = record { names = rw a (x .names); room = rw b (x .room) }
 
 module _ {s : List ℕ} {p : Places} {tab vis found m1 found1 m2 vis2 found2 : List ℕ} (b : Begins s p tab vis found m1 found1) where
   pub head-refused : {r : ℕ} → r ≢ 0 → Walks (words s) tab m1 vis found1 m2 vis2 found2 (p .tail) (headIn (words s) p tab) r → WalksBoth s p tab found m2 vis2 found2 r

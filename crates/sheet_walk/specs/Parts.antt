@@ -102,11 +102,15 @@ pub record ReadsTables (s : List ℕ) (p : Places) (choice : ℕ) (places ids ta
 
 -- ---- the sections
 
--- the lent words have room for w words
-pub record Wide (w : ℕ) (vis found held : List ℕ) : Type 0 where
+-- the lent words have room for w words: what is visible and what is said, and the pairs of a WITH
+pub record Wide (w : ℕ) (vis found : List ℕ) : Type 0 where
   pub names : 4 * (w + 2) ≤ 3 * length vis
   pub room : w * 6 ≤ length found
-  pub pairs : w ≤ length held
+
+pub record Lent (s : List ℕ) (p : Places) (tab vis found held : List ℕ) : Type 0 where
+  pub set : Set s p tab
+  pub wide : Wide (length (words s)) vis found
+  pub pairs : length (words s) ≤ length held
 
 -- nothing was walked yet
 pub record Unseen (vis : List ℕ) : Type 0 where

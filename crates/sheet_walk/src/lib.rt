@@ -14,7 +14,7 @@ ghost use Prim.Native.Nat.{ℕ};
 ghost use lib.ListN.{length};
 ghost use Rattle.words.specs.Words.{words};
 ghost use Rattle.sheet_walk.specs.Runs.{Scratch, Runs};
-ghost use Rattle.sheet_walk.specs.Parts.{Set, Wide, Unseen, RanBoth};
+ghost use Rattle.sheet_walk.specs.Parts.{Lent, Unseen, RanBoth};
 
 // How many events and findings of the name walk, and how many findings of the kind walk; or the refusal's number.
 pub enum Ran {
@@ -24,7 +24,7 @@ pub enum Ran {
 
 // The head and the arms, with the walks' own numbers.
 fn walk_all(s: &[u8], p: Places, tab: &[u32], vis: &mut [u32], found: &mut [u32], held: &mut [u32]) -> Ran
-    requires { ⌜ (Set (now s) p (now tab) × Wide (length (words (now s))) (now vis) (now found) (now held)) × Unseen (now vis) ⌝ }
+    requires { ⌜ Lent (now s) p (now tab) (now vis) (now found) (now held) × Unseen (now vis) ⌝ }
     ensures { λ r. ⌜ RanBoth (now (s .entry)) p (now (tab .entry)) (now (found .entry)) (now (found .exit)) r ⌝ }
 {
     let mut numbers = [0u32; 64];

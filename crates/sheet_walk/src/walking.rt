@@ -9,11 +9,11 @@ ghost use mathlib.Core.Path.{_≡_};
 ghost use Prim.Native.Nat.{ℕ, _+_, _*_, _≤_};
 ghost use lib.ListN.{length};
 ghost use Rattle.words.specs.Words.{words};
-ghost use Rattle.sheet_walk.specs.Parts.{Set, Wide, Fresh, Stands, Begins, Walks, headIn, armsIn, WalksBoth};
+ghost use Rattle.sheet_walk.specs.Parts.{Set, Wide, Lent, Fresh, Stands, Begins, Walks, headIn, armsIn, WalksBoth};
 
 // The walks begin at the head, with the Root where every event is wanted.
-fn begin(s: &[u8], p: Places, tab: &[u32], m: &mut [u32], vis: &[u32], found: &mut [u32], held: &[u32])
-    requires { ⌜ (Set (now s) p (now tab) × Wide (length (words (now s))) (now vis) (now found) (now held)) × Fresh (now m) (now vis) ⌝ }
+fn begin(s: &[u8], p: Places, tab: &[u32], m: &mut [u32], vis: &[u32], found: &mut [u32])
+    requires { ⌜ (Set (now s) p (now tab) × Wide (length (words (now s))) (now vis) (now found)) × Fresh (now m) (now vis) ⌝ }
     ensures { λ r. ⌜ Begins (now (s .entry)) p (now (tab .entry)) (now (vis .entry)) (now (found .entry)) (now (m .exit)) (now (found .exit)) ⌝ }
 {
     let head = p.head;
@@ -23,7 +23,7 @@ fn begin(s: &[u8], p: Places, tab: &[u32], m: &mut [u32], vis: &[u32], found: &m
 
 // The head: 0, or the refusal's number.
 fn walk_head(s: &[u8], p: Places, tab: &[u32], m: &mut [u32], vis: &mut [u32], found: &mut [u32], held: &mut [u32]) -> u32
-    requires { ⌜ (Set (now s) p (now tab) × Wide (length (words (now s))) (now vis) (now found) (now held)) × Stands (words (now s)) (now tab) (now m) (now vis) (now found) (p .head) (p .tail) ⌝ }
+    requires { ⌜ Lent (now s) p (now tab) (now vis) (now found) (now held) × Stands (words (now s)) (now tab) (now m) (now vis) (now found) (p .head) (p .tail) ⌝ }
     ensures { λ r. ⌜ Walks (words (now (s .entry))) (now (tab .entry)) (now (m .entry)) (now (vis .entry)) (now (found .entry)) (now (m .exit)) (now (vis .exit)) (now (found .exit)) (p .tail) (headIn (words (now (s .entry))) p (now (tab .entry))) r ⌝ }
 {
     let tail = p.tail;
@@ -40,7 +40,7 @@ fn walk_head(s: &[u8], p: Places, tab: &[u32], m: &mut [u32], vis: &mut [u32], f
 
 // The arms: 0, or the refusal's number.
 fn walk_tail(s: &[u8], p: Places, tab: &[u32], m: &mut [u32], vis: &mut [u32], found: &mut [u32], held: &mut [u32]) -> u32
-    requires { ⌜ (Set (now s) p (now tab) × Wide (length (words (now s))) (now vis) (now found) (now held)) × Stands (words (now s)) (now tab) (now m) (now vis) (now found) (p .tail) (p .trailer) ⌝ }
+    requires { ⌜ Lent (now s) p (now tab) (now vis) (now found) (now held) × Stands (words (now s)) (now tab) (now m) (now vis) (now found) (p .tail) (p .trailer) ⌝ }
     ensures { λ r. ⌜ Walks (words (now (s .entry))) (now (tab .entry)) (now (m .entry)) (now (vis .entry)) (now (found .entry)) (now (m .exit)) (now (vis .exit)) (now (found .exit)) (p .trailer) (armsIn (words (now (s .entry))) p (now (tab .entry))) r ⌝ }
 {
     let trailer = p.trailer;
@@ -57,10 +57,10 @@ fn walk_tail(s: &[u8], p: Places, tab: &[u32], m: &mut [u32], vis: &mut [u32], f
 
 // The head and the arms; then whether every binder had a row. 0, or the refusal's number.
 pub fn walk_both(s: &[u8], p: Places, tab: &[u32], m: &mut [u32], vis: &mut [u32], found: &mut [u32], held: &mut [u32]) -> u32
-    requires { ⌜ (Set (now s) p (now tab) × Wide (length (words (now s))) (now vis) (now found) (now held)) × Fresh (now m) (now vis) ⌝ }
+    requires { ⌜ Lent (now s) p (now tab) (now vis) (now found) (now held) × Fresh (now m) (now vis) ⌝ }
     ensures { λ r. ⌜ WalksBoth (now (s .entry)) p (now (tab .entry)) (now (found .entry)) (now (m .exit)) (now (vis .exit)) (now (found .exit)) r ⌝ }
 {
-    begin(s, p, tab, m, vis, found, held);
+    begin(s, p, tab, m, vis, found);
     let r = walk_head(s, p, tab, m, vis, found, held);
     if r != 0 {
         return r;

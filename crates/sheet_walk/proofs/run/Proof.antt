@@ -35,7 +35,7 @@ run-spec =
     record { placed = omega arith; used = omega arith; wrote = refl; ran = tables-no (c .if1 .taken) (c .before .before .before .before .before .before .before .read-tables .ensures) })
     (λ c κs.  -- walk-all-requires
     let q = c .before .before .before .before .before .before .before .before .before .before .before .before .before .before .before .before .before .before .before .before .before .before .before .before .before .before .pre in
-    ((tabled (c .before .before .before .before) .set, record { names = q .names; room = q .room; pairs = q .pairs }), record { unseen = q .unseen }))
+    (record { set = tabled (c .before .before .before .before) .set; wide = record { names = q .names; room = q .room }; pairs = q .pairs }, record { unseen = q .unseen }))
     (λ c. search needs) (λ c. search needs) (λ c. search needs) (λ c. search needs) (λ c. search needs) (λ c. search needs)  -- same-length-4
     (λ c.  -- returns-3
     let k = c .before .before .before .before .before .before in

@@ -2,9 +2,11 @@
 use native.Mathlib.Omega.{arith}
 use mathlib.Core.Path.{refl}
 use borrow.Author.Needs.{needs}
+use lib.ListN.{length-take}
+use Rattle.words.specs.Words.{words}
 use Rattle.heads.proofs.Chain.{fact}
 use Rattle.sheet.proofs.Cutting.{words-take}
-use Rattle.sheet_walk.proofs.Ended.{walks-no, walks-left, walks-end, arms-are, trailer-long, ready-in, room-in}
+use Rattle.sheet_walk.proofs.Ended.{walks-no, walks-left, walks-end, arms-are, trailer-long, ready-in}
 use Rattle.sheet_walk.proofs.walking.walk_tail.Statement.{statement}
 use Rattle.sheet_walk.proofs.walking.walk_tail.Tie as tie
 
@@ -25,24 +27,22 @@ walk-tail-spec =
     (λ c κs.  -- walk-arms-requires
     let a = c .before .before .before .before .before .before .before .before .before .before .before .args in
     let q = c .before .before .before .before .before .before .before .before .before .before .before .pre in
-    let set = q .0 .0 in
-    let wide = q .0 .1 in
     rw (words-take (a .p .trailer) (a .s .now))
-    (record { room = room-in set wide (omega arith) (omega arith) (q .1); resolves = refl }, ready-in set wide (omega arith) (omega arith) (q .1)))
+    (record { room = omega (arith, q .0 .pairs, length-take (a .p .trailer) (words (a .s .now))); resolves = refl }, ready-in (q .0 .set) (omega (arith, q .0 .set .places)) (omega (arith, q .0 .set .places)) (q .1)))
     (λ c. search needs) (λ c. search needs) (λ c. search needs) (λ c. search needs)  -- same-length
     (λ c.  -- returns
     let k = c .before .before .before .before .before .before .before .before .before in
     let q = asked k in
-    walks-no (trailer-long (q .0 .0)) (q .1) (arms-are (q .0 .0)) (c .if1 .taken) (walked k))
+    walks-no (trailer-long (q .0 .set)) (q .1) (arms-are (q .0 .set)) (c .if1 .taken) (walked k))
     (λ c. search needs)  -- slice-read-if2
     (λ c. omega (arith, c .slice-known9 .given 0))  -- cast-if2
     (λ c. search needs) (λ c. search needs) (λ c. search needs) (λ c. search needs)  -- same-length-5
     (λ c.  -- returns-2
     let k = c .before .before .before .before .before .before .before .before .before .before .before in
     let q = asked k in
-    walks-left (trailer-long (q .0 .0)) (q .1) (arms-are (q .0 .0)) (rw (c .before .before .if1 .left) at (walked k)) (c .if2 .taken))
+    walks-left (trailer-long (q .0 .set)) (q .1) (arms-are (q .0 .set)) (rw (c .before .before .if1 .left) at (walked k)) (c .if2 .taken))
     (λ c. search needs) (λ c. search needs) (λ c. search needs) (λ c. search needs)  -- same-length-9
     (λ c.  -- returns-3
     let k = c .before .before .before .before .before .before .before .before .before .before .before in
     let q = asked k in
-    walks-end (trailer-long (q .0 .0)) (q .1) (arms-are (q .0 .0)) (rw (c .before .before .if1 .left) at (walked k)) (c .if2 .left)))
+    walks-end (trailer-long (q .0 .set)) (q .1) (arms-are (q .0 .set)) (rw (c .before .before .if1 .left) at (walked k)) (c .if2 .left)))
