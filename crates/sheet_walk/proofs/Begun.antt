@@ -1,7 +1,7 @@
 -- Where both walks begin: zeros hold the empty state, and the Root is said where it is wanted (`begins`).
-use Prim.Native.Nat.{ℕ, zero, suc, _+_, _*_, _<_, _≤_}
+use Prim.Native.Nat.{ℕ, zero, suc}
 use native.Mathlib.Omega.{arith}
-use mathlib.Core.Path.{_≡_, refl, ap, sym, _∙_}
+use mathlib.Core.Path.{_≡_, refl, sym, _∙_}
 use mathlib.Core.Bool.{Bool, true, false}
 use mathlib.Core.List.{List, [], _∷_}
 use lib.ListN.{length, take, getD, set, length-take}
@@ -9,13 +9,12 @@ use Rattle.words.specs.Words.{words}
 use Rattle.words.proofs.Words.{length-words}
 use Rattle.sheet.specs.declared.trailer.Places.{Places}
 use Rattle.fused.specs.Fused.{Both}
-use Rattle.fused.specs.Sheet.{begun}
-use Rattle.visible.specs.Visible.{seens, Descends, Tabled}
+use Rattle.visible.specs.Visible.{Descends}
 use Rattle.visible.proofs.Names.{empty, seens-none}
-use Rattle.steps.specs.Memory.{atOf, topOf, curOf, lastOf, saidOf, toldOf, lostOf, heldOf, slotsIn, wantsIn, events, findings, kept}
+use Rattle.steps.specs.Memory.{topOf, curOf, lastOf, saidOf, toldOf, lostOf, heldOf, slotsIn, wantsIn, events, findings, kept}
 use Rattle.steps.specs.Hold.{Fits, Holds, Roomy, SaysIf}
 use Rattle.steps.proofs.Held.{Numbers, unset, store, says-if}
-use Rattle.sheet_walk.specs.Parts.{Set, Wide, Unseen, Fresh, Stands, Begins}
+use Rattle.sheet_walk.specs.Parts.{Set, Wide, Unseen, Fresh, Begins}
 
 -- no names, no events, no findings
 abbrev nothing : Both

@@ -1,25 +1,22 @@
 -- A section that is walked: what the walk over a part of the words says of the section (`walks-no`, `walks-left`, `walks-end`), what is
 -- walked in the part being the definition's head and arms (`head-is`, `arms-are`); and from one section to the next (`stands-on`).
-use Prim.Native.Nat.{ℕ, zero, suc, _+_, _*_, _<_, _≤_}
+use Prim.Native.Nat.{ℕ, zero, suc, _<_, _≤_}
 use native.Mathlib.Omega.{arith}
 use mathlib.Core.Path.{_≡_, refl, ap, sym, _∙_}
 use mathlib.Core.Logic.{_≢_}
-use mathlib.Core.List.{List, [], _∷_}
-use lib.ListN.{length, take, drop, getD, length-take}
+use mathlib.Core.List.{List}
+use lib.ListN.{length, take, drop, length-take}
 use Rattle.words.specs.Words.{words}
 use Rattle.words.proofs.Words.{length-words, drop-word, drop-none}
-use Rattle.heads.specs.Got.{Got, ok, no}
-use Rattle.sheet.specs.Read.{Sheet, accepted, refused, usedUp, anyBinder}
+use Rattle.sheet.specs.Read.{usedUp}
 use Rattle.sheet.specs.declared.trailer.Places.{Places}
-use Rattle.semantics.specs.World.{World}
-use Rattle.fused.specs.Fused.{Both, rounds}
-use Rattle.fused.specs.Clauses.{clauseGo, armGo}
-use Rattle.fused.specs.Sheet.{everyWalk, headGo, armsGo}
-use Rattle.steps.specs.Memory.{atOf, rowsIn, bindingsIn, worldAt}
-use Rattle.steps.specs.Hold.{Fit, Holds, Ready}
+use Rattle.fused.specs.Fused.{Both}
+use Rattle.fused.specs.Sheet.{headGo, armsGo}
+use Rattle.steps.specs.Memory.{atOf}
+use Rattle.steps.specs.Hold.{Fit, Ready}
 use Rattle.walk.specs.Goes.{Goer}
-use Rattle.clause_walk.specs.Passes.{Passes, PassesAs, Held, clausesAt, armsAt}
-use Rattle.sheet_walk.specs.Parts.{Set, Wide, Stands, Ends, Walker, Done, DoneAs, Walks, headIn, armsIn}
+use Rattle.clause_walk.specs.Passes.{Passes, PassesAs, clausesAt, armsAt}
+use Rattle.sheet_walk.specs.Parts.{Set, Wide, Stands, Walker, DoneAs, Walks, headIn, armsIn}
 use Rattle.sheet_walk.proofs.Part.{fine-part, world-part}
 
 module _ {ws tab m vis found held m' vis' found' held' : List ℕ} {from to : ℕ} {G : Goer} {W : Walker} (long : to ≤ length ws) (st : Stands ws tab m vis found from to)

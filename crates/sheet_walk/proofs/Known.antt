@@ -5,7 +5,7 @@ use native.Mathlib.Omega.{arith}
 use mathlib.Core.Path.{_≡_, refl, ap, sym, _∙_}
 use mathlib.Core.Logic.{_≢_}
 use mathlib.Core.Bool.{Bool, true, false, cond, _&&_, and-true, and-false}
-use mathlib.Core.List.{List, [], _∷_, map}
+use mathlib.Core.List.{List, [], _∷_}
 use lib.Dec.{eqb}
 use lib.ListN.{length, take, drop, getD, length-take, length-drop}
 use borrow.Author.Tests.{eqb-true, eqb-false}
@@ -15,24 +15,23 @@ use Rattle.words.proofs.Words.{length-words}
 use Rattle.heads.specs.Got.{ok, many}
 use Rattle.heads.specs.Answer.{rowIds, isIn}
 use Rattle.tables.specs.Distinct.{sameBytes, nameIn, distinct}
-use Rattle.tables.specs.Row.{Row, rowId, readRow}
+use Rattle.tables.specs.Row.{readRow}
 use Rattle.tables.proofs.Fresh.{same-comm}
 use Rattle.tables.proofs.Index.{index-is}
 use Rattle.sheet.specs.Trailer.{section}
-use Rattle.sheet.specs.Read.{Sheet, accepted, refused, locate, readRows, readSections, readSheet}
+use Rattle.sheet.specs.Read.{accepted, refused, locate, readRows, readSections, readSheet}
 use Rattle.sheet.specs.Answer.{InPlaces, Tabled}
 use Rattle.sheet.specs.declared.trailer.Places.{Places}
 use Rattle.sheet.proofs.Placing.{in-places}
 use Rattle.sheet.proofs.Cutting.{ids-take}
 use Rattle.sheet.proofs.Reading.{rows-read}
 use Rattle.sheet.proofs.Accepted.{names-hold, rows-hold}
-use Rattle.semantics.specs.World.{World, rowOf, starName, idName, bytesOf, worldOf}
-use Rattle.fused.proofs.ApartStatement.{HasTables, worldBy, world-same}
-use Rattle.rows.specs.Rows.{idAt, seek, rowTold, Hung}
+use Rattle.semantics.specs.World.{starName, idName, bytesOf, worldOf}
+use Rattle.fused.proofs.ApartStatement.{worldBy, world-same}
 use Rattle.rows.proofs.Found.{row-found}
-use Rattle.steps.specs.Memory.{worldAt, slotsIn, rowsIn, bindingsIn, multIn, shiftIn, chainsIn}
+use Rattle.steps.specs.Memory.{worldAt}
 use Rattle.steps.specs.Hold.{Fine}
-use Rattle.sheet_walk.specs.Runs.{warnsBy, wantsBy}
+use Rattle.sheet_walk.specs.Runs.{warnsBy}
 use Rattle.sheet_walk.specs.Parts.{Rowed, namesBy, Settles, Set, Tables, TablesAs, ReadsTables}
 use Rattle.sheet_walk.proofs.Rows.{row-words}
 

@@ -7,9 +7,8 @@ use mathlib.Core.List.{List}
 use mathlib.Core.Option.{some}
 use lib.ListN.{length, take, getD, length-take}
 use lib.Seq.{getD-take}
-use Rattle.semantics.specs.World.{World}
 use Rattle.fused.proofs.ApartStatement.{world-same}
-use Rattle.rows.specs.Rows.{idAt, seek, rowTold, keyed, Chained, Hung}
+use Rattle.rows.specs.Rows.{idAt, seek, rowTold, keyed, Chained}
 use Rattle.rows.proofs.Chains.{seek-le}
 use Rattle.steps.specs.Memory.{rowsIn, bindingsIn, worldAt}
 use Rattle.steps.specs.Hold.{Fine}

@@ -4,19 +4,19 @@ use Prim.Native.Nat.{ℕ, zero, suc, _+_, _*_, _<_, _≤_}
 use native.Mathlib.Omega.{arith}
 use mathlib.Core.Path.{_≡_, refl, ap, sym, _∙_}
 use mathlib.Core.Bool.{Bool, true, false, cond}
-use mathlib.Core.List.{List, [], _∷_, _++_, map, flatMap}
+use mathlib.Core.List.{List, [], _∷_, _++_, flatMap}
 use lib.ListN.{length, take, drop, getD, length-take, length-drop}
 use lib.Seq.{getD-drop, getD-take}
 use Rattle.words.specs.Words.{words}
 use Rattle.words.proofs.Words.{length-words}
-use Rattle.heads.specs.Got.{Got, ok, no, bare, many}
-use Rattle.heads.specs.Answer.{Reads, rowIds, isIn}
+use Rattle.heads.specs.Got.{ok, bare, many}
+use Rattle.heads.specs.Answer.{Reads, isIn}
 use Rattle.heads.specs.declared.Read.the-variants as read
 use Rattle.expr.proofs.Inverse.{never}
 use Rattle.clauses.specs.Well.{Each}
 use Rattle.clauses.proofs.WrittenClause.{many-gives}
 use Rattle.tables.specs.Distinct.{distinct}
-use Rattle.tables.specs.Row.{Row, row, rowId, rowWords, readRow}
+use Rattle.tables.specs.Row.{Row, row, rowWords, readRow}
 use Rattle.sheet.specs.Trailer.{section}
 use Rattle.sheet.specs.Read.{Sheet, accepted, refused, readRows}
 use Rattle.sheet.specs.Write.{WellRow}
@@ -27,7 +27,7 @@ use Rattle.sheet.proofs.Cutting.{ids-take}
 use Rattle.sheet.proofs.Reading.{row-gives, rows-read, rows-refused, rows-left, rows-long, rows-done}
 use Rattle.rows.specs.Rows.{idAt, Hung}
 use Rattle.steps.specs.Memory.{multIn, shiftIn, chainsIn}
-use Rattle.sheet_walk.specs.Parts.{Rowed, RowedIf, HungUp}
+use Rattle.sheet_walk.specs.Parts.{RowedIf, HungUp}
 
 -- a verdict that refuses
 verdict-no : {A : Type 0} (x : Sheet A) {c : ℕ} → Refused c ≡ verdict x → x ≡ refused c
@@ -35,10 +35,6 @@ verdict-no (accepted a) e = never (cc)
 verdict-no (refused d) e = cc
 
 module _ {s : List ℕ} {p : Places} (h : InPlaces s p) where
-  -- the words of the section's part
-  abbrev part : List ℕ
-  part = take (p .head) (words s)
-
   part-long : length (take (p .head) (words s)) ≡ p .head
   part-long = omega (arith, length-take (p .head) (words s), h .head, h .tail, h .trailer, length-words s)
 

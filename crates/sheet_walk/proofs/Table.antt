@@ -1,7 +1,7 @@
 -- What tab holds after stores: the chains behind two numbers (`hang-empty`, `hung-up`), and the other eight (`settles`).
 use Prim.Native.Nat.{ℕ, _+_, _-_, _*_, _/_, _%_, _<_, _≤_}
 use native.Mathlib.Omega.{arith}
-use mathlib.Core.Path.{_≡_, refl, ap, sym, _∙_}
+use mathlib.Core.Path.{_≡_, refl, ap, _∙_}
 use mathlib.Core.Bool.{Bool, true, false, cond}
 use mathlib.Core.List.{List, [], _∷_, _++_, append-nil}
 use lib.Dec.{eqb}
@@ -14,7 +14,6 @@ use Rattle.tables.specs.Index.{indexOf}
 use Rattle.sheet.specs.declared.trailer.Places.{Places}
 use Rattle.rows.specs.Slot.{slots}
 use Rattle.rows.specs.Rows.{Empty, Indexed}
-use Rattle.steps.specs.Memory.{multIn, shiftIn, chainsIn}
 use Rattle.sheet_walk.specs.Parts.{Shift, Clear, HungUp, namesBy, Settles}
 
 -- ---- the chains

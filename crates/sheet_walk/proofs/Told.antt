@@ -1,26 +1,23 @@
 -- What a run tells: of the walks, as numbers of events and findings (`ran-is`, `ran-no`); and of the sheet, where its tables are right
 -- (`runs`): the statement's names, and its events and findings, for the walk in one is the definition's reading and its two walks.
-use Prim.Native.Nat.{ℕ, zero, suc, _+_, _*_, _/_, _≤_}
+use Prim.Native.Nat.{ℕ, zero, suc, _*_, _≤_}
 use native.Mathlib.Omega.{arith}
 use mathlib.Core.Path.{_≡_, refl, ap, sym, _∙_, fun-ext}
 use mathlib.Core.Logic.{_≢_}
-use mathlib.Core.Bool.{Bool}
 use mathlib.Core.List.{List, [], reverse, reverse-reverse}
-use lib.ListN.{length, take, getD}
+use lib.ListN.{length, getD}
 use Rattle.words.specs.Words.{words}
 use Rattle.words.specs.Fnv.{useId}
 use Rattle.words.proofs.Words.{length-words}
-use Rattle.sheet.specs.Trailer.{placesOf}
-use Rattle.sheet.specs.Read.{Sheet, accepted, refused, locate, readSheet}
+use Rattle.sheet.specs.Read.{accepted, refused, locate, readSheet}
 use Rattle.sheet.specs.declared.trailer.Places.{Places}
 use Rattle.sheet.proofs.Placing.{places-of}
 use Rattle.sheet.proofs.Whole.{names-kept}
-use Rattle.semantics.specs.Log.{Event}
 use Rattle.semantics.specs.World.{bytesOf}
 use Rattle.fused.specs.Sheet.{sheetGo}
 use Rattle.fused.proofs.ApartStatement.{when-accepted, when-refused}
-use Rattle.steps.specs.Memory.{saidOf, toldOf, worldAt, wantsIn, events, kept}
-use Rattle.sheet_walk.specs.Runs.{warnsBy, wantsBy, idOf, RanTo, RanAs}
+use Rattle.steps.specs.Memory.{saidOf, toldOf, worldAt, events}
+use Rattle.sheet_walk.specs.Runs.{warnsBy, idOf, RanTo, RanAs}
 use Rattle.sheet_walk.specs.Parts.{namesBy, Tables, WalkedAs, WalksBoth, RanBoth, RanBothAs, SaidAll}
 use Rattle.sheet_walk.specs.declared.Ran.{Ran}
 use Rattle.sheet_walk.specs.declared.Ran.the-variants as ran

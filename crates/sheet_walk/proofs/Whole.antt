@@ -1,21 +1,18 @@
 -- Head and arms one after the other are the whole walk over a sheet: the cause of the first that is refused (`head-refused`,
 -- `arms-refused`), then cause 7 (`rows-lacking`), and else both walks are done (`both-done`).
-use Prim.Native.Nat.{ℕ, zero, suc, _+_, _*_, _≤_}
+use Prim.Native.Nat.{ℕ, zero, suc, _+_, _*_}
 use native.Mathlib.Omega.{arith}
-use mathlib.Core.Path.{_≡_, refl, ap, sym, _∙_}
+use mathlib.Core.Path.{_≡_, refl, _∙_}
 use mathlib.Core.Logic.{_≢_}
-use mathlib.Core.List.{List, []}
+use mathlib.Core.List.{List}
 use lib.ListN.{length}
 use borrow.Author.Tests.{eq-eqb, ne-eqb}
 use Rattle.words.specs.Words.{words}
 use Rattle.words.proofs.Words.{length-words}
-use Rattle.sheet.specs.Read.{Sheet, accepted, refused, then', unless}
 use Rattle.sheet.specs.declared.trailer.Places.{Places}
-use Rattle.fused.specs.Fused.{Both}
-use Rattle.fused.specs.Sheet.{begun, headGo, armsGo, sheetGo}
-use Rattle.steps.specs.Memory.{lostOf, saidOf, toldOf, worldAt}
-use Rattle.steps.specs.Hold.{Holds}
-use Rattle.sheet_walk.specs.Parts.{Set, Wide, Ends, Done, DoneAs, Walks, headIn, armsIn, Begins, WalkedAs, WalksBoth}
+use Rattle.fused.specs.Sheet.{begun, sheetGo}
+use Rattle.steps.specs.Memory.{lostOf}
+use Rattle.sheet_walk.specs.Parts.{Wide, DoneAs, Walks, headIn, armsIn, Begins, WalkedAs, WalksBoth}
 
 -- as wide as before
 pub wide-same : {w : ℕ} (vis found : List ℕ) {vis' found' : List ℕ} → length vis' ≡ length vis → length found' ≡ length found → Wide w vis found → Wide w vis' found'
@@ -38,13 +35,6 @@ module _ {s : List ℕ} {p : Places} {tab vis found m1 found1 m2 vis2 found2 : L
         go (suc c) ne d = λ id. let e = x .done .goes id (begun p) (b .holds id) in unfold sheetGo in rw (e .same, d id (e .state) (e .holds))
 
     module _ (y : Walks (words s) tab m2 vis2 found2 m3 vis3 found3 (p .trailer) (armsIn (words s) p tab) 0) where
-      -- where both walks end
-      last : (id : ℕ → ℕ) → Ends id tab m3 vis3 found3 (then' (headIn (words s) p tab id (begun p)) (λ u. armsIn (words s) p tab id u))
-      last id =
-          let e = x .done .goes id (begun p) (b .holds id) in
-          let f = y .done .goes id (e .state) (e .holds) in
-          record { state = f .state; holds = f .holds; same = rw (e .same) (f .same) }
-
       pub rows-lacking : lostOf m3 ≢ 0 → WalksBoth s p tab found m3 vis3 found3 7
       rows-lacking ne =
           record {

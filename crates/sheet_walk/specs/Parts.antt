@@ -16,7 +16,6 @@ use Rattle.sheet.specs.Trailer.{section}
 use Rattle.sheet.specs.Read.{Sheet, accepted, refused, readRows, readSheet}
 use Rattle.sheet.specs.Answer.{InPlaces, Tabled}
 use Rattle.sheet.specs.declared.trailer.Places.{Places}
-use Rattle.semantics.specs.World.{World}
 use Rattle.fused.specs.Fused.{Both}
 use Rattle.fused.specs.Sheet.{begun, headGo, armsGo, sheetGo}
 use Rattle.fused.proofs.ApartStatement.{HasTables, worldBy}
@@ -24,7 +23,7 @@ use Rattle.rows.specs.Slot.{slots}
 use Rattle.rows.specs.Rows.{idAt, Hung}
 use Rattle.steps.specs.Memory.{atOf, saidOf, toldOf, slotsIn, starIn, identIn, warnsIn, rowsIn, bindingsIn, multIn, shiftIn, wantsIn, chainsIn, worldAt, events, findings, kept}
 use Rattle.steps.specs.Memory as memory
-use Rattle.steps.specs.Hold.{Fine, Fits, Fit, Holds}
+use Rattle.steps.specs.Hold.{Fine, Fit, Holds}
 use Rattle.sheet_walk.specs.Runs.{warnsBy, wantsBy}
 use Rattle.sheet_walk.specs.declared.Ran.{Ran}
 use Rattle.sheet_walk.specs.declared.Ran.the-variants as ran

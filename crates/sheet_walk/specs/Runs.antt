@@ -1,8 +1,8 @@
 -- What reading and walking a whole sheet in one leaves: the refusal, or the events and findings of the definition's two walks, in words.
 use Prim.Native.Nat.{ℕ, _+_, _*_, _/_, _%_, _≤_}
 use mathlib.Core.Path.{_≡_}
-use mathlib.Core.Bool.{Bool, true}
-use mathlib.Core.List.{List, [], map, reverse}
+use mathlib.Core.Bool.{Bool}
+use mathlib.Core.List.{List, map, reverse}
 use lib.Dec.{eqb}
 use lib.ListN.{length, getD, take}
 use Rattle.words.specs.Words.{words}

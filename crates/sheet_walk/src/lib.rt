@@ -9,8 +9,6 @@ use sheet::find_places;
 use steps::SAID;
 use steps::TOLD;
 use reading::read_tables;
-ghost use mathlib.Core.Path.{_≡_};
-ghost use Prim.Native.Nat.{ℕ};
 ghost use lib.ListN.{length};
 ghost use Rattle.words.specs.Words.{words};
 ghost use Rattle.sheet_walk.specs.Runs.{Scratch, Runs};

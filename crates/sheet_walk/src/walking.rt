@@ -5,8 +5,6 @@ use sheet::Places;
 use steps::AT;
 use steps::LOST;
 use steps::say_wanted;
-ghost use mathlib.Core.Path.{_≡_};
-ghost use Prim.Native.Nat.{ℕ, _+_, _*_, _≤_};
 ghost use lib.ListN.{length};
 ghost use Rattle.words.specs.Words.{words};
 ghost use Rattle.sheet_walk.specs.Parts.{Set, Wide, Lent, Fresh, Stands, Begins, Walks, headIn, armsIn, WalksBoth};

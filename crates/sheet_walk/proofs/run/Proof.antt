@@ -1,11 +1,8 @@
 -- Places, tables, head and arms, in the definition's order: the first that is refused refuses the sheet; else what was said is the
 -- statement's (`runs`).
-use Prim.Native.Nat.{_+_, _*_, _≤_}
 use native.Mathlib.Omega.{arith}
-use mathlib.Core.Path.{_≡_, refl, sym, _∙_}
+use mathlib.Core.Path.{refl}
 use borrow.Author.Needs.{needs}
-use lib.ListN.{length}
-use Rattle.words.specs.Words.{words}
 use Rattle.words.proofs.Words.{length-words}
 use Rattle.heads.proofs.Chain.{fact}
 use Rattle.sheet.proofs.Placing.{opened-at, opened-no}

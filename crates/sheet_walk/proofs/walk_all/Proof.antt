@@ -1,7 +1,5 @@
 -- The walks' own numbers are zeros at first; what is left in them says how much was found.
-use native.Mathlib.Omega.{arith}
 use borrow.Author.Needs.{needs}
-use Rattle.heads.proofs.Chain.{fact}
 use Rattle.sheet_walk.proofs.Begun.{zeros, fresh}
 use Rattle.sheet_walk.proofs.Told.{ran-no, ran-is}
 use Rattle.sheet_walk.proofs.walk_all.Statement.{statement}

@@ -1,10 +1,7 @@
 -- The names decide first, then the bindings; where both are right, what the walks go by is known (`known`).
-use Prim.Native.Nat.{_≤_, _*_}
 use native.Mathlib.Omega.{arith}
 use borrow.Author.Needs.{needs}
 use borrow.Author.Tests.{not-true, not-false}
-use lib.ListN.{length, length-take}
-use Rattle.words.proofs.Words.{length-words}
 use Rattle.heads.proofs.Chain.{fact}
 use Rattle.sheet.proofs.Placing.{in-places}
 use Rattle.sheet_walk.proofs.Known.{names-no, rows-refuse, names-few, known}

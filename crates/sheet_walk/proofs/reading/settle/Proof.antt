@@ -1,9 +1,9 @@
 -- Each number is stored in its place, and no other place changes (`settles`); the names stand in the bytes before the bindings.
-use Prim.Native.Nat.{_*_, _-_, _+_, _≤_, _<_}
+use Prim.Native.Nat.{_*_, _-_}
 use native.Mathlib.Omega.{arith}
 use mathlib.Core.Path.{_≡_, refl}
 use borrow.Author.Needs.{needs}
-use lib.ListN.{length, length-set}
+use lib.ListN.{length-set}
 use Rattle.sheet_walk.proofs.Table.{settles}
 use Rattle.sheet_walk.proofs.reading.settle.Statement.{statement}
 use Rattle.sheet_walk.proofs.reading.settle.Tie as tie
