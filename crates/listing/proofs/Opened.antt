@@ -2,7 +2,7 @@
 -- is written of them and of the names that a table has is the listing.
 use Prim.Native.Nat.{ℕ, _+_, _-_, _*_, _≤_}
 use native.Mathlib.Omega.{arith}
-use mathlib.Core.Path.{_≡_, ap, sym, _∙_}
+use mathlib.Core.Path.{_≡_, ap, subst}
 use mathlib.Core.Bool.{Bool, true, false}
 use mathlib.Core.List.{List}
 use lib.ListN.{length, take, length-take}
@@ -17,7 +17,9 @@ use Rattle.semantics.specs.World.{worldOf}
 use Rattle.semantics.specs.Resolve.{run, log}
 use Rattle.semantics.specs.Kinds.{kinds}
 use Rattle.semantics.specs.Lists.{findings}
-use Rattle.sheet_walk.specs.Runs.{idOf, RanTo}
+use Rattle.sheet_walk.specs.Runs.{idOf, RanTo, Runs}
+use Rattle.sheet_walk.specs.declared.Ran.{Ran}
+use Rattle.sheet_walk.specs.declared.Ran.the-variants as ran
 use Rattle.texts.specs.Page.{Writes}
 use Rattle.texts.specs.declared.Written.{Written}
 use Rattle.texts.specs.declared.Written.the-variants as written
@@ -35,6 +37,14 @@ refused-listing warns s page {c} e = rw e (gives-refusal c page)
 pub unplaced : (s : List ℕ) {c : ℕ} → locate s ≡ refused c → readSheet s ≡ refused c
 unfolding readSheet
 unplaced s e = rw e
+
+-- what a run answers
+pub ran-to : (warns : Bool) {choice : ℕ} {s places ids found places' ids' found' : List ℕ} {r : Ran} {said told : ℕ} → choice ≡ choiceOf warns → r ≡ ran.Is said told → Runs choice s places ids found places' ids' found' r → RanTo (choiceOf warns) s places' ids' found' said told
+ran-to warns {s = s} {places' = places'} {ids'} {found'} {said = said} {told = told} c e x =
+    subst (λ (n : ℕ). RanTo n s places' ids' found' said told) c (rw e at (x .ran))
+
+pub ran-no : {choice : ℕ} {s places ids found places' ids' found' : List ℕ} {r : Ran} {c : ℕ} → r ≡ ran.Refused c → Runs choice s places ids found places' ids' found' r → readSheet s ≡ refused c
+ran-no e x = rw e at (x .ran)
 
 -- what a run for findings alone leaves
 pub from-run : (warns : Bool) {s places ids found : List ℕ} {said told : ℕ} → RanTo (choiceOf warns) s places ids found said told → Found warns s places found said told
