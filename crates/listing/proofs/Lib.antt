@@ -1,2 +1,3 @@
-pub mod Back
+pub mod Laid
 pub mod Opened
+pub mod Scratch

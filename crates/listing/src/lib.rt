@@ -1,9 +1,10 @@
 // The listing of a sheet: its findings as text, a line each, at the front of lent bytes; or a refusal (1 to 7, 10), which alters none of
-// them. Scratch is for findings only, and sized to the sheet.
-use checker::findings_of;
+// them. The sheet is read and walked once, with scratch that is sized to it.
 use lines::write_listing;
 use sheet::Opened;
-use sheet::open_in;
+use sheet::find_places;
+use sheet_walk::Ran;
+use sheet_walk::run;
 use texts::Written;
 ghost use mathlib.Core.Path.{_≡_};
 ghost use mathlib.Core.Bool.{not};
@@ -11,32 +12,43 @@ ghost use Prim.Native.Nat.{_<_, _≤_};
 ghost use lib.Dec.{eqb};
 ghost use lib.ListN.{length};
 ghost use Rattle.words.specs.Words.{words};
-ghost use Rattle.checker.specs.Accepted.{Wide};
+ghost use Rattle.sheet_walk.specs.Runs.{Scratch};
 ghost use Rattle.texts.specs.Page.{writtenAs, pageAs, Writes, number};
 ghost use Rattle.listing.specs.Listing.{listing};
+ghost use Rattle.listing.specs.Found.{Found, choiceOf};
 
-// With scratch for a sheet's words.
-fn list(
-    s: &[u8],
-    warns: bool,
-    tab: &mut [u32],
-    ids: &mut [u32],
-    vis: &mut [u32],
-    log: &mut [u32],
-    found: &mut [u32],
-    page: &mut [u8],
-) -> Written
-    requires { ⌜ (Wide 1 (now s) (now tab) × Wide 1 (now s) (now ids)) × (Wide 2 (now s) (now vis) × (Wide 6 (now s) (now log) × Wide 6 (now s) (now found))) ⌝ }
+// The lines of what was found in a sheet, or 10.
+fn write(s: &[u8], warns: bool, places: &[u32], found: &[u32], said: u32, told: u32, page: &mut [u8]) -> Written
+    requires { ⌜ Found warns (now s) (now places) (now found) said told ⌝ }
     ensures { λ r. ⌜ Writes (listing warns (now (s .entry))) (now (page .entry)) (now (page .exit)) r × (number r < 4294967296) ⌝ }
 {
-    match open_in(s, tab, ids) {
+    match find_places(s) {
         Opened::Refused(c) => Written::Refused(c),
         Opened::At(p) => {
-            let n = findings_of(s, p, warns, tab, ids, vis, log, found);
             let rows = p.rows;
             let e = rows * 4;
-            write_listing(&s[0..e], tab, p.names as usize, found, n, page)
+            let front = said as usize;
+            let n = front + told as usize;
+            write_listing(&s[0..e], places, p.names as usize, found, front, n, page)
         }
+    }
+}
+
+// The warning choice as a number.
+fn choice(warns: bool) -> u32
+    ensures { λ r. ⌜ r ≡ choiceOf warns ⌝ }
+{
+    if warns { 1 } else { 0 }
+}
+
+// With scratch for a sheet's words.
+fn list(s: &[u8], warns: bool, places: &mut [u32], ids: &mut [u32], tab: &mut [u32], vis: &mut [u32], found: &mut [u32], held: &mut [u32], page: &mut [u8]) -> Written
+    requires { ⌜ Scratch (length (words (now s))) (now places) (now ids) (now tab) (now vis) (now found) (now held) ⌝ }
+    ensures { λ r. ⌜ Writes (listing warns (now (s .entry))) (now (page .entry)) (now (page .exit)) r × (number r < 4294967296) ⌝ }
+{
+    match run(s, choice(warns), places, ids, tab, vis, found, held) {
+        Ran::Refused(c) => Written::Refused(c),
+        Ran::Is(said, told) => write(s, warns, places, found, said, told, page),
     }
 }
 
@@ -44,147 +56,91 @@ fn list_32(s: &[u8], warns: bool, page: &mut [u8]) -> Written
     requires { ⌜ length (words (now s)) ≤ 32 ⌝ }
     ensures { λ r. ⌜ Writes (listing warns (now (s .entry))) (now (page .entry)) (now (page .exit)) r × (number r < 4294967296) ⌝ }
 {
-    let mut tab = [0u32; 32];
+    let mut places = [0u32; 32];
     let mut ids = [0u32; 32];
-    let mut vis = [0u32; 64];
-    let mut log = [0u32; 192];
+    let mut tab = [0u32; 48];
+    let mut vis = [0u32; 46];
     let mut found = [0u32; 192];
-    list(
-        s,
-        warns,
-        &mut tab,
-        &mut ids,
-        &mut vis,
-        &mut log,
-        &mut found,
-        page,
-    )
+    let mut held = [0u32; 32];
+    list(s, warns, &mut places, &mut ids, &mut tab, &mut vis, &mut found, &mut held, page)
 }
 
 fn list_64(s: &[u8], warns: bool, page: &mut [u8]) -> Written
     requires { ⌜ length (words (now s)) ≤ 64 ⌝ }
     ensures { λ r. ⌜ Writes (listing warns (now (s .entry))) (now (page .entry)) (now (page .exit)) r × (number r < 4294967296) ⌝ }
 {
-    let mut tab = [0u32; 64];
+    let mut places = [0u32; 64];
     let mut ids = [0u32; 64];
-    let mut vis = [0u32; 128];
-    let mut log = [0u32; 384];
+    let mut tab = [0u32; 80];
+    let mut vis = [0u32; 88];
     let mut found = [0u32; 384];
-    list(
-        s,
-        warns,
-        &mut tab,
-        &mut ids,
-        &mut vis,
-        &mut log,
-        &mut found,
-        page,
-    )
+    let mut held = [0u32; 64];
+    list(s, warns, &mut places, &mut ids, &mut tab, &mut vis, &mut found, &mut held, page)
 }
 
 fn list_128(s: &[u8], warns: bool, page: &mut [u8]) -> Written
     requires { ⌜ length (words (now s)) ≤ 128 ⌝ }
     ensures { λ r. ⌜ Writes (listing warns (now (s .entry))) (now (page .entry)) (now (page .exit)) r × (number r < 4294967296) ⌝ }
 {
-    let mut tab = [0u32; 128];
+    let mut places = [0u32; 128];
     let mut ids = [0u32; 128];
-    let mut vis = [0u32; 256];
-    let mut log = [0u32; 768];
+    let mut tab = [0u32; 144];
+    let mut vis = [0u32; 174];
     let mut found = [0u32; 768];
-    list(
-        s,
-        warns,
-        &mut tab,
-        &mut ids,
-        &mut vis,
-        &mut log,
-        &mut found,
-        page,
-    )
+    let mut held = [0u32; 128];
+    list(s, warns, &mut places, &mut ids, &mut tab, &mut vis, &mut found, &mut held, page)
 }
 
 fn list_256(s: &[u8], warns: bool, page: &mut [u8]) -> Written
     requires { ⌜ length (words (now s)) ≤ 256 ⌝ }
     ensures { λ r. ⌜ Writes (listing warns (now (s .entry))) (now (page .entry)) (now (page .exit)) r × (number r < 4294967296) ⌝ }
 {
-    let mut tab = [0u32; 256];
+    let mut places = [0u32; 256];
     let mut ids = [0u32; 256];
-    let mut vis = [0u32; 512];
-    let mut log = [0u32; 1536];
+    let mut tab = [0u32; 272];
+    let mut vis = [0u32; 344];
     let mut found = [0u32; 1536];
-    list(
-        s,
-        warns,
-        &mut tab,
-        &mut ids,
-        &mut vis,
-        &mut log,
-        &mut found,
-        page,
-    )
+    let mut held = [0u32; 256];
+    list(s, warns, &mut places, &mut ids, &mut tab, &mut vis, &mut found, &mut held, page)
 }
 
 fn list_512(s: &[u8], warns: bool, page: &mut [u8]) -> Written
     requires { ⌜ length (words (now s)) ≤ 512 ⌝ }
     ensures { λ r. ⌜ Writes (listing warns (now (s .entry))) (now (page .entry)) (now (page .exit)) r × (number r < 4294967296) ⌝ }
 {
-    let mut tab = [0u32; 512];
+    let mut places = [0u32; 512];
     let mut ids = [0u32; 512];
-    let mut vis = [0u32; 1024];
-    let mut log = [0u32; 3072];
+    let mut tab = [0u32; 528];
+    let mut vis = [0u32; 686];
     let mut found = [0u32; 3072];
-    list(
-        s,
-        warns,
-        &mut tab,
-        &mut ids,
-        &mut vis,
-        &mut log,
-        &mut found,
-        page,
-    )
+    let mut held = [0u32; 512];
+    list(s, warns, &mut places, &mut ids, &mut tab, &mut vis, &mut found, &mut held, page)
 }
 
 fn list_1024(s: &[u8], warns: bool, page: &mut [u8]) -> Written
     requires { ⌜ length (words (now s)) ≤ 1024 ⌝ }
     ensures { λ r. ⌜ Writes (listing warns (now (s .entry))) (now (page .entry)) (now (page .exit)) r × (number r < 4294967296) ⌝ }
 {
-    let mut tab = [0u32; 1024];
+    let mut places = [0u32; 1024];
     let mut ids = [0u32; 1024];
-    let mut vis = [0u32; 2048];
-    let mut log = [0u32; 6144];
+    let mut tab = [0u32; 1040];
+    let mut vis = [0u32; 1368];
     let mut found = [0u32; 6144];
-    list(
-        s,
-        warns,
-        &mut tab,
-        &mut ids,
-        &mut vis,
-        &mut log,
-        &mut found,
-        page,
-    )
+    let mut held = [0u32; 1024];
+    list(s, warns, &mut places, &mut ids, &mut tab, &mut vis, &mut found, &mut held, page)
 }
 
 fn list_2048(s: &[u8], warns: bool, page: &mut [u8]) -> Written
     requires { ⌜ length (words (now s)) ≤ 2048 ⌝ }
     ensures { λ r. ⌜ Writes (listing warns (now (s .entry))) (now (page .entry)) (now (page .exit)) r × (number r < 4294967296) ⌝ }
 {
-    let mut tab = [0u32; 2048];
+    let mut places = [0u32; 2048];
     let mut ids = [0u32; 2048];
-    let mut vis = [0u32; 4096];
-    let mut log = [0u32; 12288];
+    let mut tab = [0u32; 2064];
+    let mut vis = [0u32; 2734];
     let mut found = [0u32; 12288];
-    list(
-        s,
-        warns,
-        &mut tab,
-        &mut ids,
-        &mut vis,
-        &mut log,
-        &mut found,
-        page,
-    )
+    let mut held = [0u32; 2048];
+    list(s, warns, &mut places, &mut ids, &mut tab, &mut vis, &mut found, &mut held, page)
 }
 
 // A sheet of any size, with scratch for 256 words at least. Its frame is that of the largest scratch, and is touched page by page.

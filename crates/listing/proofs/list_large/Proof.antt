@@ -1,11 +1,9 @@
 -- Each size has scratch for every word, and a sheet that is longer is refused by cause 1.
 use borrow.Author.Needs.{needs}
 use native.Mathlib.Omega.{arith}
-use mathlib.Core.Path.{refl}
 use Rattle.words.proofs.Words.{length-words}
 use Rattle.sheet.proofs.Placing.{too-long}
-use Rattle.sheet.proofs.Whole.{places-refused}
-use Rattle.listing.proofs.Opened.{refused-listing}
+use Rattle.listing.proofs.Opened.{refused-listing, unplaced}
 use Rattle.listing.proofs.list_large.Statement.{statement}
 use Rattle.listing.proofs.list_large.Tie as tie
 
@@ -27,4 +25,4 @@ list-large-spec =
     (λ c. search needs)  -- returns-4
     (λ c.  -- returns-5
     let a = c .before .before .before .before .before .before .args in
-    (refused-listing (a .warns) (a .s .now) (a .page .now) (places-refused (a .s .now) refl (too-long (a .s .now) (c .if4 .left))), omega arith)))
+    (refused-listing (a .warns) (a .s .now) (a .page .now) (unplaced (a .s .now) (too-long (a .s .now) (c .if4 .left))), omega arith)))

@@ -1,0 +1,20 @@
+-- Scratch for 2,048 words.
+use borrow.Author.Needs.{needs}
+use native.Mathlib.Omega.{arith}
+use Rattle.listing.proofs.Scratch.{scratch}
+use Rattle.listing.proofs.list_2048.Statement.{statement}
+use Rattle.listing.proofs.list_2048.Tie as tie
+
+pub list-2048-spec : {M : Type 1} → statement M
+list-2048-spec =
+    tie.close
+    (tie.spec
+    (λ c. search needs)  -- slice-aggregate-list
+    (λ c. search needs)  -- slice-aggregate-list-2
+    (λ c. search needs)  -- slice-aggregate-list-3
+    (λ c. search needs)  -- slice-aggregate-list-4
+    (λ c. search needs)  -- slice-aggregate-list-5
+    (λ c. search needs)  -- slice-aggregate-list-6
+    (λ c κs. scratch 2048 2064 2734 12288 (c .before .before .before .before .before .before .before .before .before .pre) (omega arith) (omega arith) (omega arith))  -- list-requires
+    (λ c. search needs)  -- same-length
+    (λ c. search needs))  -- returns

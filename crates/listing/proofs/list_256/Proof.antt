@@ -1,0 +1,20 @@
+-- Scratch for 256 words.
+use borrow.Author.Needs.{needs}
+use native.Mathlib.Omega.{arith}
+use Rattle.listing.proofs.Scratch.{scratch}
+use Rattle.listing.proofs.list_256.Statement.{statement}
+use Rattle.listing.proofs.list_256.Tie as tie
+
+pub list-256-spec : {M : Type 1} → statement M
+list-256-spec =
+    tie.close
+    (tie.spec
+    (λ c. search needs)  -- slice-aggregate-list
+    (λ c. search needs)  -- slice-aggregate-list-2
+    (λ c. search needs)  -- slice-aggregate-list-3
+    (λ c. search needs)  -- slice-aggregate-list-4
+    (λ c. search needs)  -- slice-aggregate-list-5
+    (λ c. search needs)  -- slice-aggregate-list-6
+    (λ c κs. scratch 256 272 344 1536 (c .before .before .before .before .before .before .before .before .before .pre) (omega arith) (omega arith) (omega arith))  -- list-requires
+    (λ c. search needs)  -- same-length
+    (λ c. search needs))  -- returns
