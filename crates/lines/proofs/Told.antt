@@ -10,7 +10,7 @@ use Rattle.scope.specs.Flat.{entriesOf}
 use Rattle.tables.specs.Name.{nameAt}
 use Rattle.tables.specs.Answer.{namesIn}
 use Rattle.tables.proofs.Text.{text-none}
-use Rattle.kinds.specs.Walk.{findingOf, findingsOf}
+use Rattle.finding.specs.Flat.{findingOf, findingsOf}
 use Rattle.finding.specs.Records.{recordAt}
 use Rattle.finding.specs.declared.Finding.{Finding}
 use Rattle.lines.specs.Lines.{nameOf, lineFor, line}

@@ -17,7 +17,7 @@ ghost use lib.ListN.{length, take};
 ghost use Rattle.words.specs.Decimal.{decimal};
 ghost use Rattle.tables.specs.Answer.{namesIn};
 ghost use Rattle.sheet.specs.Read.{accepted};
-ghost use Rattle.kinds.specs.Walk.{findingsOf};
+ghost use Rattle.finding.specs.Flat.{findingsOf};
 ghost use Rattle.texts.specs.Over.{Puts};
 ghost use Rattle.texts.specs.Page.{Writes, number};
 ghost use Rattle.texts.specs.Codes.{textFor};

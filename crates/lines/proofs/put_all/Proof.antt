@@ -10,7 +10,7 @@ use Rattle.words.proofs.Digits.{length-decimal}
 use Rattle.scope.proofs.Entries.{length-entries}
 use Rattle.heads.proofs.Chain.{fact}
 use Rattle.tables.specs.Answer.{namesIn}
-use Rattle.kinds.specs.Walk.{findingOf, findingsOf}
+use Rattle.finding.specs.Flat.{findingOf, findingsOf}
 use Rattle.texts.specs.Bytes.{bytes}
 use Rattle.texts.proofs.Laying.{has-room, then-puts}
 use Rattle.lines.specs.Lines.{listed}

@@ -8,7 +8,7 @@ use Rattle.words.specs.Decimal.{width}
 use Rattle.words.proofs.Digits.{width-le}
 use Rattle.scope.proofs.Entries.{length-entries}
 use Rattle.tables.specs.Answer.{namesIn}
-use Rattle.kinds.specs.Walk.{findingOf, findingsOf}
+use Rattle.finding.specs.Flat.{findingOf, findingsOf}
 use Rattle.texts.proofs.Giving.{gives-text, gives-ten}
 use Rattle.lines.specs.Lines.{listed}
 use Rattle.lines.proofs.Sizes.{listed-long}
