@@ -80,14 +80,14 @@ zeros (suc n) (suc i) = zeros n i
 pub scratch : (n t v f : ℕ) {w : ℕ} → w ≤ n → 16 + n ≤ t → 4 * (n + 2) ≤ 3 * v → n * 6 ≤ f → Scratch w (replicate n 0) (replicate n 0) (replicate t 0) (replicate v 0) (replicate f 0) (replicate n 0)
 scratch n t v f h tab vis found =
     record {
-      places = simp length-replicate h;
-      ids = simp length-replicate h;
-      tab = simp length-replicate (omega arith);
+      placed = simp length-replicate h;
+      used = simp length-replicate h;
+      long = simp length-replicate (omega arith);
       clear = zeros t;
-      vis = simp length-replicate (omega arith);
+      names = simp length-replicate (omega arith);
       unseen = zeros v;
-      found = simp length-replicate (omega arith);
-      held = simp length-replicate h;
+      room = simp length-replicate (omega arith);
+      pairs = simp length-replicate h;
     }
 
 -- lists that are filled from the definition's log and its kind findings are the definition's, and so are their counts

@@ -1,8 +1,8 @@
 -- What reading and walking a whole sheet in one leaves: the refusal, or the events and findings of the definition's two walks, in words.
 use Prim.Native.Nat.{ℕ, _+_, _*_, _/_, _%_, _≤_}
 use mathlib.Core.Path.{_≡_}
-use mathlib.Core.Bool.{Bool, true}
-use mathlib.Core.List.{List, [], map, reverse}
+use mathlib.Core.Bool.{Bool}
+use mathlib.Core.List.{List, map, reverse}
 use lib.Dec.{eqb}
 use lib.ListN.{length, getD, take}
 use Rattle.words.specs.Words.{words}
@@ -47,14 +47,14 @@ RanAs choice s places ids found (ran.Refused c) = readSheet s ≡ refused c
 
 -- what it asks of the lent words, w being how many words the sheet has: all numbers are 0 at first where it matters
 pub record Scratch (w : ℕ) (places ids tab vis found held : List ℕ) : Type 0 where
-  pub places : w ≤ length places
-  pub ids : w ≤ length ids
-  pub tab : 16 + w ≤ length tab
+  pub placed : w ≤ length places
+  pub used : w ≤ length ids
+  pub long : 16 + w ≤ length tab
   pub clear : (i : ℕ) → getD tab i 0 ≡ 0
-  pub vis : 4 * (w + 2) ≤ 3 * length vis
+  pub names : 4 * (w + 2) ≤ 3 * length vis
   pub unseen : (i : ℕ) → getD vis i 0 ≡ 0
-  pub found : w * 6 ≤ length found
-  pub held : w ≤ length held
+  pub room : w * 6 ≤ length found
+  pub pairs : w ≤ length held
 
 pub record Runs (choice : ℕ) (s places ids found : List ℕ) (places' ids' found' : List ℕ) (r : Ran) : Type 0 where
   pub placed : length places' ≡ length places

@@ -5,6 +5,8 @@ use mathlib.Core.List.{List}
 use lib.ListN.{length, drop}
 use Rattle.heads.specs.Got.{Got, ok, no}
 use Rattle.heads.specs.declared.Form.{Form}
+use Rattle.heads.specs.declared.Maybe.{Maybe}
+use Rattle.heads.specs.declared.Maybe.the-variants as maybe
 use Rattle.semantics.specs.Kinds.{Setting, both}
 use Rattle.fused.specs.Fused.{Both, Go, rounds, rowGo, markGo, elemGo, partGo, patternGo, innerGo, restGo, exprGo}
 use Rattle.steps.specs.Memory.{atOf, tablesIn, worldAt, modeOf, firstOf, laterOf}
@@ -37,6 +39,11 @@ pub record Walked (room : ℕ) (ws tab m vis found m' vis' found' : List ℕ) (G
   pub seen : length vis' ≡ length vis
   pub wrote : length found' ≡ length found
   pub goes : Goes room ws tab m vis found m' vis' found' G r
+
+-- the words that pay for a part's path
+abbrev pub pathCost : Maybe → ℕ
+pathCost (maybe.Var v) = 3
+pathCost maybe.Nothing = 0
 
 -- What is walked, with room for so many levels, in a mode.
 module _ (ws tab : List ℕ) (room mode : ℕ) where

@@ -1,46 +1,81 @@
 -- Plain heads: those whose parts follow at once, and uses. By code: how a plain head is read, how many parts it has and in which settings
 -- they stand.
-use Prim.Native.Nat.{ℕ, zero, suc, _+_, _-_, _*_, _/_, _%_, _^_, _<_, _≤_}
+use Prim.Native.Nat.{ℕ, zero, suc, _+_, _-_, _*_, _/_, _%_, _<_, _≤_}
 use mathlib.Core.Path.{_≡_}
-use mathlib.Core.Bool.{Bool, true, false, cond, _&&_}
+use mathlib.Core.Bool.{cond}
 use mathlib.Core.List.{List, [], _∷_}
 use lib.Dec.{eqb}
 use lib.ListN.{length, getD, drop}
 use Rattle.heads.specs.Got.{ok, look}
-use Rattle.heads.specs.Form.{shapeOf, formNone, formOne, readForm, kidsOf, itemsOf, hasPattern}
+use Rattle.heads.specs.Form.{shapeOf, formNone, formOne, readForm}
 use Rattle.heads.specs.declared.Form.{Form}
 
--- 1 where a word follows the code, + 2 for a plain head, + 4 times its parts, + 16 where the word counts parts, + 32 where half of it does,
--- + 64 where it is a name, + 256 times the setting of the first part, + 2048 times that of the others, + 65536 times 2 to the setting in which
--- the head does something itself, for each such setting
+-- What a shape is the sum of: that a head is plain; that a word follows its code; how many parts it has at least; that the word counts
+-- more parts, and that half of it is not counted (a Slice's bits); that the word is a name; the settings (`settingOf`) of the first part and of the others; and
+-- 65536 times a bit for each setting in which the head does something itself.
+abbrev pub worded : ℕ
+worded = 1
+
+abbrev pub head : ℕ
+head = 2
+
+abbrev pub parts : ℕ → ℕ
+parts n = 4 * n
+
+abbrev pub counts : ℕ
+counts = 16
+
+abbrev pub halves : ℕ
+halves = 32
+
+abbrev pub named : ℕ
+named = 64
+
+abbrev pub first : ℕ → ℕ
+first set = 256 * set
+
+abbrev pub later : ℕ → ℕ
+later set = 2048 * set
+
+-- where a list is wanted (settings 4 to 7), where a list or a Bool is (3 to 7), and everywhere
+abbrev pub lists : ℕ
+lists = 65536 * 240
+
+abbrev pub shown : ℕ
+shown = 65536 * 248
+
+abbrev pub always : ℕ
+always = 65536 * 255
+
+-- by code; 0 for a head that is not plain and for no code
 abbrev pub shapes : List ℕ
 shapes =
-    0
-    ∷ 2 + 65536 * 240
-    ∷ 2 + 65536 * 240
-    ∷ 2 + 65536 * 248
-    ∷ 2 + 65536 * 248
-    ∷ 2 + 65536 * 248
-    ∷ 2
-    ∷ 3 + 65536 * 255
-    ∷ 3 + 64 + 65536 * 255
-    ∷ 3 + 4 + 64 + 256 * 2
-    ∷ 2 + 8 + 256 * 4
-    ∷ 3 + 4 + 16 + 32 + 256 * 5
-    ∷ 3 + 16
-    ∷ 3 + 16 + 65536 * 240
-    ∷ 3 + 16
-    ∷ 3 + 8 + 256 + 2048
-    ∷ 3 + 4
-    ∷ 0
-    ∷ 2 + 4
-    ∷ 2 + 8
-    ∷ 0
-    ∷ 3 + 8 + 16 + 256 * 6
-    ∷ 0
-    ∷ 3 + 4 + 16 + 256 * 7 + 2048 * 3
-    ∷ 0
-    ∷ 2
+    0  -- none
+    ∷ (head + lists)  -- 1 Null
+    ∷ (head + lists)  -- 2 Bool
+    ∷ (head + shown)  -- 3 Int
+    ∷ (head + shown)  -- 4 Float
+    ∷ (head + shown)  -- 5 String
+    ∷ head  -- 6 Param
+    ∷ (head + worded + always)  -- 7 Var
+    ∷ (head + worded + named + always)  -- 8 Unresolved
+    ∷ (head + worded + named + parts 1 + first 2)  -- 9 Prop
+    ∷ (head + parts 2 + first 4)  -- 10 Index
+    ∷ (head + worded + parts 1 + counts + halves + first 5)  -- 11 Slice
+    ∷ (head + worded + counts)  -- 12 List
+    ∷ (head + worded + counts + lists)  -- 13 Map
+    ∷ (head + worded + counts)  -- 14 Call
+    ∷ (head + worded + parts 2 + first 1 + later 1)  -- 15 BinOp
+    ∷ (head + worded + parts 1)  -- 16 UnaryOp
+    ∷ 0  -- 17 Case
+    ∷ (head + parts 1)  -- 18 IsNull
+    ∷ (head + parts 2)  -- 19 InList
+    ∷ 0  -- 20 PatternPredicate
+    ∷ (head + worded + parts 2 + counts + first 6)  -- 21 ListComprehension
+    ∷ 0  -- 22 PatternComprehension
+    ∷ (head + worded + parts 1 + counts + first 7 + later 3)  -- 23 ListPredicate
+    ∷ 0  -- 24 MapProjection
+    ∷ head  -- 25 ExistsSubqueryDeferred
     ∷ []
 
 abbrev pub shape : ℕ → ℕ

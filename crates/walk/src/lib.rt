@@ -38,13 +38,22 @@ use steps::pair_of;
 use words::word;
 ghost use Prim.Native.Nat.{ℕ, _≤_};
 ghost use Rattle.words.specs.Words.{words};
-ghost use Rattle.steps.specs.Hold.{Ready};
-ghost use Rattle.walk.specs.Goes.{Walked, exprAt, rowAt, restAt, innerAt, markAt, marksAt, elemAt, elemsAt, partAt, partsAt, patternAt};
+ghost use Rattle.steps.specs.Memory.{worldAt, modeOf};
+ghost use Rattle.steps.specs.Hold.{Ready, Steps, pathStep};
+ghost use Rattle.walk.specs.Goes.{Walked, pathCost, exprAt, rowAt, restAt, innerAt, markAt, marksAt, elemAt, elemsAt, partAt, partsAt, patternAt};
 
 // Each answers 0, or the refusal's number.
 
 // An expression, with room for this many levels, in the first setting of the mode.
-pub fn walk_expr(s: &[u8], tab: &[u32], m: &mut [u32], vis: &mut [u32], found: &mut [u32], room: u32, mode: u32) -> u32
+pub fn walk_expr(
+    s: &[u8],
+    tab: &[u32],
+    m: &mut [u32],
+    vis: &mut [u32],
+    found: &mut [u32],
+    room: u32,
+    mode: u32,
+) -> u32
     requires { ⌜ (room ≤ 48) × Ready 0 (words (now s)) (now tab) (now m) (now vis) (now found) ⌝ }
     ensures { λ r. ⌜ Walked room (words (now (s .entry))) (now (tab .entry)) (now (m .entry)) (now (vis .entry)) (now (found .entry)) (now (m .exit)) (now (vis .exit)) (now (found .exit)) (exprAt (words (now (s .entry))) (now (tab .entry)) room mode) r ⌝ }
 {
@@ -68,7 +77,16 @@ pub fn walk_expr(s: &[u8], tab: &[u32], m: &mut [u32], vis: &mut [u32], found: &
 }
 
 // What follows a head: its pattern, its expressions, its items.
-fn walk_rest(s: &[u8], tab: &[u32], m: &mut [u32], vis: &mut [u32], found: &mut [u32], room: u32, f: Form, mode: u32) -> u32
+fn walk_rest(
+    s: &[u8],
+    tab: &[u32],
+    m: &mut [u32],
+    vis: &mut [u32],
+    found: &mut [u32],
+    room: u32,
+    f: Form,
+    mode: u32,
+) -> u32
     requires { ⌜ (room ≤ 47) × Ready 0 (words (now s)) (now tab) (now m) (now vis) (now found) ⌝ }
     ensures { λ r. ⌜ Walked room (words (now (s .entry))) (now (tab .entry)) (now (m .entry)) (now (vis .entry)) (now (found .entry)) (now (m .exit)) (now (vis .exit)) (now (found .exit)) (restAt (words (now (s .entry))) (now (tab .entry)) room mode f) r ⌝ }
 {
@@ -77,7 +95,16 @@ fn walk_rest(s: &[u8], tab: &[u32], m: &mut [u32], vis: &mut [u32], found: &mut 
         return a;
     }
     let calm = mode / 64 * 64;
-    let b = walk_many(s, tab, m, vis, found, room, kids_of(f), calm + pair_of(tab, f, mode % 8));
+    let b = walk_many(
+        s,
+        tab,
+        m,
+        vis,
+        found,
+        room,
+        kids_of(f),
+        calm + pair_of(tab, f, mode % 8),
+    );
     if b != 0 {
         return b;
     }
@@ -85,13 +112,30 @@ fn walk_rest(s: &[u8], tab: &[u32], m: &mut [u32], vis: &mut [u32], found: &mut 
 }
 
 // The pattern of a head, where it has one: a PatternPredicate's is not resolved.
-fn walk_inner(s: &[u8], tab: &[u32], m: &mut [u32], vis: &mut [u32], found: &mut [u32], room: u32, f: Form, mode: u32) -> u32
+fn walk_inner(
+    s: &[u8],
+    tab: &[u32],
+    m: &mut [u32],
+    vis: &mut [u32],
+    found: &mut [u32],
+    room: u32,
+    f: Form,
+    mode: u32,
+) -> u32
     requires { ⌜ (room ≤ 47) × Ready 0 (words (now s)) (now tab) (now m) (now vis) (now found) ⌝ }
     ensures { λ r. ⌜ Walked room (words (now (s .entry))) (now (tab .entry)) (now (m .entry)) (now (vis .entry)) (now (found .entry)) (now (m .exit)) (now (vis .exit)) (now (found .exit)) (innerAt (words (now (s .entry))) (now (tab .entry)) room mode f) r ⌝ }
 {
     match f {
         Form::PatternPredicate => walk_pattern(s, tab, m, vis, found, room, mode / 128 * 128),
-        Form::PatternComprehension(_, _, _) => walk_pattern(s, tab, m, vis, found, room, mode / 64 * 64),
+        Form::PatternComprehension(_, _, _) => walk_pattern(
+            s,
+            tab,
+            m,
+            vis,
+            found,
+            room,
+            mode / 64 * 64,
+        ),
         Form::Leaf(_) => 0,
         Form::Var(_) => 0,
         Form::Unresolved(_) => 0,
@@ -111,7 +155,16 @@ fn walk_inner(s: &[u8], tab: &[u32], m: &mut [u32], vis: &mut [u32], found: &mut
 
 // n expressions, at most MOST, the first in the mode's first setting and the others in its later one. What is left at a level, and the setting
 // there, wait in m while the parts of a plain head are walked.
-pub fn walk_row(s: &[u8], tab: &[u32], m: &mut [u32], vis: &mut [u32], found: &mut [u32], room: u32, n: usize, mode: u32) -> u32
+pub fn walk_row(
+    s: &[u8],
+    tab: &[u32],
+    m: &mut [u32],
+    vis: &mut [u32],
+    found: &mut [u32],
+    room: u32,
+    n: usize,
+    mode: u32,
+) -> u32
     requires { ⌜ ((room ≤ 48) × (n ≤ 524287)) × Ready 0 (words (now s)) (now tab) (now m) (now vis) (now found) ⌝ }
     ensures { λ r. ⌜ Walked room (words (now (s .entry))) (now (tab .entry)) (now (m .entry)) (now (vis .entry)) (now (found .entry)) (now (m .exit)) (now (vis .exit)) (now (found .exit)) (rowAt (words (now (s .entry))) (now (tab .entry)) room mode n) r ⌝ }
 {
@@ -169,7 +222,16 @@ pub fn walk_row(s: &[u8], tab: &[u32], m: &mut [u32], vis: &mut [u32], found: &m
 }
 
 // n expressions, any number.
-pub fn walk_many(s: &[u8], tab: &[u32], m: &mut [u32], vis: &mut [u32], found: &mut [u32], room: u32, n: usize, mode: u32) -> u32
+pub fn walk_many(
+    s: &[u8],
+    tab: &[u32],
+    m: &mut [u32],
+    vis: &mut [u32],
+    found: &mut [u32],
+    room: u32,
+    n: usize,
+    mode: u32,
+) -> u32
     requires { ⌜ (room ≤ 48) × Ready 0 (words (now s)) (now tab) (now m) (now vis) (now found) ⌝ }
     ensures { λ r. ⌜ Walked room (words (now (s .entry))) (now (tab .entry)) (now (m .entry)) (now (vis .entry)) (now (found .entry)) (now (m .exit)) (now (vis .exit)) (now (found .exit)) (rowAt (words (now (s .entry))) (now (tab .entry)) room mode n) r ⌝ }
 {
@@ -192,7 +254,17 @@ pub fn walk_many(s: &[u8], tab: &[u32], m: &mut [u32], vis: &mut [u32], found: &
 }
 
 // n marks of a kind, each with its expressions.
-pub fn walk_marks(s: &[u8], tab: &[u32], m: &mut [u32], vis: &mut [u32], found: &mut [u32], room: u32, kind: u32, n: u32, mode: u32) -> u32
+pub fn walk_marks(
+    s: &[u8],
+    tab: &[u32],
+    m: &mut [u32],
+    vis: &mut [u32],
+    found: &mut [u32],
+    room: u32,
+    kind: u32,
+    n: u32,
+    mode: u32,
+) -> u32
     requires { ⌜ (room ≤ 48) × Ready 0 (words (now s)) (now tab) (now m) (now vis) (now found) ⌝ }
     ensures { λ r. ⌜ Walked room (words (now (s .entry))) (now (tab .entry)) (now (m .entry)) (now (vis .entry)) (now (found .entry)) (now (m .exit)) (now (vis .exit)) (now (found .exit)) (marksAt (words (now (s .entry))) (now (tab .entry)) room mode kind n) r ⌝ }
 {
@@ -207,7 +279,16 @@ pub fn walk_marks(s: &[u8], tab: &[u32], m: &mut [u32], vis: &mut [u32], found: 
     0
 }
 
-fn walk_mark(s: &[u8], tab: &[u32], m: &mut [u32], vis: &mut [u32], found: &mut [u32], room: u32, kind: u32, mode: u32) -> u32
+fn walk_mark(
+    s: &[u8],
+    tab: &[u32],
+    m: &mut [u32],
+    vis: &mut [u32],
+    found: &mut [u32],
+    room: u32,
+    kind: u32,
+    mode: u32,
+) -> u32
     requires { ⌜ (room ≤ 48) × Ready 0 (words (now s)) (now tab) (now m) (now vis) (now found) ⌝ }
     ensures { λ r. ⌜ Walked room (words (now (s .entry))) (now (tab .entry)) (now (m .entry)) (now (vis .entry)) (now (found .entry)) (now (m .exit)) (now (vis .exit)) (now (found .exit)) (markAt (words (now (s .entry))) (now (tab .entry)) room mode kind) r ⌝ }
 {
@@ -216,11 +297,28 @@ fn walk_mark(s: &[u8], tab: &[u32], m: &mut [u32], vis: &mut [u32], found: &mut 
         return 5;
     };
     m[AT] = at as u32 + 1;
-    walk_row(s, tab, m, vis, found, room, mark_kids(kind, k), mode / 64 * 64)
+    walk_row(
+        s,
+        tab,
+        m,
+        vis,
+        found,
+        room,
+        mark_kids(kind, k),
+        mode / 64 * 64,
+    )
 }
 
 // A pattern: the number of its parts, and the parts.
-pub fn walk_pattern(s: &[u8], tab: &[u32], m: &mut [u32], vis: &mut [u32], found: &mut [u32], room: u32, mode: u32) -> u32
+pub fn walk_pattern(
+    s: &[u8],
+    tab: &[u32],
+    m: &mut [u32],
+    vis: &mut [u32],
+    found: &mut [u32],
+    room: u32,
+    mode: u32,
+) -> u32
     requires { ⌜ (room ≤ 48) × Ready 0 (words (now s)) (now tab) (now m) (now vis) (now found) ⌝ }
     ensures { λ r. ⌜ Walked room (words (now (s .entry))) (now (tab .entry)) (now (m .entry)) (now (vis .entry)) (now (found .entry)) (now (m .exit)) (now (vis .exit)) (now (found .exit)) (patternAt (words (now (s .entry))) (now (tab .entry)) room mode) r ⌝ }
 {
@@ -232,7 +330,16 @@ pub fn walk_pattern(s: &[u8], tab: &[u32], m: &mut [u32], vis: &mut [u32], found
     walk_parts(s, tab, m, vis, found, room, n, mode)
 }
 
-fn walk_parts(s: &[u8], tab: &[u32], m: &mut [u32], vis: &mut [u32], found: &mut [u32], room: u32, n: u32, mode: u32) -> u32
+fn walk_parts(
+    s: &[u8],
+    tab: &[u32],
+    m: &mut [u32],
+    vis: &mut [u32],
+    found: &mut [u32],
+    room: u32,
+    n: u32,
+    mode: u32,
+) -> u32
     requires { ⌜ (room ≤ 48) × Ready 0 (words (now s)) (now tab) (now m) (now vis) (now found) ⌝ }
     ensures { λ r. ⌜ Walked room (words (now (s .entry))) (now (tab .entry)) (now (m .entry)) (now (vis .entry)) (now (found .entry)) (now (m .exit)) (now (vis .exit)) (now (found .exit)) (partsAt (words (now (s .entry))) (now (tab .entry)) room mode n) r ⌝ }
 {
@@ -248,7 +355,15 @@ fn walk_parts(s: &[u8], tab: &[u32], m: &mut [u32], vis: &mut [u32], found: &mut
 }
 
 // A part, with its elements.
-fn walk_part(s: &[u8], tab: &[u32], m: &mut [u32], vis: &mut [u32], found: &mut [u32], room: u32, mode: u32) -> u32
+fn walk_part(
+    s: &[u8],
+    tab: &[u32],
+    m: &mut [u32],
+    vis: &mut [u32],
+    found: &mut [u32],
+    room: u32,
+    mode: u32,
+) -> u32
     requires { ⌜ (room ≤ 48) × Ready 0 (words (now s)) (now tab) (now m) (now vis) (now found) ⌝ }
     ensures { λ r. ⌜ Walked room (words (now (s .entry))) (now (tab .entry)) (now (m .entry)) (now (vis .entry)) (now (found .entry)) (now (m .exit)) (now (vis .exit)) (now (found .exit)) (partAt (words (now (s .entry))) (now (tab .entry)) room mode) r ⌝ }
 {
@@ -258,14 +373,39 @@ fn walk_part(s: &[u8], tab: &[u32], m: &mut [u32], vis: &mut [u32], found: &mut 
     };
     m[AT] = p as u32;
     let path = h.path;
+    bind_part(s, tab, m, vis, found, path, mode);
+    walk_elems(s, tab, m, vis, found, room, h.count, mode)
+}
+
+// A part's path, where it has one.
+fn bind_part(
+    s: &[u8],
+    tab: &[u32],
+    m: &mut [u32],
+    vis: &mut [u32],
+    found: &mut [u32],
+    path: Maybe,
+    mode: u32,
+)
+    requires { ⌜ Ready (pathCost path) (words (now s)) (now tab) (now m) (now vis) (now found) ⌝ }
+    ensures { λ r. ⌜ Steps (pathCost path) (words (now (s .entry))) (now (tab .entry)) (now (m .entry)) (now (vis .entry)) (now (found .entry)) (now (m .exit)) (now (vis .exit)) (now (found .exit)) (λ id. pathStep (worldAt (words (now (s .entry))) (now (tab .entry)) id) (modeOf mode) path) ⌝ }
+{
     match path {
         Maybe::Var(v) => bind_path(s, tab, m, vis, found, v, mode),
         Maybe::Nothing => {}
     }
-    walk_elems(s, tab, m, vis, found, room, h.count, mode)
 }
 
-fn walk_elems(s: &[u8], tab: &[u32], m: &mut [u32], vis: &mut [u32], found: &mut [u32], room: u32, n: u32, mode: u32) -> u32
+fn walk_elems(
+    s: &[u8],
+    tab: &[u32],
+    m: &mut [u32],
+    vis: &mut [u32],
+    found: &mut [u32],
+    room: u32,
+    n: u32,
+    mode: u32,
+) -> u32
     requires { ⌜ (room ≤ 48) × Ready 0 (words (now s)) (now tab) (now m) (now vis) (now found) ⌝ }
     ensures { λ r. ⌜ Walked room (words (now (s .entry))) (now (tab .entry)) (now (m .entry)) (now (vis .entry)) (now (found .entry)) (now (m .exit)) (now (vis .exit)) (now (found .exit)) (elemsAt (words (now (s .entry))) (now (tab .entry)) room mode n) r ⌝ }
 {
@@ -281,7 +421,15 @@ fn walk_elems(s: &[u8], tab: &[u32], m: &mut [u32], vis: &mut [u32], found: &mut
 }
 
 // An element, with its property.
-fn walk_elem(s: &[u8], tab: &[u32], m: &mut [u32], vis: &mut [u32], found: &mut [u32], room: u32, mode: u32) -> u32
+fn walk_elem(
+    s: &[u8],
+    tab: &[u32],
+    m: &mut [u32],
+    vis: &mut [u32],
+    found: &mut [u32],
+    room: u32,
+    mode: u32,
+) -> u32
     requires { ⌜ (room ≤ 48) × Ready 0 (words (now s)) (now tab) (now m) (now vis) (now found) ⌝ }
     ensures { λ r. ⌜ Walked room (words (now (s .entry))) (now (tab .entry)) (now (m .entry)) (now (vis .entry)) (now (found .entry)) (now (m .exit)) (now (vis .exit)) (now (found .exit)) (elemAt (words (now (s .entry))) (now (tab .entry)) room mode) r ⌝ }
 {
@@ -291,5 +439,14 @@ fn walk_elem(s: &[u8], tab: &[u32], m: &mut [u32], vis: &mut [u32], found: &mut 
     };
     m[AT] = p as u32;
     bind_elem(s, tab, m, vis, found, h, mode);
-    walk_row(s, tab, m, vis, found, room, h.property as usize, mode / 64 * 64)
+    walk_row(
+        s,
+        tab,
+        m,
+        vis,
+        found,
+        room,
+        h.property as usize,
+        mode / 64 * 64,
+    )
 }

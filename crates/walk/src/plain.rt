@@ -91,7 +91,7 @@ pub fn plain_at(s: &[u8], names: u32, at: usize, room: u32) -> u32
 
 // How many parts follow.
 pub fn parts_of(t: u32, a: u32) -> usize
-    requires { ⌜ t < 16777216 ⌝ }
+    requires { ⌜ (t < 16777216) × (t / 32 % 2 ≤ t / 16 % 2) ⌝ }
     ensures { λ r. ⌜ r ≡ partsOf t a ⌝ }
 {
     let c = if t / 16 % 2 == 1 { a } else { 0 };
@@ -112,7 +112,7 @@ pub fn pair(t: u32, code: u32, a: u32, set: u32, ident: u32) -> u32
         return 2;
     }
     if code == 15 {
-        if (3903 >> (a % 32)) % 2 == 1 {
+        if (3903u32 >> (a % 32)) % 2 == 1 {
             return 9;
         }
         return 0;
@@ -127,7 +127,16 @@ pub fn pair(t: u32, code: u32, a: u32, set: u32, ident: u32) -> u32
 }
 
 // What the head does itself.
-pub fn act(s: &[u8], tab: &[u32], m: &mut [u32], vis: & [u32], found: &mut [u32], code: u32, a: u32, mode: u32)
+pub fn act(
+    s: &[u8],
+    tab: &[u32],
+    m: &mut [u32],
+    vis: &[u32],
+    found: &mut [u32],
+    code: u32,
+    a: u32,
+    mode: u32,
+)
     requires { ⌜ (0 < shape code) × ((a ≤ limit code) × ((shape code / 64 % 2 ≡ 1 → a < slotsIn (now tab)) × Ready (costOf (headed code a)) (words (now s)) (now tab) (now m) (now vis) (now found))) ⌝ }
     ensures { λ r. ⌜ Steps (costOf (headed code a)) (words (now (s .entry))) (now (tab .entry)) (now (m .entry)) (now (vis .entry)) (now (found .entry)) (now (m .exit)) (now (vis .entry)) (now (found .exit)) (λ id. headOf (worldAt (words (now (s .entry))) (now (tab .entry)) id) (modeOf mode) (headed code a) (firstOf mode)) ⌝ }
 {

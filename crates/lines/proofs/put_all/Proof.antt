@@ -7,16 +7,15 @@ use mathlib.Core.List.{_++_}
 use lib.ListN.{length}
 use Rattle.words.specs.Decimal.{width, decimal}
 use Rattle.words.proofs.Digits.{length-decimal}
-use Rattle.scope.proofs.Entries.{length-entries}
 use Rattle.heads.proofs.Chain.{fact}
 use Rattle.tables.specs.Answer.{namesIn}
-use Rattle.finding.specs.Flat.{findingOf, findingsOf}
+use Rattle.lines.specs.Given.{findingsIn}
 use Rattle.texts.specs.Bytes.{bytes}
 use Rattle.texts.proofs.Laying.{has-room, then-puts}
 use Rattle.lines.specs.Lines.{listed}
 use Rattle.lines.proofs.Sizes.{listed-long}
 use Rattle.lines.proofs.Pieces.{of-three}
-use Rattle.lines.proofs.Told.{told}
+use Rattle.lines.proofs.Told.{told, length-findings}
 use Rattle.lines.proofs.put_all.Statement.{statement}
 use Rattle.lines.proofs.put_all.Tie as tie
 
@@ -24,10 +23,10 @@ abbrev start : tie.After-put-number → tie.Start
 start k = k .before .before .before .before .before .before .before
 
 -- all three pieces have room
-fits : (s : tie.Start) → let a = s .args in (9 + length (decimal (a .n))) + (1 + length (told (a .s .now) (a .tab .now) (a .found .now) (a .k) (a .n))) ≤ length (a .page .now)
+fits : (s : tie.Start) → let a = s .args in (9 + length (decimal (a .n))) + (1 + length (told (a .s .now) (a .tab .now) (a .found .now) (a .k) (a .front) (a .n))) ≤ length (a .page .now)
 fits s =
     let a = s .args in
-    omega (arith, listed-long (namesIn (a .s .now) (a .k) (a .tab .now)) (findingsOf (a .n) (a .found .now)), ap width (length-entries 6 findingOf (a .n) (a .found .now)), length-decimal (a .n), s .pre .1)
+    omega (arith, listed-long (namesIn (a .s .now) (a .k) (a .tab .now)) (findingsIn (a .front) (a .n) (a .found .now)), ap width (length-findings (a .front) (a .n) (a .found .now)), length-decimal (a .n), s .pre .1)
 
 pub put-all-spec : {M : Type 1} → statement M
 unfolding listed
@@ -37,7 +36,7 @@ put-all-spec =
     let third = fact (λ (k : tie.After-put).
     let s = start (k .before .before .before .before .before) in
     let a = s .args in
-    has-room (told (a .s .now) (a .tab .now) (a .found .now) (a .k) (a .n)) (two k) (omega (arith, fits s, two k .long))) in
+    has-room (told (a .s .now) (a .tab .now) (a .found .now) (a .k) (a .front) (a .n)) (two k) (omega (arith, fits s, two k .long))) in
     tie.close
     (tie.spec
     (λ c. search needs)  -- slice-aggregate-put-number
@@ -61,4 +60,4 @@ put-all-spec =
     (λ c.  -- returns
     let k = c .before .before .before .before .before .before in
     let a = start (k .before .before .before .before .before) .args in
-    rw (length-entries 6 findingOf (a .n) (a .found .now)) (of-three (bytes "findings " ++ decimal (a .n)) (bytes "\n") (told (a .s .now) (a .tab .now) (a .found .now) (a .k) (a .n)) (then-puts (two k) (c .before .before .put-lines .ensures)))))
+    rw (length-findings (a .front) (a .n) (a .found .now)) (of-three (bytes "findings " ++ decimal (a .n)) (bytes "\n") (told (a .s .now) (a .tab .now) (a .found .now) (a .k) (a .front) (a .n)) (then-puts (two k) (c .before .before .put-lines .ensures)))))

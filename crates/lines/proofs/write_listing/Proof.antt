@@ -6,12 +6,12 @@ use mathlib.Core.Path.{_≡_, ap}
 use lib.ListN.{length}
 use Rattle.words.specs.Decimal.{width}
 use Rattle.words.proofs.Digits.{width-le}
-use Rattle.scope.proofs.Entries.{length-entries}
 use Rattle.tables.specs.Answer.{namesIn}
-use Rattle.finding.specs.Flat.{findingOf, findingsOf}
+use Rattle.lines.specs.Given.{findingsIn}
 use Rattle.texts.proofs.Giving.{gives-text, gives-ten}
 use Rattle.lines.specs.Lines.{listed}
 use Rattle.lines.proofs.Sizes.{listed-long}
+use Rattle.lines.proofs.Told.{length-findings}
 use Rattle.lines.proofs.write_listing.Statement.{statement}
 use Rattle.lines.proofs.write_listing.Tie as tie
 
@@ -20,14 +20,14 @@ start k = k .before .before .before .before .before .before
 
 -- the measure is the listing's length, and small
 measured : (k : tie.After-lines-len) → let a = start k .args in
-    (10 + k .before .decimal-width .result + k .lines-len .result ≡ length (listed (namesIn (a .s .now) (a .k) (a .tab .now)) (findingsOf (a .n) (a .found .now)))) × (10 + k .before .decimal-width .result + k .lines-len .result ≤ 20 + 2048 * 8500)
+    (10 + k .before .decimal-width .result + k .lines-len .result ≡ length (listed (namesIn (a .s .now) (a .k) (a .tab .now)) (findingsIn (a .front) (a .n) (a .found .now)))) × (10 + k .before .decimal-width .result + k .lines-len .result ≤ 20 + 2048 * 8500)
 measured k =
     let s = start k in
     let a = s .args in
     let w = k .before .decimal-width .ensures in
     let e = k .lines-len .ensures in
     let few = s .pre .few in
-    (omega (arith, listed-long (namesIn (a .s .now) (a .k) (a .tab .now)) (findingsOf (a .n) (a .found .now)), ap width (length-entries 6 findingOf (a .n) (a .found .now)), w, e .0), omega (arith, w, width-le (a .n) (omega (arith, few)), e .1, few))
+    (omega (arith, listed-long (namesIn (a .s .now) (a .k) (a .tab .now)) (findingsIn (a .front) (a .n) (a .found .now)), ap width (length-findings (a .front) (a .n) (a .found .now)), w, e .0), omega (arith, w, width-le (a .n) (omega (arith, few)), e .1, few))
 
 pub write-listing-spec : {M : Type 1} → statement M
 write-listing-spec =

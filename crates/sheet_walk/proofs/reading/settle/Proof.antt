@@ -1,0 +1,39 @@
+-- Each number is stored in its place, and no other place changes (`settles`); the names stand in the bytes before the bindings.
+use Prim.Native.Nat.{_*_, _-_}
+use native.Mathlib.Omega.{arith}
+use mathlib.Core.Path.{_≡_, refl}
+use borrow.Author.Needs.{needs}
+use lib.ListN.{length-set}
+use Rattle.sheet_walk.proofs.Table.{settles}
+use Rattle.sheet_walk.proofs.reading.settle.Statement.{statement}
+use Rattle.sheet_walk.proofs.reading.settle.Tie as tie
+
+pub settle-spec : {M : Type 1} → statement M
+settle-spec =
+    tie.close
+    (tie.spec
+    (λ c. search needs)  -- mul-e
+    (λ c. search needs)  -- sub-part
+    (λ c. search needs)  -- part-part-start
+    (λ c. search needs)  -- part-part-end
+    (λ c. search needs)  -- cast-index-of
+    (λ c. search needs)  -- slice-aggregate-index-of
+    (λ c κs. search needs)  -- index-of-requires
+    (λ c. search needs)  -- cast-index-of-2
+    (λ c. search needs)  -- slice-aggregate-index-of-2
+    (λ c κs. search needs)  -- index-of-requires-2
+    (λ c κs. search needs)  -- slots-for-requires
+    (λ c. search needs)  -- slice-write-tab
+    (λ c. simp length-set (omega arith))  -- slice-write-tab-2
+    (λ c. simp length-set (omega arith))  -- slice-write-tab-3
+    (λ c. simp length-set (omega arith))  -- slice-write-tab-4
+    (λ c. simp length-set (omega arith))  -- slice-write-tab-5
+    (λ c. search needs)  -- cast-tab
+    (λ c. simp length-set (omega arith))  -- slice-write-tab-6
+    (λ c. simp length-set (omega arith))  -- slice-write-tab-7
+    (λ c. simp length-set (omega arith))  -- slice-write-tab-8
+    (λ c. simp length-set)  -- same-length
+    (λ c.  -- returns
+    let a = c .before .before .before .before .before .before .before .before .before .args in
+    let z : a .p .rows * 4 - 0 ≡ a .p .rows * 4 = omega arith in
+    settles (a .tab .now) _ _ _ _ _ _ _ _ (c .before .before .before .before .before .before .before .before .before .pre .1 .1) refl (c .slots-for .ensures) (rw z at (c .before .before .before .index-of .ensures)) (rw z at (c .before .index-of2 .ensures)) refl refl refl refl))

@@ -1,0 +1,196 @@
+-- What the parts of a run ask and leave: the tables of names and bindings, then the sections of head and arms. Only contracts need these.
+use Prim.Native.Nat.{ℕ, zero, suc, _+_, _*_, _≤_}
+use mathlib.Core.Path.{_≡_}
+use mathlib.Core.Bool.{Bool, true, false, cond}
+use mathlib.Core.List.{List, [], _∷_}
+use lib.Dec.{eqb}
+use lib.ListN.{length, getD, take, drop}
+use Rattle.words.specs.Words.{words}
+use Rattle.words.specs.Fnv.{useId}
+use Rattle.heads.specs.Answer.{rowIds, isIn}
+use Rattle.tables.specs.Answer.{namesIn}
+use Rattle.tables.specs.Distinct.{distinct}
+use Rattle.tables.specs.Index.{indexOf}
+use Rattle.tables.specs.Row.{Row}
+use Rattle.sheet.specs.Trailer.{section}
+use Rattle.sheet.specs.Read.{Sheet, accepted, refused, readRows, readSheet}
+use Rattle.sheet.specs.Answer.{InPlaces, Tabled}
+use Rattle.sheet.specs.declared.trailer.Places.{Places}
+use Rattle.fused.specs.Fused.{Both}
+use Rattle.fused.specs.Sheet.{begun, headGo, armsGo, sheetGo}
+use Rattle.fused.proofs.ApartStatement.{HasTables, worldBy}
+use Rattle.rows.specs.Slot.{slots}
+use Rattle.rows.specs.Rows.{idAt, Hung}
+use Rattle.steps.specs.Memory.{atOf, saidOf, toldOf, slotsIn, starIn, identIn, warnsIn, rowsIn, bindingsIn, multIn, shiftIn, wantsIn, chainsIn, worldAt, events, findings, kept}
+use Rattle.steps.specs.Memory as memory
+use Rattle.steps.specs.Hold.{Fine, Fit, Holds}
+use Rattle.sheet_walk.specs.Runs.{warnsBy, wantsBy}
+use Rattle.sheet_walk.specs.declared.Ran.{Ran}
+use Rattle.sheet_walk.specs.declared.Ran.the-variants as ran
+
+-- ---- the tables
+
+-- a shift: its slots, and a binding for each five of the words, are within ten words more than these
+pub record Shift (words r : ℕ) : Type 0 where
+  pub low : 21 ≤ r
+  pub high : r ≤ 31
+  pub room : (n : ℕ) → n * 5 ≤ words → slots r + n ≤ words + 10
+
+-- zeros in tab, and room for the slots and the bindings of w words
+pub record Clear (w : ℕ) (tab : List ℕ) : Type 0 where
+  pub long : 16 + w ≤ length tab
+  pub clear : (i : ℕ) → getD tab i 0 ≡ 0
+
+-- the bindings of a sheet, as they are read, and hung up in tab
+pub record Rowed (s : List ℕ) (p : Places) (tab : List ℕ) : Type 0 where
+  pub rows : List Row
+  pub read : readRows (p .names) (p .bindings) (section (words s) (p .rows) (p .head)) ≡ accepted rows
+  pub hung : Hung (multIn tab) (shiftIn tab) (p .bindings) (idAt (words s) (p .rows)) (chainsIn tab)
+
+abbrev pub RowedIf : List ℕ → Places → List ℕ → Bool → Type 0
+RowedIf s p tab true = Rowed s p tab
+RowedIf s p tab false = readRows (p .names) (p .bindings) (section (words s) (p .rows) (p .head)) ≡ refused 4
+
+-- n rows are hung up in tab where no two have the same variable; whether that is so
+pub record HungUp (ws : List ℕ) (rows n : ℕ) (tab : List ℕ) (r : Bool) : Type 0 where
+  pub same : r ≡ distinct isIn (rowIds n (drop rows ws))
+  pub hung : r ≡ true → Hung (multIn tab) (shiftIn tab) n (idAt ws rows) (chainsIn tab)
+
+-- the names of a sheet, by the table of their places
+abbrev pub namesBy : List ℕ → Places → List ℕ → List (List ℕ)
+namesBy s p places = namesIn (take (p .rows * 4) s) (p .names) places
+
+-- what the walks go by besides is in tab, and its chains are as before
+pub record Settles (s : List ℕ) (p : Places) (choice : ℕ) (places old new : List ℕ) : Type 0 where
+  pub names : memory.namesIn new ≡ p .names
+  pub slots : slotsIn new ≡ cond (eqb (p .names) 0) 1 (p .names)
+  pub star : starIn new ≡ indexOf (42 ∷ []) (namesBy s p places)
+  pub ident : identIn new ≡ indexOf (105 ∷ 100 ∷ []) (namesBy s p places)
+  pub warns : warnsIn new ≡ warnsBy choice
+  pub rows : rowsIn new ≡ p .rows
+  pub bindings : bindingsIn new ≡ p .bindings
+  pub wants : wantsIn new ≡ wantsBy choice
+  pub mult : multIn new ≡ multIn old
+  pub shift : shiftIn new ≡ shiftIn old
+  pub chains : chainsIn new ≡ chainsIn old
+
+-- tab is in order for the sections of a sheet
+pub record Set (s : List ℕ) (p : Places) (tab : List ℕ) : Type 0 where
+  pub places : InPlaces s p
+  pub fine : Fine (words s) tab
+  pub names : memory.namesIn tab ≡ p .names
+  pub rows : rowsIn tab + bindingsIn tab * 5 ≤ p .head
+  pub slots : slotsIn tab ≤ p .head + 1
+
+-- Both tables of a sheet are right, and the lent words hold what the walks go by: the World is that of the names and the bindings.
+pub record Tables (s : List ℕ) (p : Places) (choice : ℕ) (places ids tab : List ℕ) : Type 0 where
+  pub rows : List Row
+  pub has : HasTables s p (namesBy s p places) rows
+  pub tabled : Tabled (p .names) (take (p .rows * 4) s) places ids true
+  pub set : Set s p tab
+  pub world : worldAt (words s) tab (λ x. useId (getD (namesBy s p places) x [])) ≡ worldBy (warnsBy choice) (namesBy s p places) rows
+  pub wants : wantsIn tab ≡ wantsBy choice
+
+-- 0, or the cause
+abbrev pub TablesAs : List ℕ → Places → ℕ → (places ids tab : List ℕ) → ℕ → Type 0
+TablesAs s p choice places ids tab zero = Tables s p choice places ids tab
+TablesAs s p choice places ids tab (suc c) = readSheet s ≡ refused (suc c)
+
+pub record ReadsTables (s : List ℕ) (p : Places) (choice : ℕ) (places ids tab : List ℕ) (r : ℕ) : Type 0 where
+  pub tables : TablesAs s p choice places ids tab r
+
+-- ---- the sections
+
+-- the lent words have room for w words: what is visible and what is said, and the pairs of a WITH
+pub record Wide (w : ℕ) (vis found : List ℕ) : Type 0 where
+  pub names : 4 * (w + 2) ≤ 3 * length vis
+  pub room : w * 6 ≤ length found
+
+pub record Lent (s : List ℕ) (p : Places) (tab vis found held : List ℕ) : Type 0 where
+  pub set : Set s p tab
+  pub wide : Wide (length (words s)) vis found
+  pub pairs : length (words s) ≤ length held
+
+-- nothing was walked yet
+pub record Unseen (vis : List ℕ) : Type 0 where
+  pub unseen : (i : ℕ) → getD vis i 0 ≡ 0
+
+pub record Fresh (m vis : List ℕ) : Type 0 where
+  pub size : length m ≡ 64
+  pub zeros : (i : ℕ) → getD m i 0 ≡ 0
+  pub unseen : Unseen vis
+
+-- the lent words stand at the first word of a section that ends at `to`
+pub record Stands (ws tab m vis found : List ℕ) (from to : ℕ) : Type 0 where
+  pub at : atOf m ≡ from
+  pub fit : Fit 0 (take to ws) tab m vis found
+
+-- g gives a state, which the words hold now
+pub record Ends (id : ℕ → ℕ) (tab m vis found : List ℕ) (g : Sheet Both) : Type 0 where
+  pub state : Both
+  pub holds : Holds id tab m vis found state
+  pub same : g ≡ accepted state
+
+-- what is done to a section, where the use ids of names are whatever `id` gives
+abbrev pub Walker : Type 0
+Walker = (ℕ → ℕ) → Both → Sheet Both
+
+pub record Done (ws tab m vis found m' vis' found' : List ℕ) (to : ℕ) (G : Walker) : Type 0 where
+  pub stands : Stands ws tab m' vis' found' to to
+  pub goes : (id : ℕ → ℕ) (u : Both) → Holds id tab m vis found u → Ends id tab m' vis' found' (G id u)
+
+-- 0 where the section was walked to its end, else the cause
+abbrev pub DoneAs : (ws tab m vis found m' vis' found' : List ℕ) → (to : ℕ) → Walker → ℕ → Type 0
+DoneAs ws tab m vis found m' vis' found' to G zero = Done ws tab m vis found m' vis' found' to G
+DoneAs ws tab m vis found m' vis' found' to G (suc c) = (id : ℕ → ℕ) (u : Both) → Holds id tab m vis found u → G id u ≡ refused (suc c)
+
+pub record Walks (ws tab m vis found m' vis' found' : List ℕ) (to : ℕ) (G : Walker) (r : ℕ) : Type 0 where
+  pub sized : length m' ≡ length m
+  pub seen : length vis' ≡ length vis
+  pub wrote : length found' ≡ length found
+  pub done : DoneAs ws tab m vis found m' vis' found' to G r
+
+-- the head and the arms of a sheet
+abbrev pub headIn : List ℕ → Places → List ℕ → Walker
+headIn ws p tab id u = headGo (worldAt ws tab id) (p .names) (p .clauses) u (section ws (p .head) (p .tail))
+
+abbrev pub armsIn : List ℕ → Places → List ℕ → Walker
+armsIn ws p tab id u = armsGo (worldAt ws tab id) (p .names) (p .arms) u (section ws (p .tail) (p .trailer))
+
+-- the walks begin: the Root is said, where it is wanted
+pub record Begins (s : List ℕ) (p : Places) (tab vis found m' found' : List ℕ) : Type 0 where
+  pub wrote : length found' ≡ length found
+  pub stands : Stands (words s) tab m' vis found' (p .head) (p .tail)
+  pub holds : (id : ℕ → ℕ) → Holds id tab m' vis found' (begun p)
+
+-- both sections were walked
+pub record Walked (s : List ℕ) (p : Places) (tab m vis found : List ℕ) : Type 0 where
+  pub few : saidOf m + toldOf m ≤ length (words s)
+  pub goes : (id : ℕ → ℕ) → Ends id tab m vis found (sheetGo (worldAt (words s) tab id) p (words s))
+
+abbrev pub WalkedAs : List ℕ → Places → (tab m vis found : List ℕ) → ℕ → Type 0
+WalkedAs s p tab m vis found zero = Walked s p tab m vis found
+WalkedAs s p tab m vis found (suc c) = (id : ℕ → ℕ) → sheetGo (worldAt (words s) tab id) p (words s) ≡ refused (suc c)
+
+pub record WalksBoth (s : List ℕ) (p : Places) (tab found m' vis' found' : List ℕ) (r : ℕ) : Type 0 where
+  pub wrote : length found' ≡ length found
+  pub walked : WalkedAs s p tab m' vis' found' r
+
+-- the same, as numbers of events and findings, with what they are
+pub record Said (s : List ℕ) (p : Places) (tab found : List ℕ) (said told : ℕ) (id : ℕ → ℕ) : Type 0 where
+  pub state : Both
+  pub log : events id said found ≡ kept (wantsIn tab) (state .names .log)
+  pub kinds : findings told found ≡ state .kinds
+  pub same : sheetGo (worldAt (words s) tab id) p (words s) ≡ accepted state
+
+pub record SaidAll (s : List ℕ) (p : Places) (tab found : List ℕ) (said told : ℕ) : Type 0 where
+  pub few : said + told ≤ length (words s)
+  pub says : (id : ℕ → ℕ) → Said s p tab found said told id
+
+abbrev pub RanBothAs : List ℕ → Places → (tab found : List ℕ) → Ran → Type 0
+RanBothAs s p tab found (ran.Is said told) = SaidAll s p tab found said told
+RanBothAs s p tab found (ran.Refused c) = (id : ℕ → ℕ) → sheetGo (worldAt (words s) tab id) p (words s) ≡ refused c
+
+pub record RanBoth (s : List ℕ) (p : Places) (tab found found' : List ℕ) (r : Ran) : Type 0 where
+  pub wrote : length found' ≡ length found
+  pub ran : RanBothAs s p tab found' r

@@ -1,0 +1,139 @@
+// The tables of a sheet: its names and their use ids, its bindings hung up in chains, and what the walks go by besides. Causes 3 and 4.
+use heads::Read;
+use rows::index_rows;
+use rows::mult_of;
+use sheet::Places;
+use sheet::are_names;
+use steps::BINDINGS;
+use steps::CHAINS;
+use steps::IDENT;
+use steps::MULT;
+use steps::NAMES;
+use steps::ROWS;
+use steps::SHIFT;
+use steps::SLOTS;
+use steps::STAR;
+use steps::WANTS;
+use steps::WARNS;
+use tables::index_of;
+use tables::read_rows;
+ghost use mathlib.Core.Path.{_≡_};
+ghost use mathlib.Core.Bool.{cond};
+ghost use Prim.Native.Nat.{_+_, _*_, _≤_};
+ghost use lib.Dec.{eqb};
+ghost use lib.ListN.{length, take};
+ghost use Rattle.words.specs.Words.{words};
+ghost use Rattle.tables.specs.Answer.{Roomy};
+ghost use Rattle.sheet.specs.Answer.{InPlaces, Tabled};
+ghost use Rattle.sheet.specs.Read.{locate, accepted};
+ghost use Rattle.sheet_walk.specs.Parts.{Shift, Clear, RowedIf, HungUp, Settles, ReadsTables};
+
+// The shift of a hash for the bindings before a word: 8, 64 or 256 slots.
+fn shift_for(words: usize) -> u32
+    ensures { λ r. ⌜ Shift words r ⌝ }
+{
+    if words <= 80 {
+        return 29;
+    }
+    if words <= 512 {
+        return 26;
+    }
+    24
+}
+
+// The multiplier of a hash: few bindings need none of their own.
+fn mult_for(s: &[u8], rows: usize, n: u32) -> u32
+    requires { ⌜ rows + n * 5 ≤ length (words (now s)) ⌝ }
+{
+    if n <= 16 {
+        return 2654435769;
+    }
+    mult_of(s, rows, n)
+}
+
+// For how many names there is a place: one at least.
+fn slots_for(names: u32) -> u32
+    ensures { λ r. ⌜ r ≡ cond (eqb names 0) 1 names ⌝ }
+{
+    if names == 0 {
+        return 1;
+    }
+    names
+}
+
+// The names: where they stand and their use ids; whether they are right.
+fn names_of(s: &[u8], p: Places, places: &mut [u32], ids: &mut [u32]) -> bool
+    requires { ⌜ InPlaces (now s) p × Roomy (now s) (now places) (now ids) ⌝ }
+    ensures { λ r. ⌜ Tabled (p .names) (take (p .rows * 4) (now (s .entry))) (now (places .exit)) (now (ids .exit)) r ⌝ }
+{
+    let rows = p.rows;
+    let e = rows * 4;
+    are_names(&s[0..e], p.names, places, ids)
+}
+
+// The n bindings from the word `rows` on, all before the word `head`, hung up in chains; whether their variables are distinct.
+fn hang(s: &[u8], tab: &mut [u32], rows: usize, n: u32, head: usize) -> bool
+    requires { ⌜ ((rows + n * 5 ≤ head) × (head + 10 ≤ length (words (now s)))) × Clear (length (words (now s))) (now tab) ⌝ }
+    ensures { λ r. ⌜ HungUp (words (now (s .entry))) rows n (now (tab .exit)) r ⌝ }
+{
+    let shift = shift_for(head);
+    let mult = mult_for(s, rows, n);
+    tab[MULT] = mult;
+    tab[SHIFT] = shift;
+    index_rows(s, &mut tab[CHAINS..], rows, mult, shift, n)
+}
+
+// The bindings: read, and hung up; whether they are right.
+fn rows_of(s: &[u8], p: Places, tab: &mut [u32]) -> bool
+    requires { ⌜ InPlaces (now s) p × Clear (length (words (now s))) (now tab) ⌝ }
+    ensures { λ r. ⌜ RowedIf (now (s .entry)) p (now (tab .exit)) r ⌝ }
+{
+    let head = p.head;
+    let f = head * 4;
+    let rows = p.rows;
+    let n = p.bindings;
+    let Read::Next(q) = read_rows(&s[0..f], p.names, rows, n) else {
+        return false;
+    };
+    if q < head {
+        return false;
+    }
+    hang(s, tab, rows, n, head)
+}
+
+// What the walks go by besides.
+fn settle(s: &[u8], p: Places, choice: u32, places: &[u32], tab: &mut [u32])
+    requires { ⌜ (InPlaces (now s) p × (p .names ≤ length (now places))) × ((p .names ≤ 8192) × (16 ≤ length (now tab))) ⌝ }
+    ensures { λ r. ⌜ Settles (now (s .entry)) p choice (now (places .entry)) (now (tab .entry)) (now (tab .exit)) ⌝ }
+{
+    let rows = p.rows;
+    let e = rows * 4;
+    let part = &s[0..e];
+    let names = p.names;
+    let star = index_of(part, places, names as usize, b"*");
+    let ident = index_of(part, places, names as usize, b"id");
+    let slots = slots_for(names);
+    tab[NAMES] = names;
+    tab[SLOTS] = slots;
+    tab[STAR] = star;
+    tab[IDENT] = ident;
+    tab[WARNS] = choice % 2;
+    tab[ROWS] = rows as u32;
+    tab[BINDINGS] = p.bindings;
+    tab[WANTS] = choice / 2 % 2;
+}
+
+// All of them: 0, or the refusal's number.
+pub fn read_tables(s: &[u8], p: Places, choice: u32, places: &mut [u32], ids: &mut [u32], tab: &mut [u32]) -> u32
+    requires { ⌜ ((locate (now s) ≡ accepted p) × Roomy (now s) (now places) (now ids)) × Clear (length (words (now s))) (now tab) ⌝ }
+    ensures { λ r. ⌜ ReadsTables (now (s .entry)) p choice (now (places .exit)) (now (ids .exit)) (now (tab .exit)) r ⌝ }
+{
+    if !names_of(s, p, places, ids) {
+        return 3;
+    }
+    if !rows_of(s, p, tab) {
+        return 4;
+    }
+    settle(s, p, choice, places, tab);
+    0
+}
