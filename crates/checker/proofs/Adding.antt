@@ -6,7 +6,7 @@
 use Prim.Native.Nat.{ℕ, suc, _+_, _-_, _*_, _<_, _≤_}
 use native.Mathlib.Numerals.{add-one}
 use native.Mathlib.Omega.{arith}
-use mathlib.Core.Path.{_≡_, refl, sym, _∙_, ap}
+use mathlib.Core.Path.{_≡_, refl, sym, _∙_}
 use mathlib.Core.List.{List, [], _∷_, _++_, flatMap, append-nil, append-assoc, reverse-cons}
 use lib.ListN.{length}
 use lib.Seq.{sets, length-sets}
@@ -15,7 +15,6 @@ use Rattle.semantics.specs.Log.{Event, Finding, Write, bindOf, answerOf, bindsI
 use Rattle.semantics.specs.Lists.{put, puts, note, notes}
 use Rattle.theorems.proofs.Views.{pick-append}
 use Rattle.steps.specs.Memory.{events, eventAt, findings, findingAt}
-use Rattle.checker.specs.Filled.{filled}
 use Rattle.checker.specs.Said.{eventsIn, toldIn}
 use Rattle.checker.specs.Adding.{Holds, Becomes, after}
 use Rattle.checker.proofs.Filling.{over, length-over, over-last, sets-over, filled-nil}

@@ -25,7 +25,7 @@ use Rattle.theorems.specs.Sheets.{AgreeSheets}
 use Rattle.theorems.proofs.Views.{pick-append}
 use Rattle.theorems.proofs.InLists.{in-lists}
 use Rattle.theorems.proofs.ApartSheets.{apart-sheets}
-use Rattle.finding.specs.Flat.{findingWords, findingOf, findingsOf}
+use Rattle.finding.specs.Flat.{findingWords, findingOf}
 use Rattle.checker.specs.Filled.{filled, scopeWords, bindingWords, carriedWords, recordedWords, withScopes, withBindings, withCarried, withRecorded, withFindings}
 use Rattle.checker.specs.Checked.{Lent, roomy, countsOf, filledBy, answer, left, answerIn, leftIn}
 use Rattle.checker.specs.Calls.{Call, writeOf, entriesIn, listsOf, pieces, partIn, SameLists}
@@ -87,10 +87,6 @@ finding-back (finding c a b x o t) r = refl
 
 finding-past : (a : Finding) (r : List ℕ) → drop 6 (findingWords a ++ r) ≡ r
 finding-past (finding c a b x o t) r = refl
-
-pub findings-back : (fs : List Finding) (old : List ℕ) → findingsOf (length fs) (withFindings old fs) ≡ fs
-unfolding withFindings
-findings-back = filled-back 6 findingOf findingWords finding-back finding-past
 
 module _ (warns : Bool) (s : Statement) where
   filled-entries : (old : Lent) → entriesIn (countsOf warns s) (filledBy warns s old) ≡ listsOf warns s

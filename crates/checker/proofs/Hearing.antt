@@ -1,13 +1,12 @@
 -- What a run of the walks leaves, oldest first:
 --     heard        where every event was wanted, the definition's log and its kind findings
---     found-all    whatever was wanted, the definition's findings
 --     ids-are      a name's use id, as the code looks it up, is the statement's
 --     filling-is   lists that were filled from what was said are filled from the definition's log
 use Prim.Native.Nat.{ℕ, _+_, _-_, _*_, _≤_}
 use native.Mathlib.Omega.{arith}
-use mathlib.Core.Path.{_≡_, refl, _∙_, ap, ap₂, sym}
-use mathlib.Core.Bool.{Bool, true, false}
-use mathlib.Core.List.{List, [], _∷_, _++_, map, flatMap, reverse, reverse-cons, reverse-reverse, append-nil}
+use mathlib.Core.Path.{_≡_, _∙_, ap}
+use mathlib.Core.Bool.{Bool, true}
+use mathlib.Core.List.{List, [], map, reverse, reverse-reverse}
 use lib.ListN.{length, getD, take, length-take, length-map, List·getD-map}
 use Rattle.words.specs.Words.{words}
 use Rattle.words.specs.Fnv.{useId}
@@ -15,12 +14,9 @@ use Rattle.tables.specs.Name.{nameAt}
 use Rattle.sheet.specs.Trailer.{placesOf}
 use Rattle.sheet.specs.Statement.{Statement}
 use Rattle.sheet.proofs.Walked.{walked}
-use Rattle.semantics.specs.Log.{Finding, Event, open', bind, carry, answer, find, findOf, findsIn}
 use Rattle.semantics.specs.World.{bytesOf, worldOf}
 use Rattle.semantics.specs.Resolve.{run, log}
 use Rattle.semantics.specs.Kinds.{kinds}
-use Rattle.semantics.specs.Lists.{findings}
-use Rattle.theorems.proofs.Views.{pick-append}
 use Rattle.steps.specs.Memory.{kept}
 use Rattle.sheet_walk.specs.Runs.{warnsBy, wantsBy, idOf, RanTo, RanAs}
 use Rattle.sheet_walk.specs.declared.Ran.{Ran}
@@ -37,31 +33,11 @@ ids-are st {uses} e = λ j x. one x j
     one : (x : ℕ) → idIn uses x ≡ useId (getD (st .names) x [])
     one x = rw e (List·getD-map useId (st .names) x [])
 
--- the findings of a log are kept, and in order
-one-finding : (e : Event) (l : List Event) → findsIn (reverse (e ∷ l)) ≡ findsIn (reverse l) ++ findOf e
-unfolding findsIn flatMap
-one-finding e l = rw (reverse-cons e l) (pick-append findOf (reverse l) (e ∷ []) ∙ rw append-nil)
-
-finds-kept : (b : Bool) (l : List Event) → findsIn (reverse (kept b l)) ≡ findsIn (reverse l)
-unfolding kept findOf
-finds-kept true l = refl
-finds-kept false [] = refl
-finds-kept false (open' x ∷ l) = finds-kept false l ∙ sym (one-finding (open' x) l ∙ append-nil (findsIn (reverse l)))
-finds-kept false (bind x ∷ l) = finds-kept false l ∙ sym (one-finding (bind x) l ∙ append-nil (findsIn (reverse l)))
-finds-kept false (carry x ∷ l) = finds-kept false l ∙ sym (one-finding (carry x) l ∙ append-nil (findsIn (reverse l)))
-finds-kept false (answer x ∷ l) = finds-kept false l ∙ sym (one-finding (answer x) l ∙ append-nil (findsIn (reverse l)))
-finds-kept false (find x ∷ l) = one-finding (find x) (kept false l) ∙ ap (λ (fs : List Finding). fs ++ (x ∷ [])) (finds-kept false l) ∙ sym (one-finding (find x) l)
-
 module _ {choice : ℕ} {s places ids found : List ℕ} {said told : ℕ} (r : RanTo choice s places ids found said told) where
   pub named : placesOf (words s) .names ≤ length ids
   named =
       let k = placesOf (words s) .names in
       omega (arith, r .many, ap length (r .names), ap length (r .uses), length-take k places, length-take k ids, length-map (r .statement .names) useId, length-map (take k places) (nameAt (take (placesOf (words s) .rows * 4) s)))
-
-  pub found-all : findsIn (eventsIn (idOf (r .statement)) said found) ++ toldIn told found ≡ findings (warnsBy choice) (r .statement)
-  unfolding eventsIn toldIn findings log
-  found-all =
-      ap₂ _++_ (ap (λ (l : List Event). findsIn (reverse l)) (r .log) ∙ finds-kept (wantsBy choice) (run (warnsBy choice) (r .statement) .log)) (ap reverse (r .kinds) ∙ reverse-reverse _)
 
   pub heard : wantsBy choice ≡ true → Heard (warnsBy choice) s ids found said told
   unfolding eventsIn toldIn log kept

@@ -2,7 +2,7 @@
 use Prim.Native.Nat.{ℕ}
 use mathlib.Core.Path.{_≡_}
 use mathlib.Core.Bool.{Bool, true, false, _&&_}
-use mathlib.Core.List.{List, []}
+use mathlib.Core.List.{List}
 use lib.Dec.{leb}
 use lib.ListN.{length}
 use Rattle.words.specs.Words.{words}

@@ -1,7 +1,7 @@
 // The five lists, filled from what both walks left in `found`: scopes, carried names and findings as they come, bindings and recorded uses
 // with the first making giving the place and the last one the value.
 ghost use mathlib.Core.Path.{_≡_};
-ghost use mathlib.Core.List.{List, [], _∷_, _++_};
+ghost use mathlib.Core.List.{[], _∷_, _++_};
 ghost use Prim.Native.Nat.{ℕ, suc, _+_, _-_, _*_, _≤_};
 ghost use lib.Dec.{eqb};
 ghost use lib.ListN.{length};

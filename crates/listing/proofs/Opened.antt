@@ -16,7 +16,7 @@ use Rattle.sheet.specs.Answer.{openedAs}
 use Rattle.sheet.specs.declared.trailer.Places.{Places}
 use Rattle.sheet.specs.declared.trailer.Opened.the-variants as opened
 use Rattle.semantics.specs.Lists.{findings}
-use Rattle.finding.specs.Flat.{findingsOf}
+use Rattle.kinds.specs.Walk.{findingsOf}
 use Rattle.checker.specs.Accepted.{namesOf, foundIn, Opens, Placed, Wide}
 use Rattle.checker.specs.Filled.{withFindings}
 use Rattle.checker.proofs.Filling.{length-findings}

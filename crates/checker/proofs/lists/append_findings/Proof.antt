@@ -1,7 +1,7 @@
 -- The loop's invariant: the first i findings stand after those that there were.
 use Prim.Native.Nat.{suc, _-_, _*_}
 use native.Mathlib.Omega.{arith}
-use mathlib.Core.List.{append-nil, reverse}
+use mathlib.Core.List.{append-nil}
 use lib.ListN.{length}
 use Rattle.steps.specs.Memory.{findings}
 use Rattle.finding.specs.Flat.{findingWords}

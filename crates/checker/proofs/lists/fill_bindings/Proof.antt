@@ -1,7 +1,7 @@
 -- The loop's invariant: the list has the bindings of the events passed.
 use Prim.Native.Nat.{_-_}
 use native.Mathlib.Omega.{arith}
-use mathlib.Core.List.{flatMap, append-nil}
+use mathlib.Core.List.{flatMap}
 use mathlib.Core.Path.{refl}
 use Rattle.semantics.specs.Log.{bindsIn}
 use Rattle.semantics.specs.Lists.{puts}

@@ -1,7 +1,7 @@
 -- The loop's invariant: the list has the answers of the events passed.
 use Prim.Native.Nat.{_-_}
 use native.Mathlib.Omega.{arith}
-use mathlib.Core.List.{flatMap, append-nil}
+use mathlib.Core.List.{flatMap}
 use mathlib.Core.Path.{refl}
 use Rattle.semantics.specs.Log.{answersIn}
 use Rattle.semantics.specs.Lists.{notes}
