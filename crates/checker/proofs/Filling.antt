@@ -9,7 +9,7 @@ use lib.ListN.{length, set, drop, length-append, length-drop}
 use lib.Seq.{sets, sets-eq, drop-at, drop-drop}
 use Rattle.scope.specs.Graph.{Scope, scope, Entry, entry, Carried, carried}
 use Rattle.semantics.specs.Log.{Write, write, found, missing, Finding, finding}
-use Rattle.kinds.specs.Walk.{findingWords, stored}
+use Rattle.finding.specs.Flat.{findingWords}
 use Rattle.checker.specs.Filled.{filled, scopeWords, bindingWords, carriedWords, recordedWords, withScopes, withBindings, withCarried, withRecorded, withFindings}
 
 -- words that are filled, and words stored after them
@@ -125,12 +125,3 @@ module _ (old : List ℕ) where
   pub length-findings : (l : List Finding) → length l * 6 ≤ length old → length (withFindings old l) ≡ length old
   unfolding withFindings
   length-findings = length-full findingWords 6 sized-finding old
-
-  -- findings stored after those that are there
-  pub stored-findings : (fs gs : List Finding) → (length fs + length gs) * 6 ≤ length old → stored (withFindings old fs) (length fs) gs ≡ withFindings old (fs ++ gs)
-  unfolding stored withFindings
-  stored-findings fs [] h = rw append-nil
-  stored-findings fs (g ∷ gs) h =
-      let more : length (fs ++ (g ∷ [])) ≡ suc (length fs) = simp length-append (omega arith) in
-      let later = rw more at (stored-findings (fs ++ (g ∷ [])) gs (omega arith)) in
-      rw (sets-over findingWords 6 sized-finding g fs (length fs) old (omega arith) (omega arith), over-last g fs) (later ∙ rw append-assoc)

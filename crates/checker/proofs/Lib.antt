@@ -1,9 +1,7 @@
 pub mod Calls
-pub mod Opening
 pub mod Filling
 pub mod Adding
 pub mod Sorts
 pub mod Placing
-pub mod Appending
+pub mod Hearing
 pub mod Finishing
-pub mod Logging

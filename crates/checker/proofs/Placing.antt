@@ -57,7 +57,7 @@ module _ {A B : Type 0} (words : A → List ℕ) (width : ℕ) (sized : (a : A) 
       let rest = filled (drop (length (words x)) old) (flatMap words es) in
       rw (filled-append, drop-at (words x) rest width (sized x), same x rest, place-words es (drop (length (words x)) old))
 
-  one-placed : {f : List A → List A} {out : List ℕ} {m r : ℕ} (e : A) (i : ℕ) → (i ≤ m) × (i ≡ place fits (entriesOf width one m out)) → m * width + width ≤ length out → r ≡ suc i + (m - suc i) → ((old : List ℕ) (es : List A) → Holds words old out m es → i ≡ place is es → f es ≡ over i e es) → Becomes words f out (sets out (i * width) (words e)) m r
+  one-placed : {f : List A → List A} {out : List ℕ} {m r : ℕ} (e : A) (i : ℕ) → (i ≤ m) × (i ≡ place fits (entriesOf width one m out)) → m * width + width ≤ length out → r ≡ suc i + (m - suc i) → ((old : List ℕ) (es : List A) → Holds words old out m es → i ≡ place is es → f es ≡ over i e es) → Becomes 1 words f out (sets out (i * width) (words e)) m r
   one-placed e i p room c set =
       one-set words width sized e i (p .0) room c (λ old es h. set old es h (p .1 ∙ rw (h .count, h .wrote) (place-words es old)))
 
@@ -109,14 +109,14 @@ unfolding bindingWords
 binding-read s x (entry t y u j r) rest = refl
 
 module _ (out : List ℕ) (m s x v k i : ℕ) (p : (i ≤ m) × (i ≡ place (isBinding s x) (bindingsOf m out))) (room : (m + 1) * 6 ≤ length out) where
-  binding-placed : (r : ℕ) (o : Option ℕ) → r ≡ suc i + (m - suc i) → ((old : List ℕ) (es : List Entry) → Holds bindingWords old out m es → replacedAt i es ≡ o) → Becomes bindingWords (put (bound s x v k)) out (sets out (i * 6) (bindingWords (entry s x v k o))) m r
+  binding-placed : (r : ℕ) (o : Option ℕ) → r ≡ suc i + (m - suc i) → ((old : List ℕ) (es : List Entry) → Holds bindingWords old out m es → replacedAt i es ≡ o) → Becomes 1 bindingWords (put (bound s x v k)) out (sets out (i * 6) (bindingWords (entry s x v k o))) m r
   binding-placed r o c h = one-placed bindingWords 6 sized-binding bindingOf (isBinding s x) (isBinding s x) (binding-read s x) (entry s x v k o) i p (omega arith) c (λ old es w q. put-over s x v k es ∙ rw (← q, h old es w))
 
-  pub binding-again : i < m → Becomes bindingWords (put (bound s x v k)) out (sets out (i * 6) (s ∷ x ∷ v ∷ k ∷ 1 ∷ getD out (i * 6 + 2) 0 ∷ [])) m m
+  pub binding-again : i < m → Becomes 1 bindingWords (put (bound s x v k)) out (sets out (i * 6) (s ∷ x ∷ v ∷ k ∷ 1 ∷ getD out (i * 6 + 2) 0 ∷ [])) m m
   unfolding bindingWords
   binding-again l = binding-placed m (some (getD out (i * 6 + 2) 0)) (omega (arith, p .0)) (λ old es h. rw (h .wrote) (replaced-some es i old (omega (arith, h .count))))
 
-  pub binding-anew : m ≤ i → Becomes bindingWords (put (bound s x v k)) out (sets out (i * 6) (s ∷ x ∷ v ∷ k ∷ 0 ∷ 0 ∷ [])) m (m + 1)
+  pub binding-anew : m ≤ i → Becomes 1 bindingWords (put (bound s x v k)) out (sets out (i * 6) (s ∷ x ∷ v ∷ k ∷ 0 ∷ 0 ∷ [])) m (m + 1)
   unfolding bindingWords
   binding-anew l = binding-placed (m + 1) none (omega (arith, p .0)) (λ old es h. replaced-none es i (omega (arith, h .count)))
 
@@ -124,6 +124,6 @@ use-read : (id : ℕ) (w : Write) (rest : List ℕ) → eqb id (getD (recordedWo
 unfolding recordedWords
 use-read id (write j b) rest = refl
 
-pub answer-placed : (out : List ℕ) (m r id f v k : ℕ) (a : Answer) (i : ℕ) → answerWords a ≡ f ∷ v ∷ k ∷ 0 ∷ [] → (i ≤ m) × (i ≡ place (eqb id) (idsOf m out)) → (m + 1) * 5 ≤ length out → r ≡ suc i + (m - suc i) → Becomes recordedWords (note (write id a)) out (set (set (set (set (set out (i * 5) id) (i * 5 + 1) f) (i * 5 + 2) v) (i * 5 + 3) k) (i * 5 + 4) 0) m r
+pub answer-placed : (out : List ℕ) (m r id f v k : ℕ) (a : Answer) (i : ℕ) → answerWords a ≡ f ∷ v ∷ k ∷ 0 ∷ [] → (i ≤ m) × (i ≡ place (eqb id) (idsOf m out)) → (m + 1) * 5 ≤ length out → r ≡ suc i + (m - suc i) → Becomes 1 recordedWords (note (write id a)) out (set (set (set (set (set out (i * 5) id) (i * 5 + 1) f) (i * 5 + 2) v) (i * 5 + 3) k) (i * 5 + 4) 0) m r
 unfolding recordedWords
 answer-placed out m r id f v k a i e p room c = rw (add-one (i * 5), add-two, add-three, add-four) (rw e at (one-placed recordedWords 5 sized-recorded (λ ws. getD ws 0 0) (eqb id) (isUse id) (use-read id) (write id a) i p (omega arith) c (λ old es w q. note-over id a es ∙ rw (← q))))

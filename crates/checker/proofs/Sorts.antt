@@ -13,10 +13,10 @@ use Rattle.scope.specs.Flat.{parentOf}
 use Rattle.scope.specs.Graph.{scope, carried}
 use Rattle.semantics.specs.Log.{Event, open', bind, carry, answer, find, bound, finding, write, found, missing, scopeOf, bindOf, carryOf, answerOf, findOf}
 use Rattle.semantics.specs.Lists.{put, puts, note, notes}
-use Rattle.resolve.specs.Walk.{answered}
-use Rattle.kinds.specs.Walk.{findingWords}
+use Rattle.steps.specs.Memory.{answered, findingAt}
+use Rattle.finding.specs.Flat.{findingWords}
 use Rattle.checker.specs.Filled.{parentWord, scopeWords, bindingWords, carriedWords, recordedWords}
-use Rattle.checker.specs.Adding.{said, Becomes, after}
+use Rattle.checker.specs.Adding.{sixAt, said, Becomes, after}
 use Rattle.checker.specs.declared.lists.Logged.{Logged}
 use Rattle.checker.proofs.Filling.{sized-scope, sized-carried, sized-finding}
 use Rattle.checker.proofs.Adding.{one-added}
@@ -30,61 +30,72 @@ module _ (P : Event → Type 0) where
   sorted : (t k : ℕ) {x y : Event} → (t ≡ k → P x) → ((t ≡ k → ⊥) → P y) → P (cond (eqb t k) x y)
   sorted t k = picked (eqb t k) (eqb-true t k) (eqb-false t k)
 
-module _ (e : Logged) where
-  by-sort : (P : Event → Type 0) → (e .sort ≡ 1 → P (open' (scope (e .a) (parentOf (e .b)) (e .c) (e .d)))) → (e .sort ≡ 2 → P (bind (bound (e .a) (e .b) (e .c) (e .d)))) → (e .sort ≡ 3 → P (carry (carried (e .a) (e .b) (e .c)))) → (e .sort ≡ 4 → P (answer (write (e .a) (answered (e .b) (e .c) (e .d))))) → ((1 ≤ e .sort → 4 < e .sort) → P (find (finding (e .a) (e .b) (e .c) (e .d) 0 0))) → P (said e)
-  by-sort P o b c a f = sorted P (e .sort) 1 o (λ n1. sorted P (e .sort) 2 b (λ n2. sorted P (e .sort) 3 c (λ n3. sorted P (e .sort) 4 a (λ n4. f (λ h. omega arith)))))
+module _ (id : ℕ → ℕ) (e : Logged) where
+  by-sort : (P : Event → Type 0) → (e .sort ≡ 1 → P (open' (scope (e .a) (parentOf (e .b)) (e .c) (e .d)))) → (e .sort ≡ 2 → P (bind (bound (e .a) (e .b) (e .c) (e .d)))) → (e .sort ≡ 3 → P (carry (carried (e .a) (e .b) (e .c)))) → (e .sort ≡ 4 → P (answer (write (e .a) (found (e .a) (e .b) 0)))) → (e .sort ≡ 5 → P (answer (write (id (e .a)) (answered (e .b) (e .c) (e .d))))) → ((1 ≤ e .sort → 5 < e .sort) → P (find (finding (e .sort) (e .a) (e .b) (e .c) (e .d) (e .e)))) → P (said id e)
+  by-sort P o b c a x f = sorted P (e .sort) 1 o (λ n1. sorted P (e .sort) 2 b (λ n2. sorted P (e .sort) 3 c (λ n3. sorted P (e .sort) 4 a (λ n4. sorted P (e .sort) 5 x (λ n5. f (λ h. omega arith))))))
 
-  pub no-scope : (e .sort ≡ 1 → ⊥) → scopeOf (said e) ≡ []
+  pub no-scope : (e .sort ≡ 1 → ⊥) → scopeOf (said id e) ≡ []
   unfolding scopeOf
-  no-scope h = by-sort (λ v. scopeOf v ≡ []) (λ s. absurd (h s)) (λ s. refl) (λ s. refl) (λ s. refl) (λ s. refl)
+  no-scope h = by-sort (λ v. scopeOf v ≡ []) (λ s. absurd (h s)) (λ s. refl) (λ s. refl) (λ s. refl) (λ s. refl) (λ s. refl)
 
-  pub no-binding : (e .sort ≡ 2 → ⊥) → bindOf (said e) ≡ []
+  pub no-binding : (e .sort ≡ 2 → ⊥) → bindOf (said id e) ≡ []
   unfolding bindOf
-  no-binding h = by-sort (λ v. bindOf v ≡ []) (λ s. refl) (λ s. absurd (h s)) (λ s. refl) (λ s. refl) (λ s. refl)
+  no-binding h = by-sort (λ v. bindOf v ≡ []) (λ s. refl) (λ s. absurd (h s)) (λ s. refl) (λ s. refl) (λ s. refl) (λ s. refl)
 
-  pub no-carried : (e .sort ≡ 3 → ⊥) → carryOf (said e) ≡ []
+  pub no-carried : (e .sort ≡ 3 → ⊥) → carryOf (said id e) ≡ []
   unfolding carryOf
-  no-carried h = by-sort (λ v. carryOf v ≡ []) (λ s. refl) (λ s. refl) (λ s. absurd (h s)) (λ s. refl) (λ s. refl)
+  no-carried h = by-sort (λ v. carryOf v ≡ []) (λ s. refl) (λ s. refl) (λ s. absurd (h s)) (λ s. refl) (λ s. refl) (λ s. refl)
 
-  pub no-answer : (e .sort ≡ 4 → ⊥) → answerOf (said e) ≡ []
+  pub no-answer : (e .sort ≡ 4 → ⊥) → (e .sort ≡ 5 → ⊥) → answerOf (said id e) ≡ []
   unfolding answerOf
-  no-answer h = by-sort (λ v. answerOf v ≡ []) (λ s. refl) (λ s. refl) (λ s. refl) (λ s. absurd (h s)) (λ s. refl)
+  no-answer h g = by-sort (λ v. answerOf v ≡ []) (λ s. refl) (λ s. refl) (λ s. refl) (λ s. absurd (h s)) (λ s. absurd (g s)) (λ s. refl)
 
-  pub no-finding : 1 ≤ e .sort → e .sort ≤ 4 → findOf (said e) ≡ []
+  pub no-finding : 1 ≤ e .sort → e .sort ≤ 5 → findOf (said id e) ≡ []
   unfolding findOf
-  no-finding l h = by-sort (λ v. findOf v ≡ []) (λ s. refl) (λ s. refl) (λ s. refl) (λ s. refl) (λ s. absurd (omega (arith, s l)))
+  no-finding l h = by-sort (λ v. findOf v ≡ []) (λ s. refl) (λ s. refl) (λ s. refl) (λ s. refl) (λ s. refl) (λ s. absurd (omega (arith, s l)))
 
-  is-finding : (1 ≤ e .sort → 4 < e .sort) → findOf (said e) ≡ finding (e .a) (e .b) (e .c) (e .d) 0 0 ∷ []
+  is-finding : (1 ≤ e .sort → 5 < e .sort) → findOf (said id e) ≡ finding (e .sort) (e .a) (e .b) (e .c) (e .d) (e .e) ∷ []
   unfolding findOf
-  is-finding h = by-sort (λ v. findOf v ≡ finding (e .a) (e .b) (e .c) (e .d) 0 0 ∷ []) (λ s. absurd (omega (arith, h (omega arith)))) (λ s. absurd (omega (arith, h (omega arith)))) (λ s. absurd (omega (arith, h (omega arith)))) (λ s. absurd (omega (arith, h (omega arith)))) (λ s. refl)
+  is-finding h = by-sort (λ v. findOf v ≡ finding (e .sort) (e .a) (e .b) (e .c) (e .d) (e .e) ∷ []) (none 1 (omega arith) (omega arith)) (none 2 (omega arith) (omega arith)) (none 3 (omega arith) (omega arith)) (none 4 (omega arith) (omega arith)) (none 5 (omega arith) (omega arith)) (λ s. refl)
+    where
+      none : (k : ℕ) {Q : Type 0} → 1 ≤ k → k ≤ 5 → e .sort ≡ k → Q
+      none k l g s = absurd (omega (arith, h (omega arith)))
 
 -- the words of an event after m entries
 parent-word : (b : ℕ) → parentWord (parentOf b) ≡ b
 parent-word zero = refl
 parent-word (suc b) = refl
 
-module _ (out : List ℕ) (m : ℕ) (e : Logged) where
-  pub one-scope : e .sort ≡ 1 → (m + 1) * 4 ≤ length out → Becomes scopeWords (after (scopeOf (said e))) out (set (set (set (set out (m * 4) (e .a)) (m * 4 + 1) (e .b)) (m * 4 + 2) (e .c)) (m * 4 + 3) (e .d)) m (m + 1)
+module _ (out : List ℕ) (m : ℕ) (e : Logged) (id : ℕ → ℕ) where
+  pub one-scope : e .sort ≡ 1 → (m + 1) * 4 ≤ length out → Becomes 1 scopeWords (after (scopeOf (said id e))) out (set (set (set (set out (m * 4) (e .a)) (m * 4 + 1) (e .b)) (m * 4 + 2) (e .c)) (m * 4 + 3) (e .d)) m (m + 1)
   unfolding scopeOf scopeWords
   one-scope s h = rw (s, add-one (m * 4), add-two, add-three) (rw parent-word at (one-added scopeWords 4 sized-scope out m (scope (e .a) (parentOf (e .b)) (e .c) (e .d)) (omega arith)))
 
-  pub one-carried : e .sort ≡ 3 → (m + 1) * 3 ≤ length out → Becomes carriedWords (after (carryOf (said e))) out (set (set (set out (m * 3) (e .a)) (m * 3 + 1) (e .b)) (m * 3 + 2) (e .c)) m (m + 1)
+  pub one-carried : e .sort ≡ 3 → (m + 1) * 3 ≤ length out → Becomes 1 carriedWords (after (carryOf (said id e))) out (set (set (set out (m * 3) (e .a)) (m * 3 + 1) (e .b)) (m * 3 + 2) (e .c)) m (m + 1)
   unfolding carryOf carriedWords
   one-carried s h = rw (s, add-one (m * 3), add-two) (one-added carriedWords 3 sized-carried out m (carried (e .a) (e .b) (e .c)) (omega arith))
 
-  pub one-finding : (1 ≤ e .sort → 4 < e .sort) → (m + 1) * 6 ≤ length out → Becomes findingWords (after (findOf (said e))) out (sets out (m * 6) (e .a ∷ e .b ∷ e .c ∷ e .d ∷ 0 ∷ 0 ∷ [])) m (m + 1)
-  one-finding s h = rw (is-finding e s) (one-added findingWords 6 sized-finding out m (finding (e .a) (e .b) (e .c) (e .d) 0 0) (omega arith))
+  pub one-finding : (1 ≤ e .sort → 5 < e .sort) → (m + 1) * 6 ≤ length out → Becomes 1 findingWords (after (findOf (said id e))) out (sets out (m * 6) (e .sort ∷ e .a ∷ e .b ∷ e .c ∷ e .d ∷ e .e ∷ [])) m (m + 1)
+  one-finding s h = rw (is-finding id e s) (one-added findingWords 6 sized-finding out m (finding (e .sort) (e .a) (e .b) (e .c) (e .d) (e .e)) (omega arith))
+
+-- a finding of the kind walk, after m that there are
+pub one-told : (l : List ℕ) (p : ℕ) {out new : List ℕ} {m : ℕ} {w : Logged} → (m + 1) * 6 ≤ length out → w ≡ sixAt l p → new ≡ sets out (m * 6) (w .sort ∷ w .a ∷ w .b ∷ w .c ∷ w .d ∷ w .e ∷ []) → Becomes 1 findingWords (after (findingAt l p ∷ [])) out new m (m + 1)
+one-told l p {out} {new} {m} h e s = rw (s, e) (one-added findingWords 6 sized-finding out m (findingAt l p) (omega arith))
 
 -- a binding and an answer that an event makes
-module _ {out new : List ℕ} {m r : ℕ} (e : Logged) where
-  pub one-binding : e .sort ≡ 2 → Becomes bindingWords (put (bound (e .a) (e .b) (e .c) (e .d))) out new m r → Becomes bindingWords (puts (bindOf (said e))) out new m r
+module _ {out new : List ℕ} {m r : ℕ} (e : Logged) (id : ℕ → ℕ) where
+  pub one-binding : e .sort ≡ 2 → Becomes 1 bindingWords (put (bound (e .a) (e .b) (e .c) (e .d))) out new m r → Becomes 1 bindingWords (puts (bindOf (said id e))) out new m r
   unfolding bindOf puts
   one-binding s h = rw s h
 
-  pub one-missing : e .sort ≡ 4 → e .b ≡ 0 → Becomes recordedWords (note (write (e .a) missing)) out new m r → Becomes recordedWords (notes (answerOf (said e))) out new m r
+  pub one-var : e .sort ≡ 4 → Becomes 1 recordedWords (note (write (e .a) (found (e .a) (e .b) 0))) out new m r → Becomes 1 recordedWords (notes (answerOf (said id e))) out new m r
+  unfolding answerOf notes
+  one-var s h = rw s h
+
+  pub one-missing : e .sort ≡ 5 → e .b ≡ 0 → Becomes 1 recordedWords (note (write (id (e .a)) missing)) out new m r → Becomes 1 recordedWords (notes (answerOf (said id e))) out new m r
   unfolding answerOf notes
   one-missing s b h = rw (s, b) h
 
-  pub one-found : e .sort ≡ 4 → (e .b ≡ 0 → ⊥) → Becomes recordedWords (note (write (e .a) (found (e .c) (e .d) 0))) out new m r → Becomes recordedWords (notes (answerOf (said e))) out new m r
+  pub one-found : e .sort ≡ 5 → (e .b ≡ 0 → ⊥) → Becomes 1 recordedWords (note (write (id (e .a)) (found (e .c) (e .d) 0))) out new m r → Becomes 1 recordedWords (notes (answerOf (said id e))) out new m r
   unfolding answerOf notes
   one-found s b h = rw (s, ne-eqb (e .b) 0 b) h

@@ -8,13 +8,24 @@ use lib.ListN.{length, getD}
 use Rattle.scope.specs.Flat.{entriesOf}
 use Rattle.scope.specs.Graph.{Entry, entry}
 use Rattle.semantics.specs.Log.{Event}
-use Rattle.resolve.specs.Walk.{eventOf}
+use Rattle.steps.specs.Memory.{eventOf}
 use Rattle.checker.specs.Filled.{filled}
 use Rattle.checker.specs.declared.lists.Logged.{Logged}
 
--- the event of five words
-abbrev pub said : Logged → Event
-said e = eventOf (e .sort) (e .a) (e .b) (e .c) (e .d)
+-- the six words from p on, and the event that they are
+abbrev pub sixAt : List ℕ → ℕ → Logged
+sixAt l p =
+    record {
+      sort = getD l p 0;
+      a = getD l (p + 1) 0;
+      b = getD l (p + 2) 0;
+      c = getD l (p + 3) 0;
+      d = getD l (p + 4) 0;
+      e = getD l (p + 5) 0;
+    }
+
+abbrev pub said : (ℕ → ℕ) → Logged → Event
+said id w = eventOf id (w .sort) (w .a) (w .b) (w .c) (w .d) (w .e)
 
 -- a list has m entries, and then what was there
 pub record Holds {A : Type 0} (words : A → List ℕ) (old out : List ℕ) (m : ℕ) (es : List A) : Type 0 where
@@ -22,9 +33,10 @@ pub record Holds {A : Type 0} (words : A → List ℕ) (old out : List ℕ) (m :
   pub wrote : out ≡ filled old (flatMap words es)
   pub kept : length out ≡ length old
 
--- whatever entries a list has, it comes to have f of them, at most one more
-pub record Becomes {A : Type 0} (words : A → List ℕ) (f : List A → List A) (out new : List ℕ) (m r : ℕ) : Type 0 where
-  pub few : r ≤ m + 1
+-- whatever entries a list has, it comes to have f of them, at most k more
+pub record Becomes {A : Type 0} (k : ℕ) (words : A → List ℕ) (f : List A → List A) (out new : List ℕ) (m r : ℕ) : Type 0 where
+  pub few : r ≤ m + k
+  pub kept : length new ≡ length out
   pub holds : (old : List ℕ) (es : List A) → Holds words old out m es → Holds words old new r (f es)
 
 -- new entries come last

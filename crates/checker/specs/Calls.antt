@@ -16,7 +16,7 @@ use Rattle.semantics.specs.Lists.{answerFor}
 use Rattle.theorems.specs.Compare.{blankScope, blankFinding, numberScope, numberEntry, from, moved}
 use Rattle.theorems.specs.Site.{Site, partLog}
 use Rattle.theorems.specs.InLists.{kindsAfter}
-use Rattle.kinds.specs.Walk.{findingsOf}
+use Rattle.finding.specs.Flat.{findingsOf}
 use Rattle.checker.specs.Checked.{Lent, answerIn, leftIn}
 use Rattle.checker.specs.declared.Counts.{Counts}
 use Rattle.checker.specs.declared.Checked.the-variants as checked

@@ -2,7 +2,7 @@
 use Prim.Native.Nat.{ℕ}
 use mathlib.Core.Path.{_≡_}
 use mathlib.Core.Bool.{Bool, true, false, _&&_}
-use mathlib.Core.List.{List, []}
+use mathlib.Core.List.{List}
 use lib.Dec.{leb}
 use lib.ListN.{length}
 use Rattle.words.specs.Words.{words}
@@ -22,6 +22,9 @@ pub record Lent : Type 0 where
   pub carried : List ℕ
   pub recorded : List ℕ
   pub findings : List ℕ
+
+abbrev pub lent : (scopes bindings carried recorded findings : List ℕ) → Lent
+lent a b c d e = record { scopes = a; bindings = b; carried = c; recorded = d; findings = e }
 
 -- cause 8: "a lent list with fewer entries than the sheet has words"
 unfoldable pub roomy : ℕ → Lent → Bool
@@ -77,7 +80,7 @@ abbrev pub findingsIn : Checked → ℕ
 findingsIn (checked.Is c) = c .findings
 findingsIn (checked.Refused n) = 0
 
--- an accepted sheet's lists are filled, and counted
-pub record Fills (warns : Bool) (x : Sheet Statement) (old : Lent) (r : Counts) (new : Lent) : Type 0 where
-  pub counts : checked.Is r ≡ answer warns x true
-  pub lists : new ≡ left warns x true old
+-- a call answers so, and leaves the lists so
+pub record Answers (warns : Bool) (s : List ℕ) (old : Lent) (room : ℕ) (r : Checked) (new : Lent) : Type 0 where
+  pub counts : r ≡ answerIn warns s old room
+  pub lists : new ≡ leftIn warns s old room

@@ -5,7 +5,7 @@ use mathlib.Core.Option.{Option, none, some}
 use lib.ListN.{length, drop}
 use Rattle.scope.specs.Graph.{Scope, scope, Entry, entry, Carried, carried}
 use Rattle.semantics.specs.Log.{Answer, found, missing, Write, write, Finding}
-use Rattle.kinds.specs.Walk.{findingWords}
+use Rattle.finding.specs.Flat.{findingWords}
 
 -- a list that begins with these words, and "entries past a count are untouched"
 unfoldable pub filled : List ℕ → List ℕ → List ℕ

@@ -2,5 +2,6 @@ pub mod Room
 pub mod Filled
 pub mod Adding
 pub mod Checked
+pub mod Said
+pub mod Filling
 pub mod Calls
-pub mod Accepted

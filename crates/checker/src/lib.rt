@@ -3,35 +3,26 @@
 // variable, kind, 1 if it replaced one, the variable replaced or 0), carried 3 (barrier, name, variable), recorded 5 (use id, 1 found or 0
 // unresolved, variable, kind, via_projection), findings 6 (code, start, end, name + 1 or 0, two details).
 mod lists;
-mod passes;
 
-use lists::append_findings;
+use lists::fill_all_findings;
 use lists::fill_bindings;
 use lists::fill_carried;
-use lists::fill_findings;
 use lists::fill_recorded;
 use lists::fill_scopes;
-use passes::kinds_of;
-use passes::log_of;
-use passes::marks_of;
-use sheet::Opened;
-use sheet::Places;
-use sheet::open_in;
+use sheet_walk::Ran;
+use sheet_walk::run;
 use words::count;
+use words::word;
 ghost use mathlib.Core.Path.{_≡_};
 ghost use mathlib.Core.Bool.{true};
-ghost use mathlib.Core.List.{[], _∷_, _++_};
-ghost use Prim.Native.Nat.{_*_, _≤_};
+ghost use Prim.Native.Nat.{_≤_};
 ghost use lib.ListN.{length};
 ghost use Rattle.words.specs.Words.{words};
-ghost use Rattle.tables.specs.Index.{indexOf};
-ghost use Rattle.sheet.specs.Read.{readSheet};
-ghost use Rattle.semantics.specs.Log.{findsIn};
-ghost use Rattle.resolve.specs.Walk.{events};
+ghost use Rattle.sheet_walk.specs.Runs.{warnsBy, wantsBy};
 ghost use Rattle.checker.specs.Room.{enough};
-ghost use Rattle.checker.specs.Filled.{withFindings};
-ghost use Rattle.checker.specs.Accepted.{namesOf, kindsOf, foundIn, Opens, Wide, Named, Placed};
-ghost use Rattle.checker.specs.Checked.{roomy, Fills, answerIn, leftIn, findingsIn};
+ghost use Rattle.checker.specs.Said.{idIn, eventsIn, toldIn, HeardAs};
+ghost use Rattle.checker.specs.Filling.{Fitting, Filling};
+ghost use Rattle.checker.specs.Checked.{lent, roomy, Answers, answerIn, leftIn, findingsIn};
 
 // How many entries the lists have.
 pub struct Counts {
@@ -67,7 +58,7 @@ fn have_room(
     recorded: &[u32],
     findings: &[u32],
 ) -> bool
-    ensures { λ r. ⌜ r ≡ roomy words (record { scopes = now (scopes .entry); bindings = now (bindings .entry); carried = now (carried .entry); recorded = now (recorded .entry); findings = now (findings .entry) }) ⌝ }
+    ensures { λ r. ⌜ r ≡ roomy words (lent (now (scopes .entry)) (now (bindings .entry)) (now (carried .entry)) (now (recorded .entry)) (now (findings .entry))) ⌝ }
 {
     let a = has_room(words, scopes.len(), 4);
     let b = has_room(words, bindings.len(), 6);
@@ -77,67 +68,32 @@ fn have_room(
     a & (b & (c & (d & e)))
 }
 
-// The findings of the log, and after them those of the kinds walk, which takes the log's place.
-fn fill_all_findings(
-    s: &[u8],
-    p: Places,
-    ident: u32,
-    log: &mut [u32],
-    n: usize,
-    out: &mut [u32],
-) -> usize
-    requires { ⌜ (Opens (now s) p × (ident ≡ indexOf (105 ∷ 100 ∷ []) (namesOf (readSheet (now s))))) × (((n * 5 ≤ length (now log)) × Wide 6 (now s) (now log)) × ((n * 6 ≤ length (now out)) × (length (findsIn (events n (now log)) ++ kindsOf (readSheet (now s))) * 6 ≤ length (now out)))) ⌝ }
-    ensures { λ r. ⌜ (r ≡ length (findsIn (events n (now (log .entry))) ++ kindsOf (readSheet (now (s .entry))))) × (now (out .exit) ≡ withFindings (now (out .entry)) (findsIn (events n (now (log .entry))) ++ kindsOf (readSheet (now (s .entry))))) ⌝ }
-{
-    let m = fill_findings(log, n, out);
-    let k = kinds_of(s, p, ident, log);
-    append_findings(log, k, out, m)
+// How much the walks said: events, and findings of the kind walk.
+struct Tally {
+    said: usize,
+    told: usize,
 }
 
-// The findings alone, where the names' places and use ids are known; how many there are. The other two are scratch.
-pub fn findings_of(
-    s: &[u8],
-    p: Places,
-    warns: bool,
-    tab: &[u32],
-    ids: &[u32],
-    vis: &mut [u32],
-    log: &mut [u32],
-    out: &mut [u32],
-) -> usize
-    requires { ⌜ (Opens (now s) p × (Placed (now s) p (now tab) × Named (now s) p (now ids))) × (Wide 2 (now s) (now vis) × (Wide 6 (now s) (now log) × Wide 6 (now s) (now out))) ⌝ }
-    ensures { λ r. ⌜ (r ≡ length (foundIn warns (readSheet (now (s .entry))))) × ((now (out .exit) ≡ withFindings (now (out .entry)) (foundIn warns (readSheet (now (s .entry))))) × (r ≤ length (words (now (s .entry))))) ⌝ }
-{
-    let m = marks_of(s, p, tab);
-    let n = log_of(s, p, m.star, warns, ids, vis, log);
-    fill_all_findings(s, p, m.ident, log, n, out)
-}
-
-// The lists of an accepted sheet, which have room, where the names' places and use ids are known; the other two are scratch.
+// The lists, which have room, from what the walks left; uses has the names' use ids.
 fn fill(
-    s: &[u8],
-    p: Places,
-    warns: bool,
-    tab: &[u32],
-    ids: &[u32],
-    vis: &mut [u32],
-    log: &mut [u32],
+    found: &[u32],
+    t: Tally,
+    uses: &[u32],
     scopes: &mut [u32],
     bindings: &mut [u32],
     carried: &mut [u32],
     recorded: &mut [u32],
     findings: &mut [u32],
 ) -> Counts
-    requires { ⌜ (Opens (now s) p × ((Placed (now s) p (now tab) × Named (now s) p (now ids)) × (Wide 2 (now s) (now vis) × Wide 6 (now s) (now log)))) × (roomy (length (words (now s))) (record { scopes = now scopes; bindings = now bindings; carried = now carried; recorded = now recorded; findings = now findings }) ≡ true) ⌝ }
-    ensures { λ r. ⌜ Fills warns (readSheet (now (s .entry))) (record { scopes = now (scopes .entry); bindings = now (bindings .entry); carried = now (carried .entry); recorded = now (recorded .entry); findings = now (findings .entry) }) r (record { scopes = now (scopes .exit); bindings = now (bindings .exit); carried = now (carried .exit); recorded = now (recorded .exit); findings = now (findings .exit) }) ⌝ }
+    requires { ⌜ Fitting t (now found) (lent (now scopes) (now bindings) (now carried) (now recorded) (now findings)) ⌝ }
+    ensures { λ r. ⌜ Filling (eventsIn (idIn (now (uses .entry))) (t .said) (now (found .entry))) (toldIn (t .told) (now (found .entry))) (lent (now (scopes .entry)) (now (bindings .entry)) (now (carried .entry)) (now (recorded .entry)) (now (findings .entry))) r (lent (now (scopes .exit)) (now (bindings .exit)) (now (carried .exit)) (now (recorded .exit)) (now (findings .exit))) ⌝ }
 {
-    let m = marks_of(s, p, tab);
-    let n = log_of(s, p, m.star, warns, ids, vis, log);
-    let a = fill_scopes(log, n, scopes);
-    let b = fill_bindings(log, n, bindings);
-    let c = fill_carried(log, n, carried);
-    let d = fill_recorded(log, n, recorded);
-    let f = fill_all_findings(s, p, m.ident, log, n, findings);
+    let n = t.said;
+    let a = fill_scopes(found, n, scopes);
+    let b = fill_bindings(found, n, bindings);
+    let c = fill_carried(found, n, carried);
+    let d = fill_recorded(found, n, uses, recorded);
+    let f = fill_all_findings(found, n, t.told, findings);
     Counts {
         scopes: a,
         bindings: b,
@@ -157,14 +113,13 @@ pub fn findings_in(c: Checked) -> usize
     }
 }
 
-// The check call, where the other four are scratch.
-fn check_with(
+// The answer for a sheet that was run, and its lists: its refusal; 8 where one of the lists is short; or they are filled.
+fn answer(
     s: &[u8],
     warns: bool,
-    tab: &mut [u32],
-    ids: &mut [u32],
-    vis: &mut [u32],
-    log: &mut [u32],
+    r: Ran,
+    ids: &[u32],
+    found: &[u32],
     scopes: &mut [u32],
     bindings: &mut [u32],
     carried: &mut [u32],
@@ -172,12 +127,12 @@ fn check_with(
     findings: &mut [u32],
     room: usize,
 ) -> Checked
-    requires { ⌜ (Wide 1 (now s) (now tab) × Wide 1 (now s) (now ids)) × (Wide 2 (now s) (now vis) × Wide 6 (now s) (now log)) ⌝ }
-    ensures { λ r. ⌜ (r ≡ answerIn warns (now (s .entry)) (record { scopes = now (scopes .entry); bindings = now (bindings .entry); carried = now (carried .entry); recorded = now (recorded .entry); findings = now (findings .entry) }) room) × (record { scopes = now (scopes .exit); bindings = now (bindings .exit); carried = now (carried .exit); recorded = now (recorded .exit); findings = now (findings .exit) } ≡ leftIn warns (now (s .entry)) (record { scopes = now (scopes .entry); bindings = now (bindings .entry); carried = now (carried .entry); recorded = now (recorded .entry); findings = now (findings .entry) }) room) ⌝ }
+    requires { ⌜ HeardAs warns (now s) (now ids) (now found) r ⌝ }
+    ensures { λ r. ⌜ Answers warns (now (s .entry)) (lent (now (scopes .entry)) (now (bindings .entry)) (now (carried .entry)) (now (recorded .entry)) (now (findings .entry))) room r (lent (now (scopes .exit)) (now (bindings .exit)) (now (carried .exit)) (now (recorded .exit)) (now (findings .exit))) ⌝ }
 {
-    match open_in(s, tab, ids) {
-        Opened::Refused(c) => Checked::Refused(c),
-        Opened::At(p) => {
+    match r {
+        Ran::Refused(c) => Checked::Refused(c),
+        Ran::Is(said, told) => {
             let n = count(s);
             if !have_room(n, scopes, bindings, carried, recorded, findings) {
                 return Checked::Refused(8);
@@ -185,14 +140,15 @@ fn check_with(
             if room < n {
                 return Checked::Refused(8);
             }
+            let names = word(s, n - 9) as usize;
+            let t = Tally {
+                said: said as usize,
+                told: told as usize,
+            };
             Checked::Is(fill(
-                s,
-                p,
-                warns,
-                tab,
-                ids,
-                vis,
-                log,
+                found,
+                t,
+                &ids[0..names],
                 scopes,
                 bindings,
                 carried,
@@ -201,6 +157,16 @@ fn check_with(
             ))
         }
     }
+}
+
+// Every event is wanted, with warnings or without.
+fn choice_of(warns: bool) -> u32
+    ensures { λ r. ⌜ (warnsBy r ≡ warns) × (wantsBy r ≡ true) ⌝ }
+{
+    if warns {
+        return 3;
+    }
+    2
 }
 
 // With scratch for sheets of up to 64 words.
@@ -215,19 +181,30 @@ fn check_64(
     room: usize,
 ) -> Checked
     requires { ⌜ length (words (now s)) ≤ 64 ⌝ }
-    ensures { λ r. ⌜ (r ≡ answerIn warns (now (s .entry)) (record { scopes = now (scopes .entry); bindings = now (bindings .entry); carried = now (carried .entry); recorded = now (recorded .entry); findings = now (findings .entry) }) room) × (record { scopes = now (scopes .exit); bindings = now (bindings .exit); carried = now (carried .exit); recorded = now (recorded .exit); findings = now (findings .exit) } ≡ leftIn warns (now (s .entry)) (record { scopes = now (scopes .entry); bindings = now (bindings .entry); carried = now (carried .entry); recorded = now (recorded .entry); findings = now (findings .entry) }) room) ⌝ }
+    ensures { λ r. ⌜ Answers warns (now (s .entry)) (lent (now (scopes .entry)) (now (bindings .entry)) (now (carried .entry)) (now (recorded .entry)) (now (findings .entry))) room r (lent (now (scopes .exit)) (now (bindings .exit)) (now (carried .exit)) (now (recorded .exit)) (now (findings .exit))) ⌝ }
 {
-    let mut tab = [0u32; 64];
+    let mut places = [0u32; 64];
     let mut ids = [0u32; 64];
-    let mut vis = [0u32; 128];
-    let mut log = [0u32; 384];
-    check_with(
+    let mut tab = [0u32; 80];
+    let mut vis = [0u32; 88];
+    let mut found = [0u32; 384];
+    let mut held = [0u32; 64];
+    let r = run(
+        s,
+        choice_of(warns),
+        &mut places,
+        &mut ids,
+        &mut tab,
+        &mut vis,
+        &mut found,
+        &mut held,
+    );
+    answer(
         s,
         warns,
-        &mut tab,
-        &mut ids,
-        &mut vis,
-        &mut log,
+        r,
+        &ids,
+        &found,
         scopes,
         bindings,
         carried,
@@ -249,19 +226,30 @@ fn check_256(
     room: usize,
 ) -> Checked
     requires { ⌜ length (words (now s)) ≤ 256 ⌝ }
-    ensures { λ r. ⌜ (r ≡ answerIn warns (now (s .entry)) (record { scopes = now (scopes .entry); bindings = now (bindings .entry); carried = now (carried .entry); recorded = now (recorded .entry); findings = now (findings .entry) }) room) × (record { scopes = now (scopes .exit); bindings = now (bindings .exit); carried = now (carried .exit); recorded = now (recorded .exit); findings = now (findings .exit) } ≡ leftIn warns (now (s .entry)) (record { scopes = now (scopes .entry); bindings = now (bindings .entry); carried = now (carried .entry); recorded = now (recorded .entry); findings = now (findings .entry) }) room) ⌝ }
+    ensures { λ r. ⌜ Answers warns (now (s .entry)) (lent (now (scopes .entry)) (now (bindings .entry)) (now (carried .entry)) (now (recorded .entry)) (now (findings .entry))) room r (lent (now (scopes .exit)) (now (bindings .exit)) (now (carried .exit)) (now (recorded .exit)) (now (findings .exit))) ⌝ }
 {
-    let mut tab = [0u32; 256];
+    let mut places = [0u32; 256];
     let mut ids = [0u32; 256];
-    let mut vis = [0u32; 512];
-    let mut log = [0u32; 1536];
-    check_with(
+    let mut tab = [0u32; 272];
+    let mut vis = [0u32; 344];
+    let mut found = [0u32; 1536];
+    let mut held = [0u32; 256];
+    let r = run(
+        s,
+        choice_of(warns),
+        &mut places,
+        &mut ids,
+        &mut tab,
+        &mut vis,
+        &mut found,
+        &mut held,
+    );
+    answer(
         s,
         warns,
-        &mut tab,
-        &mut ids,
-        &mut vis,
-        &mut log,
+        r,
+        &ids,
+        &found,
         scopes,
         bindings,
         carried,
@@ -283,19 +271,30 @@ fn check_1024(
     room: usize,
 ) -> Checked
     requires { ⌜ length (words (now s)) ≤ 1024 ⌝ }
-    ensures { λ r. ⌜ (r ≡ answerIn warns (now (s .entry)) (record { scopes = now (scopes .entry); bindings = now (bindings .entry); carried = now (carried .entry); recorded = now (recorded .entry); findings = now (findings .entry) }) room) × (record { scopes = now (scopes .exit); bindings = now (bindings .exit); carried = now (carried .exit); recorded = now (recorded .exit); findings = now (findings .exit) } ≡ leftIn warns (now (s .entry)) (record { scopes = now (scopes .entry); bindings = now (bindings .entry); carried = now (carried .entry); recorded = now (recorded .entry); findings = now (findings .entry) }) room) ⌝ }
+    ensures { λ r. ⌜ Answers warns (now (s .entry)) (lent (now (scopes .entry)) (now (bindings .entry)) (now (carried .entry)) (now (recorded .entry)) (now (findings .entry))) room r (lent (now (scopes .exit)) (now (bindings .exit)) (now (carried .exit)) (now (recorded .exit)) (now (findings .exit))) ⌝ }
 {
-    let mut tab = [0u32; 1024];
+    let mut places = [0u32; 1024];
     let mut ids = [0u32; 1024];
-    let mut vis = [0u32; 2048];
-    let mut log = [0u32; 6144];
-    check_with(
+    let mut tab = [0u32; 1040];
+    let mut vis = [0u32; 1368];
+    let mut found = [0u32; 6144];
+    let mut held = [0u32; 1024];
+    let r = run(
+        s,
+        choice_of(warns),
+        &mut places,
+        &mut ids,
+        &mut tab,
+        &mut vis,
+        &mut found,
+        &mut held,
+    );
+    answer(
         s,
         warns,
-        &mut tab,
-        &mut ids,
-        &mut vis,
-        &mut log,
+        r,
+        &ids,
+        &found,
         scopes,
         bindings,
         carried,
@@ -317,19 +316,30 @@ fn check_2048(
     room: usize,
 ) -> Checked
     requires { ⌜ length (words (now s)) ≤ 2048 ⌝ }
-    ensures { λ r. ⌜ (r ≡ answerIn warns (now (s .entry)) (record { scopes = now (scopes .entry); bindings = now (bindings .entry); carried = now (carried .entry); recorded = now (recorded .entry); findings = now (findings .entry) }) room) × (record { scopes = now (scopes .exit); bindings = now (bindings .exit); carried = now (carried .exit); recorded = now (recorded .exit); findings = now (findings .exit) } ≡ leftIn warns (now (s .entry)) (record { scopes = now (scopes .entry); bindings = now (bindings .entry); carried = now (carried .entry); recorded = now (recorded .entry); findings = now (findings .entry) }) room) ⌝ }
+    ensures { λ r. ⌜ Answers warns (now (s .entry)) (lent (now (scopes .entry)) (now (bindings .entry)) (now (carried .entry)) (now (recorded .entry)) (now (findings .entry))) room r (lent (now (scopes .exit)) (now (bindings .exit)) (now (carried .exit)) (now (recorded .exit)) (now (findings .exit))) ⌝ }
 {
-    let mut tab = [0u32; 2048];
+    let mut places = [0u32; 2048];
     let mut ids = [0u32; 2048];
-    let mut vis = [0u32; 4096];
-    let mut log = [0u32; 12288];
-    check_with(
+    let mut tab = [0u32; 2064];
+    let mut vis = [0u32; 2734];
+    let mut found = [0u32; 12288];
+    let mut held = [0u32; 2048];
+    let r = run(
+        s,
+        choice_of(warns),
+        &mut places,
+        &mut ids,
+        &mut tab,
+        &mut vis,
+        &mut found,
+        &mut held,
+    );
+    answer(
         s,
         warns,
-        &mut tab,
-        &mut ids,
-        &mut vis,
-        &mut log,
+        r,
+        &ids,
+        &found,
         scopes,
         bindings,
         carried,
@@ -350,7 +360,7 @@ fn check_large(
     findings: &mut [u32],
     room: usize,
 ) -> Checked
-    ensures { λ r. ⌜ (r ≡ answerIn warns (now (s .entry)) (record { scopes = now (scopes .entry); bindings = now (bindings .entry); carried = now (carried .entry); recorded = now (recorded .entry); findings = now (findings .entry) }) room) × (record { scopes = now (scopes .exit); bindings = now (bindings .exit); carried = now (carried .exit); recorded = now (recorded .exit); findings = now (findings .exit) } ≡ leftIn warns (now (s .entry)) (record { scopes = now (scopes .entry); bindings = now (bindings .entry); carried = now (carried .entry); recorded = now (recorded .entry); findings = now (findings .entry) }) room) ⌝ }
+    ensures { λ r. ⌜ Answers warns (now (s .entry)) (lent (now (scopes .entry)) (now (bindings .entry)) (now (carried .entry)) (now (recorded .entry)) (now (findings .entry))) room r (lent (now (scopes .exit)) (now (bindings .exit)) (now (carried .exit)) (now (recorded .exit)) (now (findings .exit))) ⌝ }
 {
     if s.len() <= 4096 {
         return check_1024(

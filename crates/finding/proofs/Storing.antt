@@ -8,7 +8,7 @@ use lib.ListN.{length, getD, set, take, drop, length-set, length-map}
 use lib.Seq.{length-take-le, take-length, take-suc, drop-cons, append-snoc, set-at, length-sets}
 use Rattle.semantics.specs.Log.{finding}
 use Rattle.semantics.specs.Log as log
-use Rattle.kinds.specs.Walk.{findingWords}
+use Rattle.finding.specs.Flat.{findingWords}
 use Rattle.finding.specs.declared.Finding.{Finding}
 use Rattle.finding.specs.Records.{nothing, nth, recordOf, recordAt, into, wordsOf, outOf, withRecords}
 

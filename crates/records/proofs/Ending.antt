@@ -12,7 +12,7 @@ use Rattle.words.specs.Words.{words}
 use Rattle.words.proofs.Words.{length-words}
 use Rattle.semantics.specs.Lists.{findings}
 use Rattle.theorems.proofs.Sizes.{fits}
-use Rattle.kinds.specs.Walk.{findingWords}
+use Rattle.finding.specs.Flat.{findingWords}
 use Rattle.sheet.specs.Statement.{Statement}
 use Rattle.sheet.specs.Read.{Sheet, accepted, refused, readSheet}
 use Rattle.sheet.proofs.Placing.{both}

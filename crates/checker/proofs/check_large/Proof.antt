@@ -1,11 +1,8 @@
 -- Scratch for as many words as the sheet's bytes make, and a sheet that is longer is refused by cause 1.
 use borrow.Author.Needs.{needs}
 use native.Mathlib.Omega.{arith}
-use mathlib.Core.Path.{refl}
 use Rattle.words.proofs.Words.{length-words}
-use Rattle.sheet.proofs.Placing.{too-long}
-use Rattle.sheet.proofs.Whole.{places-refused}
-use Rattle.checker.proofs.Finishing.{refused-answer}
+use Rattle.checker.proofs.Finishing.{long-answer}
 use Rattle.checker.proofs.check_large.Statement.{statement}
 use Rattle.checker.proofs.check_large.Tie as tie
 
@@ -21,4 +18,4 @@ check-large-spec =
     (λ c. search needs)  -- returns-2
     (λ c.  -- returns-3
     let s = c .before .before .before .before .before .before .before .before in
-    refused-answer (s .args .warns) (s .args .s .now) _ (s .args .room) (places-refused _ refl (too-long _ (c .if2 .left)))))
+    long-answer (s .args .warns) (s .args .s .now) _ (s .args .room) (c .if2 .left)))

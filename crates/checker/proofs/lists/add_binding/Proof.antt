@@ -8,12 +8,12 @@ use Rattle.checker.proofs.lists.add_binding.Tie as tie
 
 returns : tie.Need-returns
 unfolding puts
-returns c = none-added (λ es. rw (no-binding (c .before .before .before .args .e) (c .if1 .taken)))
+returns c id = none-added (λ es. rw (no-binding id (c .before .before .before .args .e) (c .if1 .taken)))
 
 returns-2 : tie.Need-returns-2
-returns-2 c =
+returns-2 c id =
     let k = c .before .before .before .before in
-    one-binding (k .before .before .before .args .e) (k .if1 .left) (c .before .before .put-binding .ensures)
+    one-binding (k .before .before .before .args .e) id (k .if1 .left) (c .before .before .put-binding .ensures)
 
 pub add-binding-spec : {M : Type 1} → statement M
 add-binding-spec =

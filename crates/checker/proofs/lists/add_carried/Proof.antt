@@ -11,7 +11,7 @@ pub add-carried-spec : {M : Type 1} → statement M
 add-carried-spec =
     tie.close
     (tie.spec
-    (λ c. none-after (no-carried (c .before .before .args .e) (c .if1 .taken)))  -- returns
+    (λ c id. none-after (no-carried id (c .before .before .args .e) (c .if1 .taken)))  -- returns
     (λ c. search needs)  -- mul-q
     (λ c. search needs)  -- mul-out
     (λ c. search needs)  -- slice-write-out
@@ -23,4 +23,4 @@ add-carried-spec =
     (λ c. simp length-set (omega arith))  -- slice-write-out-3
     (λ c. search needs)  -- add-result
     (λ c. search needs)  -- same-length
-    (λ c. one-carried _ _ (c .before .before .args .e) (c .if1 .left) (c .before .before .pre)))  -- returns-2
+    (λ c id. one-carried _ _ (c .before .before .args .e) id (c .if1 .left) (c .before .before .pre)))  -- returns-2

@@ -8,10 +8,10 @@ use Rattle.checker.proofs.lists.add_finding.Statement.{statement}
 use Rattle.checker.proofs.lists.add_finding.Tie as tie
 
 returns-2 : tie.Need-returns-2
-returns-2 c =
+returns-2 c id =
     let k = c .before .before .before .before in
     let a = k .before .before in
-    rw (c .before .before .set-six .ensures) (one-finding _ _ (a .args .e) (⊎-elim (λ w l. omega arith) (λ w l. omega arith) (k .if1 .came)) (a .pre))
+    rw (c .before .before .set-six .ensures) (one-finding _ _ (a .args .e) id (⊎-elim (λ w l. omega arith) (λ w l. omega arith) (k .if1 .came)) (a .pre))
 
 pub add-finding-spec : {M : Type 1} → statement M
 add-finding-spec =
@@ -19,6 +19,6 @@ add-finding-spec =
     (tie.spec
     (λ c κs. search needs)  -- set-six-requires
     (λ c. search needs)  -- add-result
-    (λ c. none-after (no-finding (c .before .before .before .args .e) (omega arith) (omega arith)))  -- returns
+    (λ c id. none-after (no-finding id (c .before .before .before .args .e) (omega arith) (omega arith)))  -- returns
     (λ c. search needs)  -- same-length
     returns-2)

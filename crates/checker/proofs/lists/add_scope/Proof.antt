@@ -11,7 +11,7 @@ pub add-scope-spec : {M : Type 1} → statement M
 add-scope-spec =
     tie.close
     (tie.spec
-    (λ c. none-after (no-scope (c .before .before .args .e) (c .if1 .taken)))  -- returns
+    (λ c id. none-after (no-scope id (c .before .before .args .e) (c .if1 .taken)))  -- returns
     (λ c. search needs)  -- mul-q
     (λ c. search needs)  -- mul-out
     (λ c. search needs)  -- slice-write-out
@@ -26,4 +26,4 @@ add-scope-spec =
     (λ c. simp length-set (omega arith))  -- slice-write-out-4
     (λ c. search needs)  -- add-result
     (λ c. search needs)  -- same-length
-    (λ c. one-scope _ _ (c .before .before .args .e) (c .if1 .left) (c .before .before .pre)))  -- returns-2
+    (λ c id. one-scope _ _ (c .before .before .args .e) id (c .if1 .left) (c .before .before .pre)))  -- returns-2

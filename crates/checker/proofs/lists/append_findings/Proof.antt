@@ -1,48 +1,43 @@
--- The loop's invariant: the first i findings of the other list are stored.
-use Prim.Native.Nat.{_≤_, _-_}
+-- The loop's invariant: the first i findings stand after those that there were.
+use Prim.Native.Nat.{suc, _-_, _*_}
 use native.Mathlib.Omega.{arith}
-use Rattle.checker.proofs.Appending.{Appended, begun, turned, kept, ended}
+use mathlib.Core.List.{append-nil}
+use lib.ListN.{length}
+use Rattle.steps.specs.Memory.{findings}
+use Rattle.finding.specs.Flat.{findingWords}
+use Rattle.checker.specs.Said.{toldIn}
+use Rattle.checker.specs.Adding.{after}
+use Rattle.checker.proofs.Adding.{Loop, begin, turn, finish, told-after}
+use Rattle.checker.proofs.Sorts.{one-told}
 use Rattle.checker.proofs.lists.append_findings.Statement.{statement}
 use Rattle.checker.proofs.lists.append_findings.Tie as tie
 
 abbrev Inv-loop : tie.InvT-loop
-Inv-loop from k out₀ m i₀ n₀ out i n = (i ≤ k) × Appended from out₀ out m i n
+Inv-loop found k out₀ m i₀ n₀ out i n = Loop findingWords (λ id j. after (toldIn j found)) k m out₀ out i n
 
 abbrev μ-loop : tie.MeasureT-loop
-μ-loop from k out₀ m i₀ n₀ out i n = k - i
+μ-loop found k out₀ m i₀ n₀ out i n = k - i
+
+loop-again : tie.Need-loop-again Inv-loop μ-loop
+loop-again c =
+    let t = c .before .before .before .before in
+    let k = t .before .before in
+    let l = k .before .before .before .args .found .now in
+    turn (k .loop .inv) (t .before .loop-test .taken) (λ id. one-told l (length l - suc (k .loop .i) * 6) (omega (arith, k .loop .inv .kept, k .loop .inv .few)) (t .told-at .ensures) (c .before .before .set-six .ensures)) (λ id es. told-after _ _ es)
 
 pub append-findings-spec : {M : Type 1} → statement M
+unfolding toldIn findings
 append-findings-spec =
     tie.close
     (tie.spec
     Inv-loop
     μ-loop
-    (λ c. (omega arith, begun _ _ _))  -- loop-holds
-    (λ c. omega arith)  -- mul-p
-    (λ c. omega arith)  -- mul-push
-    (λ c. omega arith)  -- shared-slice-read-push
-    (λ c. omega arith)  -- add-push
-    (λ c. omega arith)  -- mul-push-2
-    (λ c. omega arith)  -- shared-slice-read-push-2
-    (λ c. omega arith)  -- add-push-2
-    (λ c. omega arith)  -- mul-push-3
-    (λ c. omega arith)  -- shared-slice-read-push-3
-    (λ c. omega arith)  -- add-push-3
-    (λ c. omega arith)  -- mul-push-4
-    (λ c. omega arith)  -- shared-slice-read-push-4
-    (λ c. omega arith)  -- add-push-4
-    (λ c. omega arith)  -- mul-push-5
-    (λ c. omega arith)  -- shared-slice-read-push-5
-    (λ c. omega arith)  -- add-push-5
-    (λ c. omega arith)  -- mul-push-6
-    (λ c. omega arith)  -- shared-slice-read-push-6
-    (λ c κs.  -- push-requires
-    let k = c .before .before .before .before .before .before .before .before in
-    omega (arith, kept (k .loop .inv .1), k .loop .inv .1 .count))
+    (λ c. begin (λ id es. append-nil es))  -- loop-holds
+    (λ c κs. omega arith)  -- told-at-requires
+    (λ c κs. omega arith)  -- set-six-requires
+    (λ c. omega arith)  -- add-n
     (λ c. omega arith)  -- add-i
     (λ c. omega arith)  -- loop-less
-    (λ c.  -- loop-again
-    let k = c .before .before .before .before .before .before .before .before .before .before .before in
-    (omega arith, turned (k .loop .inv .1) (c .before .before .push .ensures)))
-    (λ c. kept (c .before .loop .inv .1))  -- same-length
-    (λ c. let l = c .before .loop .inv in ended (l .0) (omega arith) (l .1)))  -- returns
+    loop-again
+    (λ c. c .before .loop .inv .kept)  -- same-length
+    (λ c. finish (c .before .loop .inv) (c .loop-test .left) (λ x. x)))  -- returns
