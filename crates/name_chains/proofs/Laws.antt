@@ -133,6 +133,10 @@ pub record Stands (s places : List ℕ) (m n : ℕ) (chains x : List ℕ) (b i :
   pub sought : Sought s places m n chains x b
   pub walked : Walked (sought .slot) s places x n i
 
+-- a text's slot is one of them
+pub slot-in : {slot : List ℕ → ℕ} {s places : List ℕ} {m n : ℕ} {chains x : List ℕ} {b : ℕ} → Hung slot s places m n chains → b ≡ slot x → b < m
+slot-in {slot} {s} {places} {m} {n} {chains} {x} w e = rw e (w .below x)
+
 -- one name more, in the slot b
 pub one-more : {slot : List ℕ → ℕ} {s places : List ℕ} {m n : ℕ} {old : List ℕ} (b : ℕ) → Hung slot s places m n old → m + n < length old → b ≡ slotIn slot s places n → Hung slot s places m (suc n) (set (set old (m + n) (getD old b 0)) b (n + 1))
 one-more {slot} {s} {places} {m} {n} {old} b w r e =
