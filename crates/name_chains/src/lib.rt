@@ -47,8 +47,7 @@ fn slot(x: &[u8], mult: u32, m: usize) -> usize
 }
 
 // A multiplier, made from the words of the section: few names need none of their own. Whoever writes all of them can still choose it.
-fn mult_for(s: &[u8], n: usize) -> u32
-{
+fn mult_for(s: &[u8], n: usize) -> u32 {
     if n <= 16 {
         return 2654435769;
     }
