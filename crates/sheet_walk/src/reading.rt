@@ -124,7 +124,14 @@ fn settle(s: &[u8], p: Places, choice: u32, places: &[u32], tab: &mut [u32])
 }
 
 // All of them: 0, or the refusal's number.
-pub fn read_tables(s: &[u8], p: Places, choice: u32, places: &mut [u32], ids: &mut [u32], tab: &mut [u32]) -> u32
+pub fn read_tables(
+    s: &[u8],
+    p: Places,
+    choice: u32,
+    places: &mut [u32],
+    ids: &mut [u32],
+    tab: &mut [u32],
+) -> u32
     requires { ⌜ ((locate (now s) ≡ accepted p) × Roomy (now s) (now places) (now ids)) × Clear (length (words (now s))) (now tab) ⌝ }
     ensures { λ r. ⌜ ReadsTables (now (s .entry)) p choice (now (places .exit)) (now (ids .exit)) (now (tab .exit)) r ⌝ }
 {
