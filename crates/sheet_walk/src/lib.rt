@@ -61,7 +61,7 @@ pub fn run(
         }
         Opened::At(p) => p,
     };
-    let c = read_tables(s, p, choice, places, ids, tab);
+    let c = read_tables(s, p, choice, places, ids, tab, held);
     if c != 0 {
         return Ran::Refused(c);
     }
