@@ -16,6 +16,9 @@ ghost use Rattle.sheet.specs.Answer.{Tabled};
 ghost use Rattle.name_chains.specs.Slot.{hashOf, slotOf};
 ghost use Rattle.name_chains.specs.Hung.{Cleared, Slots, Hung, Sought, Hangs};
 
+// So few names are compared each with all before it, by their use ids first.
+const FEW: u32 = 8;
+
 // a times b modulo 2^32, over the wider product.
 fn times(a: u32, b: u32) -> u32
     ensures { λ r. ⌜ r ≡ (a * b) % 2 ^ 32 ⌝ }
@@ -175,7 +178,7 @@ pub fn are_names(s: &[u8], n: u32, tab: &mut [u32], ids: &mut [u32], chains: &mu
     if p < s.len() {
         return false;
     }
-    if n <= 8 {
+    if n <= FEW {
         return distinct_names(s, tab, ids, n as usize);
     }
     distinct_by_chains(s, tab, n as usize, chains)
