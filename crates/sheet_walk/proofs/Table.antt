@@ -58,7 +58,7 @@ module _ {w : ℕ} {tab : List ℕ} (mult shift : ℕ) (c : Clear w tab) where
       let l = drop (length xs - 16) (drop 16 xs) in
       let z : l ≡ [] = drop-none (drop 16 xs) (length xs - 16) (omega (arith, length-drop 16 xs)) in
       let chains : drop 16 (take 16 xs ++ (new ++ l)) ≡ new =
-        drop-at (take 16 xs) (new ++ l) 16 (length-take-le 16 xs (omega (arith, hashed-long tab mult shift, c .long))) ∙ ap (λ (k : List ℕ). new ++ k) z ∙ append-nil new in
+      drop-at (take 16 xs) (new ++ l) 16 (length-take-le 16 xs (omega (arith, hashed-long tab mult shift, c .long))) ∙ ap (λ (k : List ℕ). new ++ k) z ∙ append-nil new in
       let first : getD (take 16 xs ++ (new ++ l)) 7 0 ≡ mult = front (new ++ l) 7 (omega arith) ∙ getD-set-other (set tab 7 mult) 8 7 shift 0 (λ e. omega arith) ∙ getD-set-same tab 7 mult 0 (omega (arith, c .long)) in
       let second : getD (take 16 xs ++ (new ++ l)) 8 0 ≡ shift = front (new ++ l) 8 (omega arith) ∙ getD-set-same (set tab 7 mult) 8 shift 0 (omega (arith, c .long, length-set tab 7 mult)) in
       record { same = x .same; hung = λ e. rw (first, second, chains) (x .hung e) }

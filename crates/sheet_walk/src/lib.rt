@@ -2,13 +2,13 @@
 mod reading;
 mod walking;
 
-use walking::walk_both;
+use reading::read_tables;
 use sheet::Opened;
 use sheet::Places;
 use sheet::find_places;
 use steps::SAID;
 use steps::TOLD;
-use reading::read_tables;
+use walking::walk_both;
 ghost use lib.ListN.{length};
 ghost use Rattle.words.specs.Words.{words};
 ghost use Rattle.sheet_walk.specs.Runs.{Scratch, Runs};
@@ -21,7 +21,14 @@ pub enum Ran {
 }
 
 // The head and the arms, with the walks' own numbers.
-fn walk_all(s: &[u8], p: Places, tab: &[u32], vis: &mut [u32], found: &mut [u32], held: &mut [u32]) -> Ran
+fn walk_all(
+    s: &[u8],
+    p: Places,
+    tab: &[u32],
+    vis: &mut [u32],
+    found: &mut [u32],
+    held: &mut [u32],
+) -> Ran
     requires { ⌜ Lent (now s) p (now tab) (now vis) (now found) (now held) × Unseen (now vis) ⌝ }
     ensures { λ r. ⌜ RanBoth (now (s .entry)) p (now (tab .entry)) (now (found .entry)) (now (found .exit)) r ⌝ }
 {
@@ -35,7 +42,16 @@ fn walk_all(s: &[u8], p: Places, tab: &[u32], vis: &mut [u32], found: &mut [u32]
 }
 
 // The whole sheet. The lent words are scratch, but for the places of the names, their use ids, and what was found.
-pub fn run(s: &[u8], choice: u32, places: &mut [u32], ids: &mut [u32], tab: &mut [u32], vis: &mut [u32], found: &mut [u32], held: &mut [u32]) -> Ran
+pub fn run(
+    s: &[u8],
+    choice: u32,
+    places: &mut [u32],
+    ids: &mut [u32],
+    tab: &mut [u32],
+    vis: &mut [u32],
+    found: &mut [u32],
+    held: &mut [u32],
+) -> Ran
     requires { ⌜ Scratch (length (words (now s))) (now places) (now ids) (now tab) (now vis) (now found) (now held) ⌝ }
     ensures { λ r. ⌜ Runs choice (now (s .entry)) (now (places .entry)) (now (ids .entry)) (now (found .entry)) (now (places .exit)) (now (ids .exit)) (now (found .exit)) r ⌝ }
 {
@@ -45,7 +61,7 @@ pub fn run(s: &[u8], choice: u32, places: &mut [u32], ids: &mut [u32], tab: &mut
         }
         Opened::At(p) => p,
     };
-    let c = read_tables(s, p, choice, places, ids, tab);
+    let c = read_tables(s, p, choice, places, ids, tab, held);
     if c != 0 {
         return Ran::Refused(c);
     }

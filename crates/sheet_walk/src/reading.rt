@@ -1,9 +1,9 @@
 // The tables of a sheet: its names and their use ids, its bindings hung up in chains, and what the walks go by besides. Causes 3 and 4.
 use heads::Read;
+use name_chains::are_names;
 use rows::index_rows;
 use rows::mult_of;
 use sheet::Places;
-use sheet::are_names;
 use steps::BINDINGS;
 use steps::CHAINS;
 use steps::IDENT;
@@ -61,14 +61,14 @@ fn slots_for(names: u32) -> u32
     names
 }
 
-// The names: where they stand and their use ids; whether they are right.
-fn names_of(s: &[u8], p: Places, places: &mut [u32], ids: &mut [u32]) -> bool
-    requires { ⌜ InPlaces (now s) p × Roomy (now s) (now places) (now ids) ⌝ }
+// The names: where they stand and their use ids; whether they are right. The last words are scratch.
+fn names_of(s: &[u8], p: Places, places: &mut [u32], ids: &mut [u32], held: &mut [u32]) -> bool
+    requires { ⌜ InPlaces (now s) p × (Roomy (now s) (now places) (now ids) × (length (words (now s)) ≤ length (now held))) ⌝ }
     ensures { λ r. ⌜ Tabled (p .names) (take (p .rows * 4) (now (s .entry))) (now (places .exit)) (now (ids .exit)) r ⌝ }
 {
     let rows = p.rows;
     let e = rows * 4;
-    are_names(&s[0..e], p.names, places, ids)
+    are_names(&s[0..e], p.names, places, ids, held)
 }
 
 // The n bindings from the word `rows` on, all before the word `head`, hung up in chains; whether their variables are distinct.
@@ -123,12 +123,20 @@ fn settle(s: &[u8], p: Places, choice: u32, places: &[u32], tab: &mut [u32])
     tab[WANTS] = choice / 2 % 2;
 }
 
-// All of them: 0, or the refusal's number.
-pub fn read_tables(s: &[u8], p: Places, choice: u32, places: &mut [u32], ids: &mut [u32], tab: &mut [u32]) -> u32
-    requires { ⌜ ((locate (now s) ≡ accepted p) × Roomy (now s) (now places) (now ids)) × Clear (length (words (now s))) (now tab) ⌝ }
+// All of them: 0, or the refusal's number. The last words are scratch.
+pub fn read_tables(
+    s: &[u8],
+    p: Places,
+    choice: u32,
+    places: &mut [u32],
+    ids: &mut [u32],
+    tab: &mut [u32],
+    held: &mut [u32],
+) -> u32
+    requires { ⌜ ((locate (now s) ≡ accepted p) × (Roomy (now s) (now places) (now ids) × (length (words (now s)) ≤ length (now held)))) × Clear (length (words (now s))) (now tab) ⌝ }
     ensures { λ r. ⌜ ReadsTables (now (s .entry)) p choice (now (places .exit)) (now (ids .exit)) (now (tab .exit)) r ⌝ }
 {
-    if !names_of(s, p, places, ids) {
+    if !names_of(s, p, places, ids, held) {
         return 3;
     }
     if !rows_of(s, p, tab) {

@@ -20,7 +20,15 @@ fn begin(s: &[u8], p: Places, tab: &[u32], m: &mut [u32], vis: &[u32], found: &m
 }
 
 // The head: 0, or the refusal's number.
-fn walk_head(s: &[u8], p: Places, tab: &[u32], m: &mut [u32], vis: &mut [u32], found: &mut [u32], held: &mut [u32]) -> u32
+fn walk_head(
+    s: &[u8],
+    p: Places,
+    tab: &[u32],
+    m: &mut [u32],
+    vis: &mut [u32],
+    found: &mut [u32],
+    held: &mut [u32],
+) -> u32
     requires { ⌜ Lent (now s) p (now tab) (now vis) (now found) (now held) × Stands (words (now s)) (now tab) (now m) (now vis) (now found) (p .head) (p .tail) ⌝ }
     ensures { λ r. ⌜ Walks (words (now (s .entry))) (now (tab .entry)) (now (m .entry)) (now (vis .entry)) (now (found .entry)) (now (m .exit)) (now (vis .exit)) (now (found .exit)) (p .tail) (headIn (words (now (s .entry))) p (now (tab .entry))) r ⌝ }
 {
@@ -37,7 +45,15 @@ fn walk_head(s: &[u8], p: Places, tab: &[u32], m: &mut [u32], vis: &mut [u32], f
 }
 
 // The arms: 0, or the refusal's number.
-fn walk_tail(s: &[u8], p: Places, tab: &[u32], m: &mut [u32], vis: &mut [u32], found: &mut [u32], held: &mut [u32]) -> u32
+fn walk_tail(
+    s: &[u8],
+    p: Places,
+    tab: &[u32],
+    m: &mut [u32],
+    vis: &mut [u32],
+    found: &mut [u32],
+    held: &mut [u32],
+) -> u32
     requires { ⌜ Lent (now s) p (now tab) (now vis) (now found) (now held) × Stands (words (now s)) (now tab) (now m) (now vis) (now found) (p .tail) (p .trailer) ⌝ }
     ensures { λ r. ⌜ Walks (words (now (s .entry))) (now (tab .entry)) (now (m .entry)) (now (vis .entry)) (now (found .entry)) (now (m .exit)) (now (vis .exit)) (now (found .exit)) (p .trailer) (armsIn (words (now (s .entry))) p (now (tab .entry))) r ⌝ }
 {
@@ -54,7 +70,15 @@ fn walk_tail(s: &[u8], p: Places, tab: &[u32], m: &mut [u32], vis: &mut [u32], f
 }
 
 // The head and the arms; then whether every binder had a row. 0, or the refusal's number.
-pub fn walk_both(s: &[u8], p: Places, tab: &[u32], m: &mut [u32], vis: &mut [u32], found: &mut [u32], held: &mut [u32]) -> u32
+pub fn walk_both(
+    s: &[u8],
+    p: Places,
+    tab: &[u32],
+    m: &mut [u32],
+    vis: &mut [u32],
+    found: &mut [u32],
+    held: &mut [u32],
+) -> u32
     requires { ⌜ Lent (now s) p (now tab) (now vis) (now found) (now held) × Fresh (now m) (now vis) ⌝ }
     ensures { λ r. ⌜ WalksBoth (now (s .entry)) p (now (tab .entry)) (now (found .entry)) (now (m .exit)) (now (vis .exit)) (now (found .exit)) r ⌝ }
 {
