@@ -29,7 +29,6 @@ ghost use mathlib.Core.List.{List, []};
 ghost use Prim.Native.Nat.{ℕ, _+_, _*_, _≤_};
 ghost use lib.ListN.{length, getD};
 ghost use Rattle.words.specs.Words.{words};
-ghost use Rattle.clauses.specs.Tree.{match, create, merge};
 ghost use Rattle.steps.specs.Memory.{modeOf};
 ghost use Rattle.steps.specs.Hold.{Ready};
 ghost use Rattle.clause_walk.specs.Passes.{Held, Passes, outputsAt, countedAt, markedAt, scopeAt, matchAt, yieldAt, returnAt, unwindAt, yieldsAt, callAt, bodyAt, clauseAt, clausesAt, armAt, armsAt};
