@@ -5,7 +5,8 @@
 -- Steps of which nothing is to be done (`idle-as`), of findings alone (`none-told`, `one-told`, `as-kinds`), and in a mode in which one of
 -- the walks looks or does not (`checked-step`, `unchecked-step`, `resolved-step`, `unresolved-step`).
 -- A use of a variable: `var-said`, `var-unresolved`, `quiet-use`, `rowless-use`, `checked-use`, `unchecked-use`. Of a name: `unwanted-name`,
--- `missing-name`, `found-name`; then E1001, `missed-use`, `star-use`, `seen-use`. A head by its act: `named-act`, `ready-act`, `by-act`.
+-- `missing-name`, `found-name`; then E1001, `missed-use`, `star-use`, `seen-use`. A head by its act: `named-act`, `ready-act`, `by-act`; after
+-- its parts, `closed-fits`, `closed-frame`, `closed-stays`, `closed-holds`.
 use Prim.Native.Nat.{ℕ, zero, suc, _+_, _-_, _%_, _/_, _<_, _≤_}
 use native.Mathlib.Numerals.{add-one}
 use native.Mathlib.Omega.{arith}
@@ -22,17 +23,18 @@ use Rattle.heads.specs.declared.Form.the-variants.{Leaf, Var, Unresolved, Prop,
 use Rattle.tables.specs.Row.{Row, row}
 use Rattle.semantics.specs.Log.{Finding, finding, find}
 use Rattle.semantics.specs.World.{World, rowKind, kindOf}
-use Rattle.semantics.specs.Resolve.{State, lookup, say, sayIf, useVar, useName}
+use Rattle.semantics.specs.Resolve.{State, lookup, say, sayIf, leave, useVar, useName}
 use Rattle.semantics.specs.Kinds.{Setting, general, arithmetic, property, boolean, listed, both, passes, atType, atRow}
-use Rattle.fused.specs.Fused.{Both, Mode, when, told, step, same, nameUse, headOf}
+use Rattle.fused.specs.Fused.{Both, Mode, when, told, step, same, left, tailOf, nameUse, headOf}
 use Rattle.visible.specs.Visible.{answer, seens, Tabled}
 use Rattle.visible.specs.declared.Found.the-variants as found'
 use Rattle.visible.proofs.Names.{zero-unseen, unseen-zero}
-use Rattle.steps.specs.Memory.{topOf, slotsIn, starIn, wantsIn, kept, worldAt, settingOf, firstOf, modeOf, quiet}
-use Rattle.steps.specs.Hold.{Holds, Steps, Ready, Says, SaysIf, Tells, shown, AtRow, actOf, acts, costIn, costOf, NamedIn, Named, onNames, onKinds, varRecord, nameRecord, pairOf}
+use Rattle.steps.specs.Memory.{atOf, topOf, curOf, slotsIn, starIn, wantsIn, kept, worldAt, settingOf, firstOf, modeOf, quiet}
+use Rattle.steps.specs.Hold.{Fits, Holds, Frame, Steps, Ready, Says, SaysIf, Tells, shown, AtRow, actOf, acts, opensIn, ClosedIf, Closed, costIn, costOf, NamedIn, Named, onNames, onKinds, varRecord, nameRecord, pairOf}
 use Rattle.steps.specs.declared.row.Row.the-variants as row'
 use Rattle.steps.specs.declared.head.Act.{Act}
 use Rattle.steps.proofs.Held.{idle-step, then-steps, more-costs, more-steps, instead, as-steps, wanted, unwanted, says-step, says-if, tells-step}
+use Rattle.steps.proofs.Moved.{left-numbers, left-fits, left-frame, left-holds}
 
 -- ---- settings as numbers
 pub mute-low : (n t : ℕ) → n < 3 → atType (settingOf n) t ≡ []
@@ -392,3 +394,63 @@ module _ {ws tab : List ℕ} (f : Form) {a : Act} (e : actOf f ≡ a) where
       as-steps _
       (subst (λ (b : Act). Steps (costIn b) ws tab m vis found m' vis' found' (λ id. acts (worldAt ws tab id) (modeOf mode) (firstOf mode) b)) (sym e) s)
       (λ id b. head-acts (worldAt ws tab id) (modeOf mode) (firstOf mode) f b)
+
+-- After a head's parts, from m where the head was read, to n: the words n' that `finish` leaves fit, frame and hold what they did, and hold
+-- what the definition has after the parts.
+tail-as : (m : Mode) (f : Form) (s u : Both) → tailOf m f s u ≡ when (opensIn (actOf f) && m .resolves) (onNames (leave (s .names))) u
+tail-as m (Leaf k) s u = refl
+tail-as m (Var v) s u = refl
+tail-as m (Unresolved x) s u = refl
+tail-as m (Prop x) s u = refl
+tail-as m (Two k) s u = refl
+tail-as m (Slice b) s u = refl
+tail-as m (Many k n) s u = refl
+tail-as m (BinOp o) s u = refl
+tail-as m (UnaryOp o) s u = refl
+tail-as m (Case b n) s u = refl
+tail-as m IsNull s u = refl
+tail-as m PatternPredicate s u = refl
+tail-as m (ListComprehension g) s u = refl
+tail-as m (PatternComprehension a b g) s u = go (m .resolves)
+  where
+    go : (b : Bool) → left (record { resolves = b; checks = m .checks }) s u ≡ when b (onNames (leave (s .names))) u
+    go true = refl
+    go false = refl
+tail-as m (ListPredicate g) s u = refl
+tail-as m (MapProjection n) s u = refl
+
+-- at the same word, in as many words
+pub record Stays (n vis n' vis' : List ℕ) : Type 0 where
+  pub at : atOf n' ≡ atOf n
+  pub sized : length n' ≡ length n
+  pub seen : length vis' ≡ length vis
+
+module _ {room e t i k : ℕ} {ws tab m vis found n vis1 found1 n' vis' : List ℕ} (mode : Mode) (f : Form) (a : Fits e t ws tab m vis found) (g : Fits i k ws tab n vis1 found1) (r : Frame room tab m vis n vis1)
+    (p : Closed tab n vis1 n' vis' (topOf m) (curOf m) mode f) where
+  pub closed-fits : Fits i k ws tab n' vis' found1
+  closed-fits = go (opensIn (actOf f) && mode .resolves) p
+    where
+      go : (b : Bool) → ClosedIf b tab n vis1 n' vis' (topOf m) (curOf m) → Fits i k ws tab n' vis' found1
+      go true p = left-fits a g r p
+      go false p = rw (p .0, p .1) g
+
+  pub closed-frame : Frame room tab m vis n' vis'
+  closed-frame = go (opensIn (actOf f) && mode .resolves) p
+    where
+      go : (b : Bool) → ClosedIf b tab n vis1 n' vis' (topOf m) (curOf m) → Frame room tab m vis n' vis'
+      go true p = left-frame a g r p
+      go false p = rw (p .0, p .1) r
+
+  pub closed-stays : Stays n vis1 n' vis'
+  closed-stays = go (opensIn (actOf f) && mode .resolves) p
+    where
+      go : (b : Bool) → ClosedIf b tab n vis1 n' vis' (topOf m) (curOf m) → Stays n vis1 n' vis'
+      go true p = let q = left-numbers a g r p in record { at = q .at; sized = q .size; seen = p .kept }
+      go false p = rw (p .0, p .1) (record { at = refl; sized = refl; seen = refl })
+
+  pub closed-holds : {id : ℕ → ℕ} {s u : Both} → Holds id tab m vis found s → Holds id tab n vis1 found1 u → Holds id tab n' vis' found1 (tailOf mode f s u)
+  closed-holds {id} {s} {u} h j = rw (tail-as mode f s u) (go (opensIn (actOf f) && mode .resolves) p)
+    where
+      go : (b : Bool) → ClosedIf b tab n vis1 n' vis' (topOf m) (curOf m) → Holds id tab n' vis' found1 (when b (onNames (leave (s .names))) u)
+      go true p = left-holds a g r p h j
+      go false p = rw (p .0, p .1) j

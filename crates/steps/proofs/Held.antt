@@ -13,7 +13,7 @@ use lib.ListN.{length, getD, set, drop, length-set}
 use lib.Seq.{getD-set-same, getD-set-other}
 use borrow.Author.Tests.{eqb-true, eqb-false}
 use Rattle.semantics.specs.Log.{Finding, finding, Event, find}
-use Rattle.semantics.specs.Resolve.{State, say}
+use Rattle.semantics.specs.Resolve.{say}
 use Rattle.fused.specs.Fused.{Both, told}
 use Rattle.visible.specs.Visible.{seens, Descends, Tabled}
 use Rattle.steps.specs.Memory.{atOf, topOf, curOf, lastOf, saidOf, toldOf, lostOf, heldOf, levelOf, slotsIn, wantsIn, events, findings, eventOf, keptOne, kept}

@@ -1,27 +1,26 @@
--- Laws of what is opened, bound and noted: a scope (`enters`), a name (`binds-in`, `names`), a name that its scope binds already (`anew`) or
--- that is not visible (`new-bound`, `new-idle`), and a binder's row (`noted-idle`, `noted-lost`).
-use Prim.Native.Nat.{ℕ, zero, suc, _+_, _*_, _<_, _≤_}
+-- Laws of what is opened, bound, noted and left: a scope (`enters`), a name (`binds-in`, `names`), a name that is not visible or is
+-- (`new-bound`, `new-idle`), a binder's row (`noted-idle`, `noted-lost`), out of a scope (`left-fits`, `left-frame`, `left-holds`).
+use Prim.Native.Nat.{ℕ, suc, _+_, _*_, _<_, _≤_}
 use native.Mathlib.Numerals.{add-one}
 use native.Mathlib.Omega.{arith}
 use mathlib.Core.Path.{_≡_, refl, ap, sym, _∙_}
 use mathlib.Core.Bool.{Bool, true, false, _&&_}
 use mathlib.Core.List.{List, [], _∷_}
 use mathlib.Core.Option.{Option, none, some}
-use lib.Dec.{eqb}
 use lib.ListN.{length, getD, set, drop}
 use Rattle.scope.specs.Graph.{scope}
 use Rattle.expr.specs.Binders.{allKnown}
 use Rattle.tables.specs.Row.{Row, row}
-use Rattle.semantics.specs.Log.{finding, bound, Event, open', bind, find}
+use Rattle.semantics.specs.Log.{bound, open', bind}
 use Rattle.semantics.specs.World.{World}
-use Rattle.semantics.specs.Resolve.{State, seen, lookup, say, sayIf, enter, bindName, bindAnew, bindNew, binds}
+use Rattle.semantics.specs.Resolve.{State, seen, lookup, say, enter, bindName, bindNew, leave}
 use Rattle.fused.specs.Fused.{Both, isSome, noting}
 use Rattle.visible.specs.Visible.{seens, Descends, Tabled, Bound}
-use Rattle.visible.proofs.Names.{zero-unseen, unseen-zero, descends-above}
-use Rattle.steps.specs.Memory.{atOf, topOf, curOf, lastOf, saidOf, toldOf, lostOf, heldOf, slotsIn, wantsIn, warnsIn, worldAt}
-use Rattle.steps.specs.Hold.{Fits, Holds, Costs, Ready, SaysIf, onNames, shown}
+use Rattle.visible.proofs.Names.{unseen-zero, descends-above}
+use Rattle.steps.specs.Memory.{atOf, topOf, curOf, lastOf, saidOf, toldOf, lostOf, heldOf, slotsIn, wantsIn, worldAt}
+use Rattle.steps.specs.Hold.{Fits, Holds, Frame, Costs, Ready, SaysIf, Left, onNames, shown}
 use Rattle.steps.specs.declared.row.Row.the-variants as row'
-use Rattle.steps.proofs.Held.{Numbers, unset, store, refit, reframe, idle-step, then-steps, instead, says-if, said-numbers, lower}
+use Rattle.steps.proofs.Held.{Numbers, unset, store, refit, reframe, idle-step, then-steps, instead, says-if, said-numbers}
 use Rattle.steps.proofs.Shown.{is-some, is-none}
 
 -- what m holds after an event that may be said
@@ -165,4 +164,30 @@ module _ {ws tab m vis found : List ℕ} (v : ℕ) where
               kinds = rw (q .told) (h .kinds);
               known = rw (q .lost) (known-falls (s .known) (worldAt ws tab (λ x. x) .row v) (is-none (worldAt ws tab (λ x. x) .row v) z));
             };
+      }
+
+-- Out of a scope that was entered at m: the words n fit, frame and hold what they did, and the names that were visible at m.
+module _ {room e t i k : ℕ} {ws tab m vis found n vis1 found1 n' vis' : List ℕ} (f : Fits e t ws tab m vis found) (g : Fits i k ws tab n vis1 found1) (r : Frame room tab m vis n vis1) (p : Left tab n vis1 n' vis' (topOf m) (curOf m)) where
+  pub left-numbers : Numbers n n' (atOf n) (topOf m) (curOf m) (lastOf n) (saidOf n) (toldOf n) (lostOf n) (heldOf n)
+  left-numbers = rw (p .numbers) (store 2 (curOf m) (omega arith) (g .size) (store 1 (topOf m) (omega arith) (g .size) unset))
+
+  pub left-fits : Fits i k ws tab n' vis' found1
+  left-fits =
+      refit g left-numbers (p .kept) refl (p .tabled) (rw (p .below, r .below) (f .descends)) (omega (arith, f .cur, r .last)) (g .last) (g .count) (omega (arith, g .stack, r .top))
+
+  pub left-frame : Frame room tab m vis n' vis'
+  left-frame =
+      let q = left-numbers in
+      record { top = omega (arith, q .top); last = omega (arith, q .last, r .last); below = p .below ∙ r .below; held = q .held ∙ r .held; levels = λ d h. q .levels d ∙ r .levels d h }
+
+  pub left-holds : {id : ℕ → ℕ} {s u : Both} → Holds id tab m vis found s → Holds id tab n vis1 found1 u → Holds id tab n' vis' found1 (onNames (leave (s .names)) u)
+  left-holds h j =
+      let q = left-numbers in
+      record {
+        visible = rw (q .top, p .below, r .below) (h .visible);
+        cur = q .cur ∙ h .cur;
+        last = q .last ∙ j .last;
+        log = rw (q .said) (j .log);
+        kinds = rw (q .told) (j .kinds);
+        known = rw (q .lost) (j .known);
       }

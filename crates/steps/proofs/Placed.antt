@@ -1,21 +1,21 @@
 -- Laws of binders: a name that its scope binds already (`anew`, `anew-not`), a part's path (`path-steps`), an element (`elem-steps`, and
 -- `elem-none` where it has no variable): its row is noted, its name is bound, its kind is checked.
-use Prim.Native.Nat.{ℕ, suc, _+_, _/_, _%_}
+use Prim.Native.Nat.{ℕ, suc, _+_}
 use native.Mathlib.Numerals.{add-one}
-use mathlib.Core.Path.{_≡_, refl, sym, _∙_}
+use mathlib.Core.Path.{_≡_, refl, _∙_}
 use mathlib.Core.Bool.{Bool, true, false, _&&_}
 use mathlib.Core.List.{List, [], _∷_}
-use mathlib.Core.Option.{Option, none, some}
+use mathlib.Core.Option.{Option, none}
 use lib.ListN.{length}
 use Rattle.heads.specs.declared.Maybe.{Maybe}
 use Rattle.heads.specs.declared.Maybe.the-variants as maybe
 use Rattle.expr.specs.Binders.{binder, allKnown}
 use Rattle.tables.specs.Row.{Row}
 use Rattle.semantics.specs.Log.{Finding, finding}
-use Rattle.semantics.specs.World.{World, variable, nameOf, rowName}
+use Rattle.semantics.specs.World.{variable, nameOf, rowName}
 use Rattle.semantics.specs.Resolve.{State, lookup, sayIf, bindName, bindAnew, bindNew, bindPath, bindElem, binds}
 use Rattle.semantics.specs.Kinds.{misplaced, rowFor}
-use Rattle.fused.specs.Fused.{Both, Mode, when, told, step, noting}
+use Rattle.fused.specs.Fused.{Both, when, told, step, noting}
 use Rattle.visible.specs.Visible.{seens}
 use Rattle.steps.specs.Memory.{topOf, curOf, slotsIn, warnsIn, wantsIn, worldAt, modeOf}
 use Rattle.steps.specs.Hold.{Costs, Steps, Says, TellsIf, onNames, pathStep, shownTo, nameIn, kindIn, misplacedIn}

@@ -2,8 +2,8 @@
 -- `is-some`, `is-none`, `name-as`, `name-below`, `slots-small`); E2008 by it is the definition's (`misplaced-as`).
 use Prim.Native.Nat.{ℕ, zero, suc, _+_, _-_, _*_, _<_, _≤_}
 use native.Mathlib.Omega.{arith}
-use mathlib.Core.Path.{_≡_, refl, ap, sym, _∙_}
-use mathlib.Core.Bool.{Bool, true, false, cond, not, _&&_}
+use mathlib.Core.Path.{_≡_, refl}
+use mathlib.Core.Bool.{Bool, true, false, cond, not}
 use mathlib.Core.List.{List, [], _∷_}
 use mathlib.Core.Option.{Option, none, some}
 use lib.Dec.{eqb}
@@ -16,7 +16,7 @@ use Rattle.semantics.specs.Kinds.{misplaced}
 use Rattle.fused.specs.Fused.{isSome, told, when}
 use Rattle.rows.specs.Rows.{idAt, seek, rowTold}
 use Rattle.rows.proofs.Chains.{seek-le}
-use Rattle.steps.specs.Memory.{topOf, atOf, slotsIn, rowsIn, bindingsIn}
+use Rattle.steps.specs.Memory.{slotsIn, rowsIn, bindingsIn}
 use Rattle.steps.specs.Hold.{Fine, Ready, shown, InRange, shownTo, nameIn, kindIn, misplacedIn}
 use Rattle.steps.specs.declared.row.Row.{Row as Row'}
 use Rattle.steps.specs.declared.row.Row.the-variants as row'

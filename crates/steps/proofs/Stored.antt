@@ -3,12 +3,11 @@
 use Prim.Native.Nat.{ℕ, zero, suc, _+_, _-_, _*_, _<_, _≤_}
 use native.Mathlib.Numerals.{add-one}
 use native.Mathlib.Omega.{arith}
-use mathlib.Core.Path.{_≡_, refl, ap, sym, _∙_}
+use mathlib.Core.Path.{_≡_, refl, _∙_}
 use mathlib.Core.List.{List, [], _∷_}
 use lib.ListN.{length, getD, set, length-set}
 use lib.Seq.{sets, length-sets, getD-set-same, getD-set-other}
-use Rattle.semantics.specs.Log.{finding}
-use Rattle.steps.specs.Memory.{saidOf, toldOf, eventOf, findingAt, events, findings}
+use Rattle.steps.specs.Memory.{saidOf, toldOf, findingAt, events, findings}
 use Rattle.steps.specs.Hold.{Roomy, Put, Says, Tells}
 
 sets-below : (vs l : List ℕ) (k i : ℕ) → i < k → getD (sets l k vs) i 0 ≡ getD l i 0

@@ -1,5 +1,5 @@
 -- How both walks' state stands in the lent words, and what a step of the code does to it.
-use Prim.Native.Nat.{ℕ, zero, suc, _+_, _-_, _*_, _/_, _%_, _<_, _≤_}
+use Prim.Native.Nat.{ℕ, suc, _+_, _*_, _/_, _%_, _<_, _≤_}
 use mathlib.Core.Path.{_≡_}
 use mathlib.Core.Bool.{Bool, true, false, cond, not, _&&_}
 use mathlib.Core.List.{List, [], _∷_}
@@ -20,7 +20,7 @@ use Rattle.semantics.specs.Kinds.{Setting, Pair, both, patternType, typeOf, atT
 use Rattle.fused.specs.Fused.{Both, Mode, when, told, step, same, noting, nameUse}
 use Rattle.rows.specs.Rows.{idAt, Hung}
 use Rattle.visible.specs.Visible.{seens, Descends, Tabled}
-use Rattle.steps.specs.Memory.{atOf, topOf, curOf, lastOf, saidOf, toldOf, lostOf, heldOf, levelOf, namesIn, slotsIn, starIn, identIn, rowsIn, bindingsIn, multIn, shiftIn, wantsIn, chainsIn, settingOf, events, findings, eventOf, kept}
+use Rattle.steps.specs.Memory.{atOf, topOf, curOf, lastOf, saidOf, toldOf, lostOf, heldOf, levelOf, namesIn, slotsIn, rowsIn, bindingsIn, multIn, shiftIn, wantsIn, chainsIn, settingOf, events, findings, eventOf, kept}
 use Rattle.steps.specs.declared.head.Act.{Act}
 use Rattle.steps.specs.declared.head.Act.the-variants.{Shows, Uses, Names, Opens}
 use Rattle.steps.specs.declared.row.Row.{Row as Row'}

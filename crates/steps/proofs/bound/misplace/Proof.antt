@@ -3,7 +3,6 @@ use borrow.Author.Needs.{needs}
 use native.Mathlib.Omega.{arith}
 use native.Mathlib.Numerals.{add-one}
 use borrow.Author.Tests.{eq-eqb, ne-eqb}
-use mathlib.Core.Path.{sym}
 use Rattle.steps.proofs.Held.{tells-yes, tells-no}
 use Rattle.steps.proofs.bound.misplace.Statement.{statement}
 use Rattle.steps.proofs.bound.misplace.Tie as tie

@@ -1,8 +1,5 @@
 -- The chain gives the row's number (`find_row`), and its words are the table's (`row-shown`, `row-range`).
 use borrow.Author.Needs.{needs}
-use native.Mathlib.Omega.{arith}
-use mathlib.Core.Path.{refl}
-use Rattle.words.proofs.Words.{length-words}
 use Rattle.steps.proofs.Shown.{all-chains, row-near, row-shown, row-range}
 use Rattle.steps.proofs.row.row_of.Statement.{statement}
 use Rattle.steps.proofs.row.row_of.Tie as tie
