@@ -19,7 +19,7 @@ use Rattle.steps.specs.Hold.{Fine, Fits, Fit, Ready}
 use Rattle.steps.proofs.Held.{lower}
 use Rattle.walk.specs.Goes.{Goer, Comes, Walked}
 use Rattle.walk.proofs.Stage.{Rest, Stage, Refuses, start, recast, read, stop}
-use Rattle.clause_walk.specs.Passes.{Passed, Passes, Next, moved}
+use Rattle.clause_walk.specs.Passes.{Passed, Passes, Held, Next, moved}
 
 pub forget : {i : ℕ} {ws tab m vis found m' vis' found' held : List ℕ} {H : Goer} (a : ℕ) → Walked i ws tab m vis found m' vis' found' H a → Passes 0 ws tab m vis found held m' vis' found' held H a
 forget zero w =
@@ -170,3 +170,7 @@ module _ {ws tab m₀ vis₀ found₀ held₀ : List ℕ} {n : ℕ} {one : Goer}
   over h =
       let z : left ≡ 0 = omega arith in
       passed (recast (λ id s t. last (ok t)) (o .stage) (λ id s t r. ap (λ (k : ℕ). rounds k (one id) t r) z)) (o .kept)
+
+-- the pairs of a WITH have as much room as before
+pub still-held : {ws held held' : List ℕ} {mode : ℕ} → length held' ≡ length held → Held ws held mode → Held ws held' mode
+still-held e h = record { room = omega (arith, h .room, e); resolves = h .resolves }

@@ -1,8 +1,8 @@
 -- What clauses do to scopes. Nothing is visible any more (`cleared`, `cleared-fits`, `cleared-holds`: an arm, a WITH). A RETURN's expressions look from outside its scope,
 -- which is current after them (`outputs-as`, `reset`, `return-passes`). A step in a mode that resolves names is one of names alone (`names-step`, `yield-same`).
-use Prim.Native.Nat.{ℕ, zero, suc, _+_, _-_, _*_, _<_, _≤_}
+use Prim.Native.Nat.{ℕ, zero, suc, _+_, _-_, _*_, _/_, _<_, _≤_}
 use native.Mathlib.Omega.{arith}
-use mathlib.Core.Path.{_≡_, refl, ap, sym, _∙_}
+use mathlib.Core.Path.{_≡_, refl, ap, sym, subst, _∙_}
 use mathlib.Core.Bool.{Bool, true, false}
 use mathlib.Core.List.{List, [], _∷_, _++_}
 use mathlib.Core.Option.{Option, none, some}
@@ -13,20 +13,25 @@ use Rattle.heads.specs.Form.{readForm}
 use Rattle.clauses.specs.Read.{aliasOf, readYield}
 use Rattle.clauses.specs.Tree.{Yield, yield}
 use Rattle.tables.specs.Row.{valueKind}
-use Rattle.semantics.specs.World.{World, yieldName}
-use Rattle.semantics.specs.Resolve.{State, Seen, seen, Pair, enter, leave, standing, carries, bindAnew}
+use Rattle.semantics.specs.World.{World, yieldName, nameOf, rowName}
+use Rattle.semantics.specs.Resolve.{State, Seen, seen, Pair, enter, leave, standing, carries, bindName, bindAnew}
 use Rattle.semantics.specs.Kinds.{general}
-use Rattle.fused.specs.Fused.{Both, Mode, Go, rounds, step, when, told}
-use Rattle.fused.specs.Clauses.{within, directOf, projectionsGo, returned, returnGo, yielded, yieldGo}
+use Rattle.fused.specs.Fused.{Both, Mode, Go, unresolving, rounds, step, when, told, noting}
+use Rattle.fused.specs.Clauses.{within, directOf, projectionsGo, returned, returnGo, yielded, yieldGo, unwindGo, callGo}
 use Rattle.visible.specs.Visible.{seens, Descends, Tabled}
 use Rattle.visible.proofs.Names.{descends-above}
 use Rattle.steps.specs.Memory.{atOf, topOf, curOf, lastOf, saidOf, toldOf, lostOf, heldOf, namesIn, slotsIn, tablesIn, worldAt, modeOf}
-use Rattle.steps.specs.Hold.{Fits, Fit, Holds, Frame, Costs, Steps, Ready, Left, onNames}
-use Rattle.steps.proofs.Held.{Numbers, unset, store, lower, refit, drop-seens, framed, frame-more}
+use Rattle.steps.specs.Hold.{Fits, Fit, Holds, Frame, Costs, Steps, Ready, Left, onNames, shownTo, nameIn}
+use Rattle.steps.proofs.Held.{Numbers, unset, store, lower, refit, drop-seens, framed, frame-more, as-steps, more-costs, then-steps}
+use Rattle.steps.proofs.Shown.{name-as}
+use Rattle.steps.specs.declared.row.Row.{Row as Row'}
+use Rattle.scope.specs.Graph.{unwindScope, callScope}
 use Rattle.steps.proofs.Moved.{left-numbers, left-fits, left-frame, left-holds}
-use Rattle.walk.specs.Goes.{Goer, Walked}
+use Rattle.walk.specs.Goes.{Goer, Walked, exprAt}
+use Rattle.walk.proofs.Modes.{in-set, unresolved}
+use Rattle.clause_walk.proofs.Passing.{forget}
 use Rattle.walk.proofs.Stage.{Rest, Stage}
-use Rattle.clause_walk.specs.Passes.{Passed, Passes, outputAt, returnedAt, returnAt, yieldsAt}
+use Rattle.clause_walk.specs.Passes.{Passed, Passes, outputAt, returnedAt, returnAt, yieldsAt, unwindAt, unwoundAt, countedAt, callAt}
 
 -- ---- with nothing visible
 module _ {tab m vis m' vis' : List ℕ} {cur : ℕ} (size : length m ≡ 64) (p : Left tab m vis m' vis' 0 cur) where
@@ -122,6 +127,13 @@ names-step m f s q = go (m .resolves) (m .checks) q
     go true false q = refl
     go false c q = cc q
 
+-- what `leave` asks
+pub opened-cut : {ws tab m vis found m1 vis1 found1 : List ℕ} {F : (ℕ → ℕ) → Both → Both} → Ready 3 ws tab m vis found → Steps 1 ws tab m vis found m1 vis1 found1 F → (10 ≤ length tab) × ((length m1 ≡ 64) × ((topOf m ≤ topOf m1) × Tabled (slotsIn tab) (topOf m1) vis1))
+opened-cut h x =
+    let f = x .fit 2 2 (h .fit) in
+    let l = h .fine .long in
+    (omega arith, (f .size, (x .frame .top, f .tabled)))
+
 -- the scope is opened and left (m2), the expressions are walked (m3), and its scope is current with the names that were visible (m4)
 module _ {ws tab m vis found m1 found1 m2 vis2 : List ℕ} {a b : ℕ} (ready : Ready 3 ws tab m vis found) (x : Steps 1 ws tab m vis found m1 vis found1 (λ id. onNames (enter 8 a b)))
     (p : Left tab m1 vis m2 vis2 (topOf m) (curOf m)) where
@@ -142,6 +154,15 @@ module _ {ws tab m vis found m1 found1 m2 vis2 : List ℕ} {a b : ℕ} (ready : 
       let q = left-numbers (ready .fit) (x .fit 2 2 (ready .fit)) (x .frame) p in
       (q .size ∙ x .sized, (p .kept, q .last))
 
+  pub walked-cut : {m3 vis3 found3 : List ℕ} {G : Goer} (e : ℕ) → e ≡ 0 → Walked 48 ws tab m2 vis2 found1 m3 vis3 found3 G e → (10 ≤ length tab) × ((length m3 ≡ 64) × ((topOf m ≤ topOf m3) × Tabled (slotsIn tab) (topOf m3) vis3))
+  walked-cut e q w =
+      let y = rw q at (w .goes) in
+      let g = y .fit 2 (inner-fits 0 (ready .fit)) in
+      let l = ready .fine .long in
+      let a = inner-frame .top in
+      let b = y .frame .top in
+      (omega arith, (g .size, (omega arith, g .tabled)))
+
   pub return-refused : {m3 vis3 found3 held : List ℕ} (mode e : ℕ) → modeOf mode .resolves ≡ true → (e ≡ 0 → ⊥) → Walked 48 ws tab m2 vis2 found1 m3 vis3 found3 (returnedAt ws tab mode) e → Passes 3 ws tab m vis found held m3 vis3 found3 held (returnAt ws tab mode a b) e
   return-refused mode zero live q w = absurd (q refl)
   return-refused mode (suc e) live q w =
@@ -155,12 +176,12 @@ module _ {ws tab m vis found m1 found1 m2 vis2 : List ℕ} {a b : ℕ} (ready : 
         passes = λ id s h. return-as ws tab mode a b id s (drop (atOf m) ws) ∙ rw (names-step (modeOf mode) (λ y. leave y (enter 8 a b y)) s live, ← at, w .goes id _ (inner-holds h));
       }
 
-  pub return-passes : {m3 vis3 found3 m4 vis4 held : List ℕ} (mode : ℕ) → modeOf mode .resolves ≡ true → Walked 48 ws tab m2 vis2 found1 m3 vis3 found3 (returnedAt ws tab mode) 0 → Left tab m3 vis3 m4 vis4 (topOf m) (curOf m1) → Passes 3 ws tab m vis found held m4 vis4 found3 held (returnAt ws tab mode a b) 0
-  return-passes {m3 = m3} mode live w l =
+  pub return-passes : {m3 vis3 found3 m4 vis4 held : List ℕ} (mode e : ℕ) → modeOf mode .resolves ≡ true → e ≡ 0 → Walked 48 ws tab m2 vis2 found1 m3 vis3 found3 (returnedAt ws tab mode) e → Left tab m3 vis3 m4 vis4 (topOf m) (curOf m1) → Passes 3 ws tab m vis found held m4 vis4 found3 held (returnAt ws tab mode a b) 0
+  return-passes {m3 = m3} {m4 = m4} mode e live none' w l =
       let z = inner-sizes in
-      let y = w .goes in
+      let y = rw none' at (w .goes) in
       let g₀ = y .fit 2 (inner-fits 0 (ready .fit)) in
-      let q : Numbers m3 _ (atOf m3) (topOf m) (curOf m1) (lastOf m3) (saidOf m3) (toldOf m3) (lostOf m3) (heldOf m3) =
+      let q : Numbers m3 m4 (atOf m3) (topOf m) (curOf m1) (lastOf m3) (saidOf m3) (toldOf m3) (lostOf m3) (heldOf m3) =
       rw (l .numbers) (store 2 (curOf m1) (omega arith) (g₀ .size) (store 1 (topOf m) (omega arith) (g₀ .size) unset)) in
       let at : atOf m2 ≡ atOf m = left-numbers (ready .fit) (x .fit 2 2 (ready .fit)) (x .frame) p .at ∙ x .at in
       let fr = framed (frame-more {j = 48} (omega arith) inner-frame) (y .frame) in
@@ -212,3 +233,46 @@ rounds-as one two q (suc n) s r = go (one s r) (two s r) (q s r) (rounds-as one 
 
 pub yields-same : (ws tab : List ℕ) (mode a b n : ℕ) (id : ℕ → ℕ) (s : Both) (r : List ℕ) → modeOf mode .resolves ≡ true → yieldsAt ws tab a b n id s r ≡ rounds n (yieldGo (worldAt ws tab id) (tablesIn tab) (modeOf mode) a b) s r
 yields-same ws tab mode a b n id s r q = rounds-as _ _ (λ u v. yields-as (worldAt ws tab id) (tablesIn tab) (modeOf mode) a b u v q) n s r
+
+-- ---- an Unwind
+pub unwind-as : (ws tab : List ℕ) (mode a b : ℕ) (id : ℕ → ℕ) (s : Both) (r : List ℕ) → modeOf mode .resolves ≡ true →
+    unwindAt ws tab mode a b id s r ≡ bind (anyWord r) (λ v r1. within (worldAt ws tab id) (tablesIn tab) (unresolving (modeOf mode)) general (unwoundAt ws tab a b v id s) r1)
+unfolding unwindGo
+unwind-as ws tab mode a b id s r q = go (anyWord r)
+  where
+    go : (g : Got ℕ) → bind g (λ v r1. within (worldAt ws tab id) (tablesIn tab) (unresolving (modeOf mode)) general (noting (worldAt ws tab id) (v ∷ []) (step (modeOf mode) (λ y. bindName (nameOf (worldAt ws tab id) v) v valueKind (enter unwindScope a b y)) [] s)) r1)
+        ≡ bind g (λ v r1. within (worldAt ws tab id) (tablesIn tab) (unresolving (modeOf mode)) general (unwoundAt ws tab a b v id s) r1)
+    go (ok v r1) = rw (names-step (modeOf mode) (λ y. bindName (nameOf (worldAt ws tab id) v) v valueKind (enter unwindScope a b y)) s q)
+    go (no e) = refl
+
+pub unresolved-expr : {ws tab m vis found m' vis' found' held : List ℕ} {a : ℕ} (mode : ℕ) → Walked 48 ws tab m vis found m' vis' found' (exprAt ws tab 48 (mode / 128 * 128)) a →
+    Passes 0 ws tab m vis found held m' vis' found' held (λ id. within (worldAt ws tab id) (tablesIn tab) (unresolving (modeOf mode)) general) a
+unresolved-expr {ws} {tab} {m} {vis} {found} {m'} {vis'} {found'} {held} {a} mode w =
+    subst (λ (k : Mode). Passes 0 ws tab m vis found held m' vis' found' held (λ id. within (worldAt ws tab id) (tablesIn tab) k general) a) (unresolved mode)
+    (forget a (in-set (mode / 128 * 128) 0 (mode / 128 * 128) (omega arith) (omega arith) 48 (omega arith) w))
+
+-- the scope is opened, the row is noted, and the name is bound
+pub noted-ready : {ws tab m vis found m1 vis1 found1 : List ℕ} {F : (ℕ → ℕ) → Both → Both} {j e i : ℕ} → e + i ≤ j → Ready j ws tab m vis found → Costs e e ws tab m vis found m1 vis1 found1 F → Ready i ws tab m1 vis1 found1
+noted-ready {i = i} l h x = record { fine = h .fine; fit = x .fit i i (lower (omega arith) (omega arith) (h .fit)) }
+
+pub unwound : {ws tab m vis found m1 found1 m2 m3 vis3 found3 : List ℕ} {a b v x : ℕ} {r : Row'} → shownTo (slotsIn tab) (worldAt ws tab (λ x. x) .row v) r → x ≡ nameIn r → Steps 1 ws tab m vis found m1 vis found1 (λ id. onNames (enter unwindScope a b)) → Steps 0 ws tab m1 vis found1 m2 vis found1 (λ id. noting (worldAt ws tab id) (v ∷ [])) →
+    Costs 1 3 ws tab m2 vis found1 m3 vis3 found3 (λ id. onNames (bindName x v valueKind)) → Steps 4 ws tab m vis found m3 vis3 found3 (unwoundAt ws tab a b v)
+unfolding nameOf
+unwound {ws} {tab} {v = v} {x} shows q y n b =
+    let z : x ≡ rowName (worldAt ws tab (λ x. x) .row v) = q ∙ rw (shows .same) (name-as (worldAt ws tab (λ x. x) .row v)) in
+    as-steps _ (more-costs (omega arith) (omega arith) (then-steps (then-steps y n) b)) (λ id s. rw z)
+
+-- ---- a Call
+pub call-as : (ws tab : List ℕ) (mode a b : ℕ) (id : ℕ → ℕ) (s : Both) (r : List ℕ) → modeOf mode .resolves ≡ true →
+    callAt ws tab mode a b id s r ≡ bind (countedAt ws tab (mode / 128 * 128) id (onNames (enter callScope a b) s) r) (λ u r1. bind (anyWord r1) (λ n r2. yieldsAt ws tab a b n id u r2))
+unfolding callGo
+call-as ws tab mode a b id s r q =
+    rw (names-step (modeOf mode) (enter callScope a b) s q, ← (unresolved mode)) (go (countedAt ws tab (mode / 128 * 128) id (onNames (enter callScope a b) s) r))
+  where
+    inner : (u : Both) (g : Got ℕ) → bind g (λ n r2. rounds n (yieldGo (worldAt ws tab id) (tablesIn tab) (modeOf mode) a b) u r2) ≡ bind g (λ n r2. yieldsAt ws tab a b n id u r2)
+    inner u (ok n r2) = sym (yields-same ws tab mode a b n id u r2 q)
+    inner u (no e) = refl
+
+    go : (g : Got Both) → bind g (λ u r1. bind (anyWord r1) (λ n r2. rounds n (yieldGo (worldAt ws tab id) (tablesIn tab) (modeOf mode) a b) u r2)) ≡ bind g (λ u r1. bind (anyWord r1) (λ n r2. yieldsAt ws tab a b n id u r2))
+    go (ok u r1) = inner u (anyWord r1)
+    go (no e) = refl

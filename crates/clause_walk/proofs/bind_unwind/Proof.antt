@@ -1,83 +1,34 @@
+-- The scope is opened, the variable's row is noted, and it is bound under the row's name (`unwound`).
 use borrow.Author.Needs.{needs}
+use mathlib.Core.Path.{refl, sym, _∙_, ap}
+use native.Mathlib.Omega.{arith}
+use Rattle.heads.proofs.Chain.{fact}
+use Rattle.steps.proofs.Held.{ready-less}
+use Rattle.steps.proofs.Shown.{name-below}
+use Rattle.steps.specs.Hold.{Ready, nameIn}
+use Rattle.words.specs.Words.{words}
+use Rattle.clause_walk.proofs.Rescoped.{noted-ready, unwound}
 use Rattle.clause_walk.proofs.bind_unwind.Statement.{statement}
 use Rattle.clause_walk.proofs.bind_unwind.Tie as tie
-use Rattle.clause_walk.proofs.bind_unwind.Reads as reads
-use Rattle.clause_walk.proofs.bind_unwind.Lts as lts
-use Rattle.steps.proofs.bind_name.Reads as bind-name-reads
-use Rattle.steps.proofs.enter.Reads as enter-reads
-use Rattle.steps.proofs.note.Reads as note-reads
-
--- src/lib.rt:144:5
-enter-requires : tie.Need-enter-requires
-enter-requires c κs = ?
-
--- src/lib.rt:145:11
-note-requires : tie.Need-note-requires
-note-requires c κs = ?
-
--- src/lib.rt:146:17
-enum-known-x : tie.Need-enum-known-x
-enum-known-x c = search needs
-
--- src/lib.rt:146:26
-bind-name-requires : tie.Need-bind-name-requires
-bind-name-requires c κs = ?
-
--- src/lib.rt:147:38
-enum-told : tie.Need-enum-told
-enum-told c = search needs
-
--- src/lib.rt:147:20
-bind-name-requires-2 : tie.Need-bind-name-requires-2
-bind-name-requires-2 c κs = ?
-
--- src/lib.rt:140:1
-same-length : tie.Need-same-length
-same-length c = search needs
-
--- src/lib.rt:140:1
-same-length-2 : tie.Need-same-length-2
-same-length-2 c = search needs
-
--- src/lib.rt:140:1
-same-length-3 : tie.Need-same-length-3
-same-length-3 c = search needs
-
--- src/lib.rt:140:1
-returns : tie.Need-returns
-returns c = ?
-
--- src/lib.rt:140:1
-same-length-4 : tie.Need-same-length-4
-same-length-4 c = search needs
-
--- src/lib.rt:140:1
-same-length-5 : tie.Need-same-length-5
-same-length-5 c = search needs
-
--- src/lib.rt:140:1
-same-length-6 : tie.Need-same-length-6
-same-length-6 c = search needs
-
--- src/lib.rt:140:1
-returns-2 : tie.Need-returns-2
-returns-2 c = ?
 
 pub bind-unwind-spec : {M : Type 1} → statement M
 bind-unwind-spec =
+    let given = fact (λ (k : tie.Start). let a = k .args in let p : Ready 4 (words (a .s .now)) (a .tab .now) (a .m .now) (a .vis .now) (a .found .now) = k .pre in p) in
+    let noting = fact (λ (k : tie.After-note). noted-ready {i = 3} (omega arith) (noted-ready {i = 3} (omega arith) (given (k .before .before .before .before .before .before .before .before .before .before .before .before .before .before .before .before .before)) (k .before .before .before .before .before .before .before .before .enter .ensures)) (k .note .ensures .1)) in
+    let below = fact (λ (k : tie.After-note). name-below (given (k .before .before .before .before .before .before .before .before .before .before .before .before .before .before .before .before .before) .fine .some) (k .note .ensures .0)) in
     tie.close
     (tie.spec
-    enter-requires
-    note-requires
-    enum-known-x
-    bind-name-requires
-    enum-told
-    bind-name-requires-2
-    same-length
-    same-length-2
-    same-length-3
-    returns
-    same-length-4
-    same-length-5
-    same-length-6
-    returns-2)
+    (λ c κs. ready-less (omega arith) (given (c .before .before .before .before .before .before .before .before)))  -- enter-requires
+    (λ c κs. noted-ready {i = 0} (omega arith) (given (c .before .before .before .before .before .before .before .before .before .before .before .before .before .before .before .before)) (c .before .before .before .before .before .before .before .enter .ensures))  -- note-requires
+    (λ c. search needs)  -- enum-known-x
+    (λ c κs. (rw (c .before .before .before .before .x .given .1) at (below (c .before .before .before .before .before .before .before .before)), noting (c .before .before .before .before .before .before .before .before)))  -- bind-name-requires
+    (λ c. search needs)  -- enum-told
+    (λ c κs. (given (c .before .before .before .before .before .before .before .before .before .before .before .before .before .before .before .before .before .before .before .before .before .before .before .before) .fine .some, noting (c .before .before .before .before .before .before .before)))  -- bind-name-requires-2
+    (λ c. search needs)  -- same-length
+    (λ c. search needs)  -- same-length-2
+    (λ c. search needs)  -- same-length-3
+    (λ c. unwound (c .before .before .before .before .before .before .before .before .before .before .before .before .before .before .before .note .ensures .0) (ap nameIn (sym (c .before .before .before .before .before .before .before .before .before .before .before .x .given .1))) (c .before .before .before .before .before .before .before .before .before .before .before .before .before .before .before .before .before .before .before .before .before .before .before .enter .ensures) (c .before .before .before .before .before .before .before .before .before .before .before .before .before .before .before .note .ensures .1) (c .before .before .before .before .before .before .bind-name .ensures))  -- returns
+    (λ c. search needs)  -- same-length-4
+    (λ c. search needs)  -- same-length-5
+    (λ c. search needs)  -- same-length-6
+    (λ c. unwound (c .before .before .before .before .before .before .before .before .before .before .before .before .before .before .note .ensures .0) (ap nameIn (sym (c .before .before .before .before .before .before .before .before .before .before .enum-told .given .1))) (c .before .before .before .before .before .before .before .before .before .before .before .before .before .before .before .before .before .before .before .before .before .before .enter .ensures) (c .before .before .before .before .before .before .before .before .before .before .before .before .before .before .note .ensures .1) (c .before .before .before .before .before .before .bind-name2 .ensures)))  -- returns-2

@@ -1,62 +1,37 @@
+-- The count is read, and the marks are the walk's.
+use Prim.Native.Nat.{_*_, _/_, suc, _+_}
 use borrow.Author.Needs.{needs}
+use mathlib.Core.Option.{none}
+use mathlib.Core.Path.{refl}
+use native.Mathlib.Omega.{arith}
+use Rattle.fused.specs.Clauses.{within, markedGo}
+use Rattle.fused.specs.Fused.{rounds, markGo}
+use Rattle.heads.proofs.Chain.{fact}
+use Rattle.heads.proofs.Chain.{step, last}
+use Rattle.heads.specs.Got.{wordIn}
+use Rattle.steps.specs.Hold.{Ready}
+use Rattle.steps.specs.Memory.{namesIn, tablesIn, worldAt, modeOf}
+use Rattle.walk.proofs.Stage.{start, ready}
+use Rattle.words.specs.Words.{words}
+use Rattle.clause_walk.proofs.Passing.{forget, last-one, past, halted}
 use Rattle.clause_walk.proofs.walk_marked.Statement.{statement}
 use Rattle.clause_walk.proofs.walk_marked.Tie as tie
-use Rattle.clause_walk.proofs.walk_marked.Reads as reads
-use Rattle.clause_walk.proofs.walk_marked.Lts as lts
-use Rattle.clause_walk.proofs.next_word.Reads as next-word-reads
-use Rattle.walk.proofs.walk_marks.Reads as walk-marks-reads
-
--- src/lib.rt:76:23
-next-word-requires : tie.Need-next-word-requires
-next-word-requires c κs = search needs
-
--- src/lib.rt:76:18
-enum-known-n : tie.Need-enum-known-n
-enum-known-n c = search needs
-
--- src/lib.rt:77:9
-enum-told : tie.Need-enum-told
-enum-told c = search needs
-
--- src/lib.rt:77:9
-same-length : tie.Need-same-length
-same-length c = search needs
-
--- src/lib.rt:77:9
-returns : tie.Need-returns
-returns c = ?
-
--- src/lib.rt:79:5
-walk-marks-requires : tie.Need-walk-marks-requires
-walk-marks-requires c κs = ?
-
--- src/lib.rt:72:1
-same-length-2 : tie.Need-same-length-2
-same-length-2 c = search needs
-
--- src/lib.rt:72:1
-same-length-3 : tie.Need-same-length-3
-same-length-3 c = search needs
-
--- src/lib.rt:72:1
-same-length-4 : tie.Need-same-length-4
-same-length-4 c = search needs
-
--- src/lib.rt:72:1
-returns-2 : tie.Need-returns-2
-returns-2 c = ?
 
 pub walk-marked-spec : {M : Type 1} → statement M
+unfolding markedGo
 walk-marked-spec =
+    let given = fact (λ (k : tie.Start). let a = k .args in let p : Ready 0 (words (a .s .now)) (a .tab .now) (a .m .now) (a .vis .now) (a .found .now) = k .pre in p) in
+    let begun = fact (λ (k : tie.Start). let a = k .args in start {keep = none} (λ id u v. step (wordIn 0 4294967296) (λ n. last (rounds n (markGo (worldAt (words (a .s .now)) (a .tab .now) id) (within (worldAt (words (a .s .now)) (a .tab .now) id) (tablesIn (a .tab .now))) (modeOf (a .mode)) (a .kind)) v))) (given k) (λ id s r. refl)) in
+    let one = fact (λ (k : tie.After-known-told). past (begun (k .before .before .before .before .before .before .before .before .before .before .before .before)) (k .before .before .before .before .before .next-word .ensures) (k .before .n .given .1)) in
     tie.close
     (tie.spec
-    next-word-requires
-    enum-known-n
-    enum-told
-    same-length
-    returns
-    walk-marks-requires
-    same-length-2
-    same-length-3
-    same-length-4
-    returns-2)
+    (λ c κs. search needs)  -- next-word-requires
+    (λ c. search needs)  -- enum-known-n
+    (λ c. search needs)  -- enum-told
+    (λ c. search needs)  -- same-length
+    (λ c. halted (begun (c .before .before .before .before .before .before .before .before .before .before .before)) (c .before .before .before .before .next-word .ensures) (c .enum-told .given .1) refl)  -- returns
+    (λ c κs. (omega arith, ready (omega arith) (given (c .before .before .before .before .before .before .before .before .before .before .before .before .before .before .before)) (one (c .before .before .before))))  -- walk-marks-requires
+    (λ c. search needs)  -- same-length-2
+    (λ c. search needs)  -- same-length-3
+    (λ c. search needs)  -- same-length-4
+    (λ c. last-one _ (omega arith) refl (one (c .before .before .before .before .before .before .before .before .before .before)) (forget _ (c .before .before .before .before .before .before .walk-marks .ensures))))  -- returns-2

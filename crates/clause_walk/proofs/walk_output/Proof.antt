@@ -1,81 +1,45 @@
+-- The alias is read, and the expression is the walk's in the general setting.
+use Prim.Native.Nat.{_*_, _/_, suc, _+_}
 use borrow.Author.Needs.{needs}
+use mathlib.Core.Option.{none}
+use mathlib.Core.Option.{some}
+use mathlib.Core.Path.{refl}
+use native.Mathlib.Numerals.{add-one}
+use native.Mathlib.Omega.{arith}
+use Rattle.fused.specs.Clauses.{within}
+use Rattle.heads.proofs.Chain.{fact}
+use Rattle.heads.proofs.Chain.{step, last}
+use Rattle.heads.specs.Got.{wordIn}
+use Rattle.semantics.specs.Kinds.{general}
+use Rattle.steps.specs.Hold.{Ready}
+use Rattle.steps.specs.Memory.{namesIn, tablesIn, worldAt, modeOf}
+use Rattle.walk.proofs.Modes.{in-set}
+use Rattle.walk.proofs.Stage.{refused, tail}
+use Rattle.walk.proofs.Stage.{start, ready}
+use Rattle.words.specs.Words.{words}
+use Rattle.clause_walk.proofs.Passing.{past, stays, stopped}
 use Rattle.clause_walk.proofs.walk_output.Statement.{statement}
 use Rattle.clause_walk.proofs.walk_output.Tie as tie
-use Rattle.clause_walk.proofs.walk_output.Reads as reads
-use Rattle.clause_walk.proofs.walk_output.Lts as lts
-use Rattle.clause_walk.proofs.next_word.Reads as next-word-reads
-use Rattle.walk.proofs.walk_expr.Reads as walk-expr-reads
-
--- src/lib.rt:96:42
-shared-slice-read-next-word : tie.Need-shared-slice-read-next-word
-shared-slice-read-next-word c = search needs
-
--- src/lib.rt:96:42
-cast-next-word : tie.Need-cast-next-word
-cast-next-word c = search needs
-
--- src/lib.rt:96:42
-add-next-word : tie.Need-add-next-word
-add-next-word c = search needs
-
--- src/lib.rt:96:23
-next-word-requires : tie.Need-next-word-requires
-next-word-requires c κs = search needs
-
-enum-told : tie.Need-enum-told
-enum-told c = search needs
-
--- src/lib.rt:97:9
-enum-told-2 : tie.Need-enum-told-2
-enum-told-2 c = search needs
-
--- src/lib.rt:97:9
-same-length : tie.Need-same-length
-same-length c = search needs
-
--- src/lib.rt:97:9
-returns : tie.Need-returns
-returns c = ?
-
--- src/lib.rt:99:45
-mul-walk-expr : tie.Need-mul-walk-expr
-mul-walk-expr c = search needs
-
--- src/lib.rt:99:5
-walk-expr-requires : tie.Need-walk-expr-requires
-walk-expr-requires c κs = ?
-
--- src/lib.rt:92:1
-same-length-2 : tie.Need-same-length-2
-same-length-2 c = search needs
-
--- src/lib.rt:92:1
-same-length-3 : tie.Need-same-length-3
-same-length-3 c = search needs
-
--- src/lib.rt:92:1
-same-length-4 : tie.Need-same-length-4
-same-length-4 c = search needs
-
--- src/lib.rt:92:1
-returns-2 : tie.Need-returns-2
-returns-2 c = ?
+use Rattle.clause_walk.specs.Passes.{outputAt}
 
 pub walk-output-spec : {M : Type 1} → statement M
 walk-output-spec =
+    let given = fact (λ (k : tie.Start). let a = k .args in let p : Ready 0 (words (a .s .now)) (a .tab .now) (a .m .now) (a .vis .now) (a .found .now) = k .pre in p) in
+    let begun = fact (λ (k : tie.Start). let a = k .args in start {keep = some 48} {G = outputAt (words (a .s .now)) (a .tab .now) (a .mode)} (λ id u v. step (wordIn 0 (namesIn (a .tab .now) + 1)) (λ x. last (within (worldAt (words (a .s .now)) (a .tab .now) id) (tablesIn (a .tab .now)) (modeOf (a .mode)) general v))) (given k) (λ id s r. rw (add-one (namesIn (a .tab .now))))) in
+    let one = fact (λ (k : tie.After-enum-told). past (begun (k .before .before .before .before .before .before .before .before .before .before .before .before)) (k .before .before .before .before .next-word .ensures) (k .enum-told .given .1)) in
     tie.close
     (tie.spec
-    shared-slice-read-next-word
-    cast-next-word
-    add-next-word
-    next-word-requires
-    enum-told
-    enum-told-2
-    same-length
-    returns
-    mul-walk-expr
-    walk-expr-requires
-    same-length-2
-    same-length-3
-    same-length-4
-    returns-2)
+    (λ c. search needs)  -- shared-slice-read-next-word
+    (λ c. search needs)  -- cast-next-word
+    (λ c. search needs)  -- add-next-word
+    (λ c κs. search needs)  -- next-word-requires
+    (λ c. search needs)  -- enum-told
+    (λ c. search needs)  -- enum-told-2
+    (λ c. search needs)  -- same-length
+    (λ c. rw (stays (c .before .before .before .before .next-word .ensures) (c .enum-told2 .given .1)) (refused 5 (λ e. omega arith) (begun (c .before .before .before .before .before .before .before .before .before .before .before .before)) (stopped (begun (c .before .before .before .before .before .before .before .before .before .before .before .before)) (c .before .before .before .before .next-word .ensures) (c .enum-told2 .given .1))))  -- returns
+    (λ c. search needs)  -- mul-walk-expr
+    (λ c κs. (omega arith, ready (omega arith) (given (c .before .before .before .before .before .before .before .before .before .before .before .before .before .before .before)) (one (c .before .before .before))))  -- walk-expr-requires
+    (λ c. search needs)  -- same-length-2
+    (λ c. search needs)  -- same-length-3
+    (λ c. search needs)  -- same-length-4
+    (λ c. tail _ (omega arith) (one (c .before .before .before .before .before .before .before .before .before .before)) (in-set (c .before .before .before .before .before .before .before .before .before .before .before .before .before .before .before .before .before .before .before .before .before .before .args .mode) 0 (c .before .before .before .before .before .before .before .before .before .before .before .before .before .before .before .before .before .before .before .before .before .before .args .mode / 64 * 64) (omega arith) (omega arith) 48 (omega arith) (c .before .before .before .before .before .before .walk-expr .ensures))))  -- returns-2

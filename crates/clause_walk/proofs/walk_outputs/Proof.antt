@@ -1,83 +1,36 @@
+-- A loop of rounds (walk's Turning).
+use native.Mathlib.Omega.{arith}
+use Rattle.heads.proofs.Chain.{fact}
+use Rattle.walk.proofs.Stage.{Turning, ready, begun, turn, fall, over}
+use Rattle.words.specs.Words.{words}
 use Rattle.clause_walk.proofs.walk_outputs.Statement.{statement}
 use Rattle.clause_walk.proofs.walk_outputs.Tie as tie
-use Rattle.clause_walk.proofs.walk_outputs.Reads as reads
-use Rattle.clause_walk.proofs.walk_outputs.Lts as lts
-use Rattle.clause_walk.proofs.walk_output.Reads as walk-output-reads
+use Rattle.clause_walk.specs.Passes.{outputAt}
 
 abbrev Inv-loop : tie.InvT-loop
-Inv-loop s tab m₀ vis₀ found₀ n mode left₀ m vis found left = ?
+Inv-loop s tab m₀ vis₀ found₀ n mode left₀ m vis found left = Turning 48 (words s) tab m₀ vis₀ found₀ n (outputAt (words s) tab mode) m vis found left
 
 abbrev μ-loop : tie.MeasureT-loop
-μ-loop s tab m₀ vis₀ found₀ n mode left₀ m vis found left = ?
-
--- src/lib.rt:108:5
-loop-holds : tie.Need-loop-holds Inv-loop μ-loop
-loop-holds c = ?
-
--- src/lib.rt:109:13
-walk-output-requires : tie.Need-walk-output-requires Inv-loop μ-loop
-walk-output-requires c κs = ?
-
--- src/lib.rt:111:13
-same-length : tie.Need-same-length Inv-loop μ-loop
-same-length c = ?
-
--- src/lib.rt:111:13
-same-length-2 : tie.Need-same-length-2 Inv-loop μ-loop
-same-length-2 c = ?
-
--- src/lib.rt:111:13
-same-length-3 : tie.Need-same-length-3 Inv-loop μ-loop
-same-length-3 c = ?
-
--- src/lib.rt:111:13
-returns : tie.Need-returns Inv-loop μ-loop
-returns c = ?
-
--- src/lib.rt:113:9
-sub-left : tie.Need-sub-left Inv-loop μ-loop
-sub-left c = ?
-
--- src/lib.rt:108:5
-loop-less : tie.Need-loop-less Inv-loop μ-loop
-loop-less c = ?
-
--- src/lib.rt:108:5
-loop-again : tie.Need-loop-again Inv-loop μ-loop
-loop-again c = ?
-
--- src/lib.rt:103:1
-same-length-4 : tie.Need-same-length-4 Inv-loop μ-loop
-same-length-4 c = ?
-
--- src/lib.rt:103:1
-same-length-5 : tie.Need-same-length-5 Inv-loop μ-loop
-same-length-5 c = ?
-
--- src/lib.rt:103:1
-same-length-6 : tie.Need-same-length-6 Inv-loop μ-loop
-same-length-6 c = ?
-
--- src/lib.rt:103:1
-returns-2 : tie.Need-returns-2 Inv-loop μ-loop
-returns-2 c = ?
+μ-loop s tab m₀ vis₀ found₀ n mode left₀ m vis found left = left
 
 pub walk-outputs-spec : {M : Type 1} → statement M
 walk-outputs-spec =
+    let fell = fact (λ (k : tie.Then1 Inv-loop μ-loop). fall (k .before .before .before .before .before .before .before .before .before .before .before .before .loop .inv) _ (k .before .before .before .before .before .before .before .before .before .before .before .loop-test .taken) (k .if1 .taken) (k .before .before .before .before .before .before .before .walk-output .ensures)) in
+    let ended = fact (λ (k : tie.After-loop Inv-loop μ-loop). over (k .before .loop .inv) (k .loop-test .left)) in
     tie.close
     (tie.spec
     Inv-loop
     μ-loop
-    loop-holds
-    walk-output-requires
-    same-length
-    same-length-2
-    same-length-3
-    returns
-    sub-left
-    loop-less
-    loop-again
-    same-length-4
-    same-length-5
-    same-length-6
-    returns-2)
+    (λ c. begun _ _ c .before .before .before .before .before .pre)  -- loop-holds
+    (λ c κs. ready (omega arith) c .before .before .before .before .before .before .before .before .before .before .pre (c .before .before .before .before .loop .inv .stage))  -- walk-output-requires
+    (λ c. fell c .sized)  -- same-length
+    (λ c. fell c .seen)  -- same-length-2
+    (λ c. fell c .wrote)  -- same-length-3
+    (λ c. fell c)  -- returns
+    (λ c. omega (arith, c .before .before .before .before .before .before .before .before .before .before .before .loop-test .taken))  -- sub-left
+    (λ c. omega (arith, c .before .before .before .before .before .before .before .before .before .before .before .loop-test .taken))  -- loop-less
+    (λ c. turn (c .before .before .before .before .before .before .before .before .before .before .before .before .loop .inv) (omega arith) (c .before .before .before .before .before .before .before .before .before .before .before .loop-test .taken) (c .if1 .left) (c .before .before .before .before .before .before .before .walk-output .ensures))  -- loop-again
+    (λ c. ended c .sized)  -- same-length-4
+    (λ c. ended c .seen)  -- same-length-5
+    (λ c. ended c .wrote)  -- same-length-6
+    (λ c. ended c))  -- returns-2

@@ -1,88 +1,28 @@
+-- The scope is opened and left, the projections are walked from outside it, and it is current with the names that were visible
+-- (`return-passes`).
 use borrow.Author.Needs.{needs}
+use native.Mathlib.Omega.{arith}
+use Rattle.steps.proofs.Held.{ready-less}
+use Rattle.clause_walk.proofs.Rescoped.{opened-cut, inner-ready, walked-cut, return-refused, return-passes}
 use Rattle.clause_walk.proofs.walk_return.Statement.{statement}
 use Rattle.clause_walk.proofs.walk_return.Tie as tie
-use Rattle.clause_walk.proofs.walk_return.Reads as reads
-use Rattle.clause_walk.proofs.walk_return.Lts as lts
-use Rattle.clause_walk.proofs.walk_returned.Reads as walk-returned-reads
-use Rattle.steps.proofs.enter.Reads as enter-reads
-use Rattle.steps.proofs.leave.Reads as leave-reads
-
--- src/lib.rt:134:15
-slice-read-top : tie.Need-slice-read-top
-slice-read-top c = search needs
-
--- src/lib.rt:135:15
-slice-read-cur : tie.Need-slice-read-cur
-slice-read-cur c = search needs
-
--- src/lib.rt:136:5
-enter-requires : tie.Need-enter-requires
-enter-requires c κs = ?
-
--- src/lib.rt:137:17
-slice-read-scope : tie.Need-slice-read-scope
-slice-read-scope c = search needs
-
--- src/lib.rt:138:5
-leave-requires : tie.Need-leave-requires
-leave-requires c κs = ?
-
--- src/lib.rt:139:9
-walk-returned-requires : tie.Need-walk-returned-requires
-walk-returned-requires c κs = ?
-
--- src/lib.rt:141:9
-same-length : tie.Need-same-length
-same-length c = search needs
-
--- src/lib.rt:141:9
-same-length-2 : tie.Need-same-length-2
-same-length-2 c = search needs
-
--- src/lib.rt:141:9
-same-length-3 : tie.Need-same-length-3
-same-length-3 c = search needs
-
--- src/lib.rt:141:9
-returns : tie.Need-returns
-returns c = ?
-
--- src/lib.rt:143:5
-leave-requires-2 : tie.Need-leave-requires-2
-leave-requires-2 c κs = ?
-
--- src/lib.rt:130:1
-same-length-4 : tie.Need-same-length-4
-same-length-4 c = search needs
-
--- src/lib.rt:130:1
-same-length-5 : tie.Need-same-length-5
-same-length-5 c = search needs
-
--- src/lib.rt:130:1
-same-length-6 : tie.Need-same-length-6
-same-length-6 c = search needs
-
--- src/lib.rt:130:1
-returns-2 : tie.Need-returns-2
-returns-2 c = ?
 
 pub walk-return-spec : {M : Type 1} → statement M
 walk-return-spec =
     tie.close
     (tie.spec
-    slice-read-top
-    slice-read-cur
-    enter-requires
-    slice-read-scope
-    leave-requires
-    walk-returned-requires
-    same-length
-    same-length-2
-    same-length-3
-    returns
-    leave-requires-2
-    same-length-4
-    same-length-5
-    same-length-6
-    returns-2)
+    (λ c. search needs)  -- slice-read-top
+    (λ c. search needs)  -- slice-read-cur
+    (λ c κs. ready-less (omega arith) (c .before .before .before .before .before .before .before .before .before .before .pre .1))  -- enter-requires
+    (λ c. search needs)  -- slice-read-scope
+    (λ c κs. opened-cut (c .before .before .before .before .before .before .before .before .before .before .before .before .before .before .before .before .before .before .pre .1) (c .before .before .before .before .before .before .before .enter .ensures))  -- leave-requires
+    (λ c κs. inner-ready (c .before .before .before .before .before .before .before .before .before .before .before .before .before .before .before .before .before .before .before .before .before .before .before .before .before .before .pre .1) (c .before .before .before .before .before .before .before .before .before .before .before .before .before .before .before .enter .ensures) (c .before .before .before .before .before .before .before .leave .ensures))  -- walk-returned-requires
+    (λ c. search needs)  -- same-length
+    (λ c. search needs)  -- same-length-2
+    (λ c. search needs)  -- same-length-3
+    (λ c. return-refused (c .before .before .before .before .before .before .before .before .before .before .before .before .before .before .before .before .before .before .before .before .before .before .before .before .before .before .before .before .before .before .before .before .before .before .pre .1) (c .before .before .before .before .before .before .before .before .before .before .before .before .before .before .before .before .before .before .before .before .before .before .before .enter .ensures) (c .before .before .before .before .before .before .before .before .before .before .before .before .before .before .before .leave .ensures) _ _ (c .before .before .before .before .before .before .before .before .before .before .before .before .before .before .before .before .before .before .before .before .before .before .before .before .before .before .before .before .before .before .before .before .before .before .pre .0) (c .if1 .taken) (c .before .before .before .before .before .before .before .walk-returned .ensures))  -- returns
+    (λ c κs. walked-cut (c .before .before .before .before .before .before .before .before .before .before .before .before .before .before .before .before .before .before .before .before .before .before .before .before .before .before .before .before .before .before .before .before .before .before .before .before .pre .1) (c .before .before .before .before .before .before .before .before .before .before .before .before .before .before .before .before .before .before .before .before .before .before .before .before .before .enter .ensures) (c .before .before .before .before .before .before .before .before .before .before .before .before .before .before .before .before .before .leave .ensures) _ (c .before .before .if1 .left) (c .before .before .before .before .before .before .before .before .before .walk-returned .ensures))  -- leave-requires-2
+    (λ c. search needs)  -- same-length-4
+    (λ c. search needs)  -- same-length-5
+    (λ c. search needs)  -- same-length-6
+    (λ c. return-passes (c .before .before .before .before .before .before .before .before .before .before .before .before .before .before .before .before .before .before .before .before .before .before .before .before .before .before .before .before .before .before .before .before .before .before .before .before .before .before .before .before .before .pre .1) (c .before .before .before .before .before .before .before .before .before .before .before .before .before .before .before .before .before .before .before .before .before .before .before .before .before .before .before .before .before .before .enter .ensures) (c .before .before .before .before .before .before .before .before .before .before .before .before .before .before .before .before .before .before .before .before .before .before .leave .ensures) _ _ (c .before .before .before .before .before .before .before .before .before .before .before .before .before .before .before .before .before .before .before .before .before .before .before .before .before .before .before .before .before .before .before .before .before .before .before .before .before .before .before .before .before .pre .0) (c .before .before .before .before .before .before .before .if1 .left) (c .before .before .before .before .before .before .before .before .before .before .before .before .before .before .walk-returned .ensures) (c .before .before .before .before .leave2 .ensures)))  -- returns-2
