@@ -2,6 +2,7 @@
 -- which is current after them (`outputs-as`, `reset`, `return-passes`). A step in a mode that resolves names is one of names alone (`names-step`, `yield-same`).
 use Prim.Native.Nat.{ℕ, zero, suc, _+_, _-_, _*_, _/_, _<_, _≤_}
 use native.Mathlib.Omega.{arith}
+use native.Mathlib.Numerals.{add-one}
 use mathlib.Core.Path.{_≡_, refl, ap, sym, subst, _∙_}
 use mathlib.Core.Bool.{Bool, true, false}
 use mathlib.Core.List.{List, [], _∷_, _++_}
@@ -31,7 +32,7 @@ use Rattle.walk.specs.Goes.{Goer, Walked, exprAt}
 use Rattle.walk.proofs.Modes.{in-set, unresolved}
 use Rattle.clause_walk.proofs.Passing.{forget}
 use Rattle.walk.proofs.Stage.{Rest, Stage}
-use Rattle.clause_walk.specs.Passes.{Passed, Passes, outputAt, returnedAt, returnAt, yieldsAt, unwindAt, unwoundAt, countedAt, callAt}
+use Rattle.clause_walk.specs.Passes.{Passed, Passes, outputAt, returnedAt, returnAt, yieldAt, yieldsAt, unwindAt, unwoundAt, countedAt, callAt}
 
 -- ---- with nothing visible
 module _ {tab m vis m' vis' : List ℕ} {cur : ℕ} (size : length m ≡ 64) (p : Left tab m vis m' vis' 0 cur) where
@@ -242,7 +243,7 @@ unwind-as ws tab mode a b id s r q = go (anyWord r)
   where
     go : (g : Got ℕ) → bind g (λ v r1. within (worldAt ws tab id) (tablesIn tab) (unresolving (modeOf mode)) general (noting (worldAt ws tab id) (v ∷ []) (step (modeOf mode) (λ y. bindName (nameOf (worldAt ws tab id) v) v valueKind (enter unwindScope a b y)) [] s)) r1)
         ≡ bind g (λ v r1. within (worldAt ws tab id) (tablesIn tab) (unresolving (modeOf mode)) general (unwoundAt ws tab a b v id s) r1)
-    go (ok v r1) = rw (names-step (modeOf mode) (λ y. bindName (nameOf (worldAt ws tab id) v) v valueKind (enter unwindScope a b y)) s q)
+    go (ok v r1) = ap (λ (u : Both). within (worldAt ws tab id) (tablesIn tab) (unresolving (modeOf mode)) general (noting (worldAt ws tab id) (v ∷ []) u) r1) (names-step (modeOf mode) (λ y. bindName (nameOf (worldAt ws tab id) v) v valueKind (enter unwindScope a b y)) s q)
     go (no e) = refl
 
 pub unresolved-expr : {ws tab m vis found m' vis' found' held : List ℕ} {a : ℕ} (mode : ℕ) → Walked 48 ws tab m vis found m' vis' found' (exprAt ws tab 48 (mode / 128 * 128)) a →
@@ -276,3 +277,37 @@ call-as ws tab mode a b id s r q =
     go : (g : Got Both) → bind g (λ u r1. bind (anyWord r1) (λ n r2. rounds n (yieldGo (worldAt ws tab id) (tablesIn tab) (modeOf mode) a b) u r2)) ≡ bind g (λ u r1. bind (anyWord r1) (λ n r2. yieldsAt ws tab a b n id u r2))
     go (ok u r1) = inner u (anyWord r1)
     go (no e) = refl
+
+-- ---- a yield
+pub alias-none : (x y : ℕ) → y ≡ 0 → x ≡ yieldName x (aliasOf y)
+unfolding yieldName
+alias-none x y e = rw e
+
+pub alias-some : (x y : ℕ) → (y ≡ 0 → ⊥) → y - 1 ≡ yieldName x (aliasOf y)
+unfolding yieldName
+alias-some x zero e = absurd (e refl)
+alias-some x (suc y) e = omega arith
+
+-- the name that is bound is in range
+pub yield-below : (x y n slots : ℕ) → n ≤ slots → x < n → y < n + 1 → yieldName x (aliasOf y) < slots
+unfolding yieldName
+yield-below x zero n slots l h k = omega arith
+yield-below x (suc y) n slots l h k = omega arith
+
+pub yield-as : (ws tab : List ℕ) (a b : ℕ) (id : ℕ → ℕ) (s : Both) (r : List ℕ) →
+    yieldAt ws tab a b id s r ≡ bind (wordIn 0 (namesIn tab) r) (λ x r1. bind (wordIn 0 (namesIn tab + 1) r1) (λ y r2. bind (anyWord r2) (λ v r3. ok (onNames (bindAnew (worldAt ws tab id) a b (yieldName x (aliasOf y)) v valueKind) s) r3)))
+unfolding yieldGo readYield
+yield-as ws tab a b id s r = rw (add-one (namesIn tab)) (first (wordIn 0 (namesIn tab) r))
+  where
+    third : (x y : ℕ) (g : Got ℕ) → bind (bind g (λ v r3. ok (yield x (aliasOf y) v) r3)) (λ y r2. ok (yielded (worldAt ws tab id) (tablesIn tab) (modeOf 64) a b y s) r2) ≡ bind g (λ v r3. ok (onNames (bindAnew (worldAt ws tab id) a b (yieldName x (aliasOf y)) v valueKind) s) r3)
+    third x y (ok v r) = refl
+    third x y (no e) = refl
+
+    second : (x : ℕ) (g : Got ℕ) → bind (bind g (λ y r2. bind (anyWord r2) (λ v r3. ok (yield x (aliasOf y) v) r3))) (λ y r2. ok (yielded (worldAt ws tab id) (tablesIn tab) (modeOf 64) a b y s) r2) ≡ bind g (λ y r2. bind (anyWord r2) (λ v r3. ok (onNames (bindAnew (worldAt ws tab id) a b (yieldName x (aliasOf y)) v valueKind) s) r3))
+    second x (ok y r) = third x y (anyWord r)
+    second x (no e) = refl
+
+    first : (g : Got ℕ) → bind (bind g (λ x r1. bind (wordIn 0 (suc (namesIn tab)) r1) (λ y r2. bind (anyWord r2) (λ v r3. ok (yield x (aliasOf y) v) r3)))) (λ y r2. ok (yielded (worldAt ws tab id) (tablesIn tab) (modeOf 64) a b y s) r2)
+        ≡ bind g (λ x r1. bind (wordIn 0 (suc (namesIn tab)) r1) (λ y r2. bind (anyWord r2) (λ v r3. ok (onNames (bindAnew (worldAt ws tab id) a b (yieldName x (aliasOf y)) v valueKind) s) r3)))
+    first (ok x r) = second x (wordIn 0 (suc (namesIn tab)) r)
+    first (no e) = refl

@@ -1,6 +1,7 @@
 -- A loop of rounds (walk's Turning).
 use native.Mathlib.Omega.{arith}
 use Rattle.heads.proofs.Chain.{fact}
+use Rattle.steps.specs.Hold.{Ready}
 use Rattle.walk.proofs.Stage.{Turning, ready, begun, turn, fall, over}
 use Rattle.words.specs.Words.{words}
 use Rattle.clause_walk.proofs.walk_outputs.Statement.{statement}
@@ -15,14 +16,15 @@ abbrev μ-loop : tie.MeasureT-loop
 
 pub walk-outputs-spec : {M : Type 1} → statement M
 walk-outputs-spec =
+    let given = fact (λ (k : tie.Start Inv-loop μ-loop). let a = k .args in let p : Ready 0 (words (a .s .now)) (a .tab .now) (a .m .now) (a .vis .now) (a .found .now) = k .pre in p) in
     let fell = fact (λ (k : tie.Then1 Inv-loop μ-loop). fall (k .before .before .before .before .before .before .before .before .before .before .before .before .loop .inv) _ (k .before .before .before .before .before .before .before .before .before .before .before .loop-test .taken) (k .if1 .taken) (k .before .before .before .before .before .before .before .walk-output .ensures)) in
     let ended = fact (λ (k : tie.After-loop Inv-loop μ-loop). over (k .before .loop .inv) (k .loop-test .left)) in
     tie.close
     (tie.spec
     Inv-loop
     μ-loop
-    (λ c. begun _ _ c .before .before .before .before .before .pre)  -- loop-holds
-    (λ c κs. ready (omega arith) c .before .before .before .before .before .before .before .before .before .before .pre (c .before .before .before .before .loop .inv .stage))  -- walk-output-requires
+    (λ c. begun _ _ (given (c .before .before .before .before .before)))  -- loop-holds
+    (λ c κs. ready (omega arith) (given (c .before .before .before .before .before .before .before .before .before .before)) (c .before .before .before .before .loop .inv .stage))  -- walk-output-requires
     (λ c. fell c .sized)  -- same-length
     (λ c. fell c .seen)  -- same-length-2
     (λ c. fell c .wrote)  -- same-length-3
