@@ -36,7 +36,7 @@ walk-yield-spec =
     let one = fact (λ (k : tie.After-known-told). past (begun (k .before .before .before .before .before .before .before .before .before .before .before .before .before)) (k .before .before .before .before .before .next-word .ensures) (k .before .x .given .1)) in
     let two = fact (λ (k : tie.After-known-told2). past (one (k .before .before .before .before .before .before .before .before)) (k .before .before .before .before .before .next-word2 .ensures) (k .before .y .given .1)) in
     let three = fact (λ (k : tie.After-known-told3). past (two (k .before .before .before .before .before .before .before)) (k .before .before .before .before .before .next-word3 .ensures) (k .before .v .given .1)) in
-    let named = fact (λ (k : tie.Joined1). let q : k .if1 .name ≡ yieldName (k .before .before .before .before .before .before .before .before .before .before .before .before .before .before .before .before .before .x .given .0) (aliasOf (k .before .before .before .before .before .before .before .before .before .y .given .0)) = ⊎-elim (λ w. w .1 ∙ alias-none _ _ (w .0 .taken)) (λ w. w .1 ∙ alias-some _ _ (w .0 .left)) (k .if1 .came) in q) in
+    let named = fact (λ (k : tie.Joined1). let q : k .if1 .name ≡ yieldName (k .before .before .before .before .before .before .before .before .before .before .before .before .before .before .before .before .before .x .given .0 .0) (aliasOf (k .before .before .before .before .before .before .before .before .before .y .given .0 .0)) = ⊎-elim (λ w. w .1 ∙ alias-none _ _ (w .0 .taken)) (λ w. w .1 ∙ alias-some _ _ (w .0 .left)) (k .if1 .came) in q) in
     let ended = fact (λ (k : tie.After-bind-anew). let a = k .before .before .before .before .before .before .before .before .before .before .before .before .before .before .before .before .before .before .before .before .before .before .before .before .before .before .before .before .before .before .before .before .before .args in passed (did (λ id u w. last (ok w)) 0 (omega arith) (omega arith) (three (k .before .before .before .before .before)) (rw (named (k .before .before .before .before)) at (k .bind-anew .ensures))) refl) in
     tie.close
     (tie.spec
