@@ -1,2 +1,4 @@
 pub mod Passing
 pub mod Rescoped
+pub mod Bodies
+pub mod Carrying
