@@ -20,9 +20,8 @@ more zero l x =
     record { sized = x .sized; seen = x .seen; wrote = x .wrote; kept = x .kept; passes = record { from = y .from; fit = λ k f. y .fit k (lower (omega arith) (omega arith) f); goes = y .goes } }
 more (suc r) l x = record { sized = x .sized; seen = x .seen; wrote = x .wrote; kept = x .kept; passes = x .passes }
 
-module _ {ws tab m vis found held m' vis' found' held' : List ℕ} {mode a b kind r : ℕ} where
-  pub body-is : (k : ℕ) → kind ≡ k → Passes 3 ws tab m vis found held m' vis' found' held' (bodyAt ws tab mode a b k) r → Passes 3 ws tab m vis found held m' vis' found' held' (bodyAt ws tab mode a b kind) r
-  body-is k e x = rw e x
+pub body-is : {ws tab m vis found held m' vis' found' held' : List ℕ} {kind r : ℕ} (mode a b k : ℕ) → kind ≡ k → Passes 3 ws tab m vis found held m' vis' found' held' (bodyAt ws tab mode a b k) r → Passes 3 ws tab m vis found held m' vis' found' held' (bodyAt ws tab mode a b kind) r
+body-is mode a b k e x = rw e x
 
 abbrev Not : ℕ → ℕ → Type 0
 Not k n = k ≡ n → ⊥

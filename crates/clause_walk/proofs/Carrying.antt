@@ -12,16 +12,18 @@ use borrow.Author.Tests.{eqb-true, eq-eqb, ne-eqb}
 use lib.Seq.{getD-set-same, getD-set-other}
 use Rattle.tables.specs.Row.{Row, row}
 use Rattle.clauses.specs.Read.{aliasOf}
-use Rattle.semantics.specs.Log.{Event}
+use Rattle.semantics.specs.Log.{Event, finding, missing, write, find}
+use Rattle.semantics.specs.Log.{answer as answer'}
 use Rattle.semantics.specs.World.{World, Direct, aVar, aName}
-use Rattle.semantics.specs.Resolve.{State, Seen, Pair, pair, lookup, ifRow, ifSome, sayIf, useName, useVar, carries}
+use Rattle.semantics.specs.Resolve.{State, Seen, Pair, pair, lookup, ifRow, ifSome, say, sayIf, useName, useVar, carries}
 use Rattle.fused.specs.Fused.{Both, nameUse}
 use Rattle.visible.specs.Visible.{answer, seens}
 use Rattle.visible.specs.declared.Found.the-variants as found'
-use Rattle.steps.specs.Memory.{atOf, topOf, curOf, lastOf, saidOf, toldOf, lostOf, heldOf, slotsIn, wantsIn, worldAt}
-use Rattle.steps.specs.Hold.{Fits, Holds, Costs, Steps, Ready, shown, onNames, nameRecord}
+use Rattle.steps.specs.Memory.{atOf, topOf, curOf, lastOf, saidOf, toldOf, lostOf, heldOf, slotsIn, wantsIn, eventOf, worldAt}
+use Rattle.steps.specs.Hold.{Fits, Holds, Costs, Steps, Ready, Says, shown, onNames, nameRecord}
 use Rattle.steps.specs.declared.row.Row.the-variants as row'
-use Rattle.steps.proofs.Held.{Numbers, unset, store, lower, refit, instead, as-steps, idle-step}
+use Rattle.steps.proofs.Held.{Numbers, unset, store, lower, refit, instead, as-steps, says-step, wanted}
+use Rattle.steps.proofs.Heads.{quiet-use, rowless-use}
 use Rattle.clause_walk.specs.Passes.{pairsIn, InNames, Holding, Kept, Adds}
 
 -- ---- a pair is held
@@ -63,16 +65,16 @@ module _ {m m' held held' : List ℕ} {x v : ℕ} (size : length m ≡ 64) (p : 
         known = rw (q .lost) (h .known);
       }
 
-pub names-more : {slots x v : ℕ} (ps : List Pair) → x < slots → InNames slots ps → InNames slots (ps ++ (pair x v ∷ []))
+pub names-more : {slots x : ℕ} (v : ℕ) (ps : List Pair) → x < slots → InNames slots ps → InNames slots (ps ++ (pair x v ∷ []))
 unfolding InNames
-names-more [] h n = (h, tt)
-names-more (pair y u ∷ ps) h n = (n .0, names-more ps h (n .1))
+names-more v [] h n = (h, tt)
+names-more v (pair y u ∷ ps) h n = (n .0, names-more v ps h (n .1))
 
 -- ---- what a projection adds
 module _ {ws tab m vis found m1 found1 : List ℕ} {F : (ℕ → ℕ) → Both → Both} (alias : ℕ) (d : Direct) (size : length m ≡ 64) where
   pub adds-pair : {m2 held held' : List ℕ} {x v : ℕ} → x < slotsIn tab → Steps 1 ws tab m vis found m1 vis found1 F → Kept x v m1 held m2 held' →
       ((id : ℕ → ℕ) (s : Both) → Holds id tab m vis found s → carries (worldAt ws tab id) (aliasOf alias) d (F id s .names .visible) ≡ pair x v ∷ []) → Adds ws tab m vis found held m2 vis found1 held' F alias d
-  adds-pair {held = held} h y p c =
+  adds-pair {held = held} {v = v} h y p c =
       let e = y .frame .held in
       let q = kept-numbers (y .sized ∙ size) p in
       record {
@@ -81,7 +83,7 @@ module _ {ws tab m vis found m1 found1 : List ℕ} {F : (ℕ → ℕ) → Both �
         wrote = y .wrote;
         kept = p .kept;
         more = omega (arith, q .held, e);
-        named = λ n. rw (q .held, p .same, e) (names-more (pairsIn (heldOf m) held) h n);
+        named = λ n. rw (q .held, p .same, e) (names-more v (pairsIn (heldOf m) held) h n);
         fit = λ k f. lower (omega (arith, q .held, e)) (omega (arith, q .held, e)) (kept-fits (y .sized ∙ size) p (y .fit (2 + k + heldOf m * 2) (2 + k + heldOf m * 2) (lower (omega arith) (omega arith) f)));
         goes = λ id s g. kept-holds (y .sized ∙ size) p (y .goes id s g);
         pairs = λ id s g. rw (q .held, p .same, e, c id s g);
@@ -129,11 +131,65 @@ module _ (w : World) (vis : List Seen) (v : ℕ) where
       go (some (row i y l a b)) q = cc
 
 -- ---- a name
-module _ {ws tab m vis found : List ℕ} (x v p : ℕ) (q : answer (lookup x (seens (slotsIn tab) (topOf m) vis)) p ≡ found'.Is v p) where
-  looked : (o : Option ℕ) → answer o p ≡ found'.Is v p → o ≡ some v
-  looked none e = cc e
-  looked (some u) e = cc e
+use-visible : (w : World) (x : ℕ) (o : Option ℕ) (s : State) → useName w x o s .visible ≡ s .visible
+unfolding useName sayIf
+use-visible w x none s = go (not (w .isStar x))
+  where
+    go : (b : Bool) → sayIf b (find (finding 1001 0 0 (suc x) 0 0)) (say (answer' (write (w .id x) missing)) s) .visible ≡ s .visible
+    go true = refl
+    go false = refl
+use-visible w x (some v) s = refl
+
+looked : {v p c : ℕ} (o : Option ℕ) → answer o p ≡ found'.Is v c → o ≡ some v
+looked none e = cc e
+looked (some u) e = cc e
+
+unlooked : {p : ℕ} (o : Option ℕ) → answer o p ≡ found'.No → o ≡ none
+unlooked none e = refl
+unlooked (some u) e = cc e
+
+module _ {ws tab m vis found : List ℕ} (x : ℕ) {p : ℕ} where
+  module _ {v c : ℕ} (q : answer (lookup x (seens (slotsIn tab) (topOf m) vis)) p ≡ found'.Is v c) where
+    pub name-found : {m1 found1 : List ℕ} → Steps 1 ws tab m vis found m1 vis found1 (λ id. onNames (λ y. nameRecord (worldAt ws tab id) x (lookup x (y .visible)) y)) → Steps 1 ws tab m vis found m1 vis found1 (λ id. onNames (nameUse (worldAt ws tab id) x))
+    unfolding useName
+    name-found s =
+        instead _ s (λ id t h. let z : lookup x (t .names .visible) ≡ some v = ap (λ l. lookup x l) (sym (h .visible)) ∙ looked (lookup x (seens (slotsIn tab) (topOf m) vis)) q in rw z)
+
+    pub name-carried : (alias : ℕ) → alias ≡ 0 → (id : ℕ → ℕ) (s : Both) → Holds id tab m vis found s → carries (worldAt ws tab id) (aliasOf alias) (aName x) (nameUse (worldAt ws tab id) x (s .names) .visible) ≡ pair x v ∷ []
+    unfolding carries ifSome
+    name-carried alias e id s h =
+        let z : lookup x (s .names .visible) ≡ some v = ap (λ l. lookup x l) (sym (h .visible)) ∙ looked (lookup x (seens (slotsIn tab) (topOf m) vis)) q in
+        rw (e, use-visible (worldAt ws tab id) x (lookup x (s .names .visible)) (s .names), z)
+
+  pub name-missing : (alias : ℕ) → answer (lookup x (seens (slotsIn tab) (topOf m) vis)) p ≡ found'.No → (id : ℕ → ℕ) (s : Both) → Holds id tab m vis found s → carries (worldAt ws tab id) (aliasOf alias) (aName x) (nameUse (worldAt ws tab id) x (s .names) .visible) ≡ []
+  unfolding carries ifSome
+  name-missing zero q id s h =
+      let z : lookup x (s .names .visible) ≡ none = ap (λ l. lookup x l) (sym (h .visible)) ∙ unlooked (lookup x (seens (slotsIn tab) (topOf m) vis)) q in
+      rw (use-visible (worldAt ws tab id) x (lookup x (s .names .visible)) (s .names), z)
+  name-missing (suc a) q id s h = refl
+
+pub name-aliased : (w : World) (vis : List Seen) (x alias : ℕ) → (alias ≡ 0 → ⊥) → carries w (aliasOf alias) (aName x) vis ≡ []
+unfolding carries
+name-aliased w vis x zero h = absurd (h refl)
+name-aliased w vis x (suc a) h = refl
+
+-- ---- the use of a Var in the general setting
+module _ {ws tab m vis found : List ℕ} (v : ℕ) where
+  pub plain-said : {m' found' : List ℕ} {x k : ℕ} → length m ≡ 64 → getD tab 9 0 ≡ 1 → row'.Is x k ≡ shown (worldAt ws tab (λ x. x) .row v) → Says 4 v k 0 0 0 m found m' found' →
+      Steps 1 ws tab m vis found m' vis found' (λ id. onNames (useVar (worldAt ws tab id) v (worldAt ws tab id .row v)))
+  unfolding useVar
+  plain-said {x = x} {k} size e q p = as-steps _ (says-step size p (λ id l. wanted (eq-eqb (getD tab 9 0) 1 e) _ l)) (λ id s. go id s (worldAt ws tab (λ x. x) .row v) q)
+    where
+      go : (id : ℕ → ℕ) (s : Both) (o : Option Row) → row'.Is x k ≡ shown o → onNames (say (eventOf id 4 v k 0 0 0)) s ≡ onNames (useVar (worldAt ws tab id) v o) s
+      go id s none q = cc
+      go id s (some (row i y l a b)) q = let z : k ≡ l = cc in rw z
+
+  pub plain-none : {j : ℕ} → row'.No ≡ shown (worldAt ws tab (λ x. x) .row v) → Steps j ws tab m vis found m vis found (λ id. onNames (useVar (worldAt ws tab id) v (worldAt ws tab id .row v)))
+  plain-none q = rowless-use 64 v (worldAt ws tab (λ x. x) .row v) (sym q)
+
+  pub plain-quiet : {j : ℕ} → (getD tab 9 0 ≡ 1 → ⊥) → Steps j ws tab m vis found m vis found (λ id. onNames (useVar (worldAt ws tab id) v (worldAt ws tab id .row v)))
+  plain-quiet h = quiet-use 64 v (worldAt ws tab (λ x. x) .row v) (rw (ne-eqb (getD tab 9 0) 1 h))
 
 -- ---- kinds
-pub unwanted-kind : {tab : List ℕ} {k : ℕ} → (getD tab 9 0 ≡ 1 → ⊥) → wantsIn tab ≡ true → 0 ≡ k
-unwanted-kind {tab} h e = absurd (h (eqb-true (getD tab 9 0) 1 e))
+pub unwanted-kind : (tab : List ℕ) {k : ℕ} → (getD tab 9 0 ≡ 1 → ⊥) → wantsIn tab ≡ true → 0 ≡ k
+unwanted-kind tab h e = absurd (h (eqb-true (getD tab 9 0) 1 e))

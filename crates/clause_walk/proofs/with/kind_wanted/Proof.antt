@@ -13,4 +13,4 @@ kind-wanted-spec =
     (λ c. search needs)  -- shared-slice-read-if1
     (λ c κs. search needs)  -- kind-of-requires
     (λ c. search needs)  -- returns
-    (λ c. unwanted-kind (c .if1 .left)))  -- returns-2
+    (λ c. unwanted-kind (c .before .before .before .before .args .tab .now) (c .if1 .left)))  -- returns-2
