@@ -18,6 +18,7 @@ use Rattle.semantics.specs.World.{World, Direct, aVar, aName}
 use Rattle.semantics.specs.Resolve.{State, Seen, Pair, pair, lookup, ifRow, ifSome, say, sayIf, useName, useVar, carries}
 use Rattle.fused.specs.Fused.{Both, nameUse}
 use Rattle.visible.specs.Visible.{answer, seens}
+use Rattle.visible.specs.declared.Found.{Found}
 use Rattle.visible.specs.declared.Found.the-variants as found'
 use Rattle.steps.specs.Memory.{atOf, topOf, curOf, lastOf, saidOf, toldOf, lostOf, heldOf, slotsIn, wantsIn, eventOf, worldAt}
 use Rattle.steps.specs.Hold.{Fits, Holds, Costs, Steps, Ready, Says, shown, onNames, nameRecord}
@@ -140,31 +141,30 @@ use-visible w x none s = go (not (w .isStar x))
     go false = refl
 use-visible w x (some v) s = refl
 
-looked : {v p c : ℕ} (o : Option ℕ) → answer o p ≡ found'.Is v c → o ≡ some v
-looked none e = cc e
-looked (some u) e = cc e
+pub looked : {r : Found} {v c : ℕ} (o : Option ℕ) (p : ℕ) → r ≡ answer o p → r ≡ found'.Is v c → o ≡ some v
+looked none p e q = cc
+looked (some u) p e q = cc
 
-unlooked : {p : ℕ} (o : Option ℕ) → answer o p ≡ found'.No → o ≡ none
-unlooked none e = refl
-unlooked (some u) e = cc e
+pub unlooked : {r : Found} (o : Option ℕ) (p : ℕ) → r ≡ answer o p → r ≡ found'.No → o ≡ none
+unlooked none p e q = refl
+unlooked (some u) p e q = cc
 
-module _ {ws tab m vis found : List ℕ} (x : ℕ) {p : ℕ} where
-  module _ {v c : ℕ} (q : answer (lookup x (seens (slotsIn tab) (topOf m) vis)) p ≡ found'.Is v c) where
+module _ (ws : List ℕ) {tab m vis found : List ℕ} (x : ℕ) where
+  module _ {v : ℕ} (q : lookup x (seens (slotsIn tab) (topOf m) vis) ≡ some v) where
     pub name-found : {m1 found1 : List ℕ} → Steps 1 ws tab m vis found m1 vis found1 (λ id. onNames (λ y. nameRecord (worldAt ws tab id) x (lookup x (y .visible)) y)) → Steps 1 ws tab m vis found m1 vis found1 (λ id. onNames (nameUse (worldAt ws tab id) x))
     unfolding useName
-    name-found s =
-        instead _ s (λ id t h. let z : lookup x (t .names .visible) ≡ some v = ap (λ l. lookup x l) (sym (h .visible)) ∙ looked (lookup x (seens (slotsIn tab) (topOf m) vis)) q in rw z)
+    name-found s = instead _ s (λ id t h. let z : lookup x (t .names .visible) ≡ some v = ap (λ l. lookup x l) (sym (h .visible)) ∙ q in rw z)
 
     pub name-carried : (alias : ℕ) → alias ≡ 0 → (id : ℕ → ℕ) (s : Both) → Holds id tab m vis found s → carries (worldAt ws tab id) (aliasOf alias) (aName x) (nameUse (worldAt ws tab id) x (s .names) .visible) ≡ pair x v ∷ []
     unfolding carries ifSome
     name-carried alias e id s h =
-        let z : lookup x (s .names .visible) ≡ some v = ap (λ l. lookup x l) (sym (h .visible)) ∙ looked (lookup x (seens (slotsIn tab) (topOf m) vis)) q in
+        let z : lookup x (s .names .visible) ≡ some v = ap (λ l. lookup x l) (sym (h .visible)) ∙ q in
         rw (e, use-visible (worldAt ws tab id) x (lookup x (s .names .visible)) (s .names), z)
 
-  pub name-missing : (alias : ℕ) → answer (lookup x (seens (slotsIn tab) (topOf m) vis)) p ≡ found'.No → (id : ℕ → ℕ) (s : Both) → Holds id tab m vis found s → carries (worldAt ws tab id) (aliasOf alias) (aName x) (nameUse (worldAt ws tab id) x (s .names) .visible) ≡ []
+  pub name-missing : (alias : ℕ) → lookup x (seens (slotsIn tab) (topOf m) vis) ≡ none → (id : ℕ → ℕ) (s : Both) → Holds id tab m vis found s → carries (worldAt ws tab id) (aliasOf alias) (aName x) (nameUse (worldAt ws tab id) x (s .names) .visible) ≡ []
   unfolding carries ifSome
   name-missing zero q id s h =
-      let z : lookup x (s .names .visible) ≡ none = ap (λ l. lookup x l) (sym (h .visible)) ∙ unlooked (lookup x (seens (slotsIn tab) (topOf m) vis)) q in
+      let z : lookup x (s .names .visible) ≡ none = ap (λ l. lookup x l) (sym (h .visible)) ∙ q in
       rw (use-visible (worldAt ws tab id) x (lookup x (s .names .visible)) (s .names), z)
   name-missing (suc a) q id s h = refl
 

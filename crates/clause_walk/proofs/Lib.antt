@@ -2,3 +2,4 @@ pub mod Passing
 pub mod Rescoped
 pub mod Bodies
 pub mod Carrying
+pub mod Projected

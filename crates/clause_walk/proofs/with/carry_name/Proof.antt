@@ -1,104 +1,39 @@
+-- A visible name is recorded, and held if it has no alias; any other is used.
 use borrow.Author.Needs.{needs}
+use mathlib.Core.Path.{sym, _∙_}
+use native.Mathlib.Omega.{arith}
+use Rattle.heads.proofs.Chain.{fact}
+use Rattle.semantics.specs.Resolve.{lookup}
+use Rattle.semantics.specs.World.{aName}
+use Rattle.steps.proofs.Held.{ready-less}
+use Rattle.steps.specs.Memory.{topOf, slotsIn}
+use Rattle.visible.specs.Visible.{seens, scopeOf}
+use Rattle.words.specs.Words.{words}
+use Rattle.clause_walk.proofs.Carrying.{adds-pair, adds-none, looked, unlooked, name-found, name-carried, name-missing, name-aliased}
 use Rattle.clause_walk.proofs.with.carry_name.Statement.{statement}
 use Rattle.clause_walk.proofs.with.carry_name.Tie as tie
-use Rattle.clause_walk.proofs.with.carry_name.Reads as reads
-use Rattle.clause_walk.proofs.with.carry_name.Lts as lts
-use Rattle.clause_walk.proofs.with.keep.Reads as keep-reads
-use Rattle.steps.proofs.record_name.Reads as record-name-reads
-use Rattle.steps.proofs.use_name.Reads as use-name-reads
-use Rattle.visible.proofs.find.Reads as find-reads
-
--- src/with.rt:95:21
-shared-slice-read-find : tie.Need-shared-slice-read-find
-shared-slice-read-find c = search needs
-
--- src/with.rt:95:33
-slice-read-find : tie.Need-slice-read-find
-slice-read-find c = search needs
-
--- src/with.rt:95:11
-find-requires : tie.Need-find-requires
-find-requires c κs = search needs
-
--- src/with.rt:96:19
-enum-known-v : tie.Need-enum-known-v
-enum-known-v c = search needs
-
--- src/with.rt:97:13
-record-name-requires : tie.Need-record-name-requires
-record-name-requires c κs = ?
-
--- src/with.rt:99:17
-keep-requires : tie.Need-keep-requires
-keep-requires c κs = search needs
-
--- src/with.rt:102:39
-enum-told : tie.Need-enum-told
-enum-told c = search needs
-
--- src/with.rt:102:22
-use-name-requires : tie.Need-use-name-requires
-use-name-requires c κs = ?
-
--- src/with.rt:91:1
-same-length : tie.Need-same-length
-same-length c = search needs
-
--- src/with.rt:91:1
-same-length-2 : tie.Need-same-length-2
-same-length-2 c = search needs
-
--- src/with.rt:91:1
-same-length-3 : tie.Need-same-length-3
-same-length-3 c = search needs
-
--- src/with.rt:91:1
-returns : tie.Need-returns
-returns c = ?
-
--- src/with.rt:91:1
-same-length-4 : tie.Need-same-length-4
-same-length-4 c = search needs
-
--- src/with.rt:91:1
-same-length-5 : tie.Need-same-length-5
-same-length-5 c = search needs
-
--- src/with.rt:91:1
-returns-2 : tie.Need-returns-2
-returns-2 c = ?
-
--- src/with.rt:91:1
-same-length-6 : tie.Need-same-length-6
-same-length-6 c = search needs
-
--- src/with.rt:91:1
-same-length-7 : tie.Need-same-length-7
-same-length-7 c = search needs
-
--- src/with.rt:91:1
-returns-3 : tie.Need-returns-3
-returns-3 c = ?
 
 pub carry-name-spec : {M : Type 1} → statement M
 carry-name-spec =
+    let seen = fact (λ (k : tie.After-known-told). let a = k .before .before .before .before .before .before .before .before .before .before .before .before .args in looked (lookup (a .x) (seens (slotsIn (a .tab .now)) (topOf (a .m .now)) (a .vis .now))) (scopeOf (a .x) (seens (slotsIn (a .tab .now)) (topOf (a .m .now)) (a .vis .now))) (k .before .before .before .find .ensures) (k .before .v .given .1)) in
+    let unseen = fact (λ (k : tie.After-enum-told). let a = k .before .before .before .before .before .before .before .before .before .before .before .args in unlooked (lookup (a .x) (seens (slotsIn (a .tab .now)) (topOf (a .m .now)) (a .vis .now))) (scopeOf (a .x) (seens (slotsIn (a .tab .now)) (topOf (a .m .now)) (a .vis .now))) (k .before .before .find .ensures) (k .enum-told .given .1)) in
     tie.close
     (tie.spec
-    shared-slice-read-find
-    slice-read-find
-    find-requires
-    enum-known-v
-    record-name-requires
-    keep-requires
-    enum-told
-    use-name-requires
-    same-length
-    same-length-2
-    same-length-3
-    returns
-    same-length-4
-    same-length-5
-    returns-2
-    same-length-6
-    same-length-7
-    returns-3)
+    (λ c. search needs)  -- shared-slice-read-find
+    (λ c. search needs)  -- slice-read-find
+    (λ c κs. search needs)  -- find-requires
+    (λ c. search needs)  -- enum-known-v
+    (λ c κs. ready-less (omega arith) (c .before .before .before .before .before .before .before .before .before .before .before .before .before .before .pre .1 .1))  -- record-name-requires
+    (λ c κs. search needs)  -- keep-requires
+    (λ c. search needs)  -- enum-told
+    (λ c κs. (c .before .before .before .before .before .before .before .before .before .before .before .before .before .pre .0, ready-less (omega arith) (c .before .before .before .before .before .before .before .before .before .before .before .before .before .pre .1 .1)))  -- use-name-requires
+    (λ c. search needs)  -- same-length
+    (λ c. search needs)  -- same-length-2
+    (λ c. search needs)  -- same-length-3
+    (λ c. adds-pair (c .before .before .before .before .before .before .before .before .before .before .before .before .before .before .before .before .before .before .before .before .before .before .before .before .before .before .before .args .alias) (aName (c .before .before .before .before .before .before .before .before .before .before .before .before .before .before .before .before .before .before .before .before .before .before .before .before .before .before .before .args .x)) (c .before .before .before .before .before .before .before .before .before .before .before .before .before .before .before .before .before .before .before .before .before .before .before .before .before .before .before .pre .1 .1 .fit .size) (c .before .before .before .before .before .before .before .before .before .before .before .before .before .before .before .before .before .before .before .before .before .before .before .before .before .before .before .pre .0) (name-found _ _ (seen (c .before .before .before .before .before .before .before .before .before .before .before .before .before .before .before)) (c .before .before .before .before .before .before .before .before .before .before .before .before .record-name .ensures)) (c .before .before .before .before .keep .ensures) (name-carried (words (c .before .before .before .before .before .before .before .before .before .before .before .before .before .before .before .before .before .before .before .before .before .before .before .before .before .before .before .args .s .now)) _ (seen (c .before .before .before .before .before .before .before .before .before .before .before .before .before .before .before)) _ (c .before .before .before .before .before .before .before .if1 .taken)))  -- returns
+    (λ c. search needs)  -- same-length-4
+    (λ c. search needs)  -- same-length-5
+    (λ c. adds-none (c .before .before .before .before .before .before .before .before .before .before .before .before .before .before .before .before .before .before .before .before .args .alias) (aName (c .before .before .before .before .before .before .before .before .before .before .before .before .before .before .before .before .before .before .before .before .args .x)) (c .before .before .before .before .before .before .before .before .before .before .before .before .before .before .before .before .before .before .before .before .pre .1 .1 .fit .size) (omega arith) (name-found _ _ (seen (c .before .before .before .before .before .before .before .before)) (c .before .before .before .before .before .record-name .ensures)) (λ id s h. name-aliased _ _ _ _ (c .if1 .left)))  -- returns-2
+    (λ c. search needs)  -- same-length-6
+    (λ c. search needs)  -- same-length-7
+    (λ c. adds-none (c .before .before .before .before .before .before .before .before .before .before .before .before .before .before .before .before .before .before .args .alias) (aName (c .before .before .before .before .before .before .before .before .before .before .before .before .before .before .before .before .before .before .args .x)) (c .before .before .before .before .before .before .before .before .before .before .before .before .before .before .before .before .before .before .pre .1 .1 .fit .size) (omega arith) (c .before .before .before .before .use-name .ensures) (name-missing (words (c .before .before .before .before .before .before .before .before .before .before .before .before .before .before .before .before .before .before .args .s .now)) _ _ (unseen (c .before .before .before .before .before .before .before)))))  -- returns-3
