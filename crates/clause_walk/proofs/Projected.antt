@@ -12,7 +12,7 @@ use lib.ListN.{length, set, drop}
 use Rattle.heads.specs.Got.{Got, ok, no, bind, wordIn}
 use Rattle.heads.specs.Head.{Tables}
 use Rattle.heads.specs.Answer.{Ans}
-use Rattle.heads.specs.Form.{readForm, kidsOf, itemsOf}
+use Rattle.heads.specs.Form.{readForm}
 use Rattle.heads.specs.declared.Form.{Form}
 use Rattle.heads.specs.declared.Form.the-variants.{Var, Unresolved}
 use Rattle.heads.specs.declared.Word.{Word}
@@ -42,16 +42,16 @@ general-row (some (row i x k a b)) = refl
 
 module _ (w : World) (t : Tables) (m : Mode) (s : Both) {r r2 : List ℕ} (live : m .resolves ≡ true) where
   pub var-within : {v : ℕ} → readForm (t .names) r ≡ ok (Var v) r2 → within w t m general s r ≡ ok (onNames (useVar w v (w .row v)) s) r2
-  unfolding exprGo restGo rowGo rounds kidsOf itemsOf
+  unfolding exprGo restGo rowGo rounds
   var-within {v} q = rw (q, general-row (w .row v)) (ap (λ (u : Both). ok u r2) (names-step m (useVar w v (w .row v)) s live))
 
   pub name-within : {x : ℕ} → readForm (t .names) r ≡ ok (Unresolved x) r2 → within w t m general s r ≡ ok (onNames (nameUse w x) s) r2
-  unfolding exprGo restGo rowGo rounds kidsOf itemsOf
+  unfolding exprGo restGo rowGo rounds
   name-within {x} q = rw q (ap (λ (u : Both). ok u r2) (names-step m (nameUse w x) s live))
 
-pub none-within : (w : World) (t : Tables) (m : Mode) (s : Both) {r : List ℕ} → readForm (t .names) r ≡ no 5 → within w t m general s r ≡ no 5
+pub none-within : (w : World) (t : Tables) (m : Mode) (s : Both) (r : List ℕ) → readForm (t .names) r ≡ no 5 → within w t m general s r ≡ no 5
 unfolding exprGo
-none-within w t m s q = rw q
+none-within w t m s r q = rw q
 
 nothing : (w : World) (o : Option ℕ) (vis : List Seen) → carries w o other vis ≡ []
 unfolding carries
@@ -93,7 +93,7 @@ module _ {ws tab m vis found held : List ℕ} {f : Form} {p : ℕ} (h : Ready 1 
         };
       }
 
-module _ {ws tab m vis found held m' vis' found' : List ℕ} (alias mode : ℕ) where
+module _ {ws tab m vis found held : List ℕ} (alias mode : ℕ) where
   pub form-refused : {k : ℕ} → Ans ws (atOf m) (readForm (namesIn tab) (drop (atOf m) ws)) (no 5) k → Carries 1 ws tab m vis found held m vis found held (carriedAt ws tab mode alias) 5
   form-refused a =
       record {
@@ -101,12 +101,12 @@ module _ {ws tab m vis found held m' vis' found' : List ℕ} (alias mode : ℕ) 
         seen = refl;
         wrote = refl;
         kept = refl;
-        carries = λ id s b. rw (none-within (worldAt ws tab id) (tablesIn tab) (modeOf mode) s (a .same));
+        carries = λ id s b. rw (none-within (worldAt ws tab id) (tablesIn tab) (modeOf mode) s _ (a .same));
       }
 
-  pub other-passes : {f : Form} {p : ℕ} (r : ℕ) → Ans ws (atOf m) (readForm (namesIn tab) (drop (atOf m) ws)) (ok f (drop p ws)) p → directForm f ≡ other → Walked 48 ws tab m vis found m' vis' found' (exprIn ws tab 48 mode general) r →
+  pub other-passes : {m' vis' found' : List ℕ} {f : Form} {p : ℕ} (r : ℕ) → Ans ws (atOf m) (readForm (namesIn tab) (drop (atOf m) ws)) (ok f (drop p ws)) p → directForm f ≡ other → Walked 48 ws tab m vis found m' vis' found' (exprIn ws tab 48 mode general) r →
       Carries 1 ws tab m vis found held m' vis' found' held (carriedAt ws tab mode alias) r
-  other-passes zero a e w =
+  other-passes {m'} zero a e w =
       let y = w .goes in
       let z = y .frame .held in
       record {
@@ -131,10 +131,9 @@ module _ {ws tab m vis found held m' vis' found' : List ℕ} (alias mode : ℕ) 
       record { sized = w .sized; seen = w .seen; wrote = w .wrote; kept = refl; carries = λ id s b. rw (w .goes id s b) }
 
 -- ---- a projection
-module _ {ws tab m vis found held m1 m' vis' found' held' : List ℕ} {mode : ℕ} {r : Word} where
-  pub alias-refused : Next ws 0 (namesIn tab + 1) m m1 r → r ≡ word.No → Carries 0 ws tab m vis found held m1 vis found held (projectionsAt ws tab mode 1) 5
-  unfolding projectionsGo
-  alias-refused n q =
+pub alias-refused : {ws tab m vis found held m1 : List ℕ} {r : Word} (mode : ℕ) → Next ws 0 (namesIn tab + 1) m m1 r → r ≡ word.No → Carries 0 ws tab m vis found held m1 vis found held (projectionsAt ws tab mode 1) 5
+unfolding projectionsGo
+alias-refused {ws} {tab} {m} mode n q =
       let z : wordIn 0 (suc (namesIn tab)) (drop (atOf m) ws) ≡ no 5 = ap (λ (k : ℕ). wordIn 0 k (drop (atOf m) ws)) (sym (add-one (namesIn tab))) ∙ rw q at (n .got .same) in
       rw (stays n q) (record { sized = refl; seen = refl; wrote = refl; kept = refl; carries = λ id s b. rw z })
 
@@ -168,7 +167,7 @@ alias-passes {ws} {tab} {m} {held = held} {m1} {w = w} mode zero h n q x =
         from = omega (arith, y .from, k0);
         paid = omega (arith, y .paid, k0, k7);
         named = λ b. y .named (rw k7 b);
-        fit = λ k f. y .fit k (lower (omega (arith, k7)) (omega (arith, k7)) (rw e (placed-fit m (atOf m + 1) {c = k + heldOf m * 2} {i = 1 + k + heldOf m * 2} (h .fit .size) (g .from) (g .within) (omega arith) (lower (omega arith) (omega arith) f))));
+        fit = λ k f. y .fit k (lower {e = 1 + k + heldOf m * 2} {t = 1 + k + heldOf m * 2} (omega (arith, k7)) (omega (arith, k7)) (rw e (placed-fit m (atOf m + 1) {c = k + heldOf m * 2} {i = 1 + k + heldOf m * 2} (h .fit .size) (g .from) (g .within) (omega arith) (lower (omega arith) (omega arith) f))));
         goes = λ id s b. let c = y .goes id s (rw e (placed-holds m (atOf m + 1) (h .fit .size) b)) in
             record { state = c .state; holds = c .holds; same = rw z (rw (k0, k7) at (c .same)) };
       };
@@ -203,10 +202,10 @@ pub record Turning (ws tab m₀ vis₀ found₀ held₀ : List ℕ) (mode n : �
   pub paid : heldOf m * 3 + atOf m₀ ≤ heldOf m₀ * 3 + atOf m
   pub named : InNames (slotsIn tab) (pairsIn (heldOf m₀) held₀) → InNames (slotsIn tab) (pairsIn (heldOf m) held)
   pub fit : (k : ℕ) → Fit (k + heldOf m₀ * 2) ws tab m₀ vis₀ found₀ → Fit (k + heldOf m * 2) ws tab m vis found
-  pub ready : Ready 0 ws tab m vis found
+  pub ready : Ready (heldOf m * 2) ws tab m vis found
   pub on : (id : ℕ → ℕ) (s : Both) → Holds id tab m₀ vis₀ found₀ s → OnPairs id ws tab m vis found held mode left (projectionsAt ws tab mode n id (pairsIn (heldOf m₀) held₀) s (drop (atOf m₀) ws))
 
-pub begun : {ws tab m vis found held : List ℕ} (mode n : ℕ) → Ready 0 ws tab m vis found → Turning ws tab m vis found held mode n m vis found held n
+pub begun : {ws tab m vis found held : List ℕ} (mode n : ℕ) → Ready (heldOf m * 2) ws tab m vis found → Turning ws tab m vis found held mode n m vis found held n
 begun mode n h =
     record {
       from = omega arith;
@@ -221,9 +220,6 @@ begun mode n h =
       on = λ id s b. record { state = s; holds = b; same = refl };
     }
 
-single : (g : Got (Both × List Pair)) (P : Both → List Pair → List ℕ → Got (Both × List Pair)) → Got (Both × List Pair)
-single g P = bind g (λ x r. P (x .0) (x .1) r)
-
 -- one projection, and then the others
 ahead : (w : World) (t : Tables) (m : Mode) (left : ℕ) (ps : List Pair) (s : Both) (r : List ℕ) → 0 < left → projectionsGo w t m left ps s r ≡ bind (projectionsGo w t m 1 ps s r) (λ x r2. projectionsGo w t m (left - 1) (x .1) (x .0) r2)
 unfolding projectionsGo
@@ -233,12 +229,12 @@ ahead w t m (suc n) ps s r h =
     rw z (first (wordIn 0 (suc (t .names)) r))
   where
     second : (a : ℕ) (r1 : List ℕ) (g : Got Both) → bind g (λ u r2. projectionsGo w t m n (ps ++ carries w (aliasOf a) (directOf (readForm (t .names) r1)) (u .names .visible)) u r2)
-        ≡ bind (bind g (λ u r2. ok (u, ps ++ carries w (aliasOf a) (directOf (readForm (t .names) r1)) (u .names .visible)) r2)) (λ x r2. projectionsGo w t m n (x .1) (x .0) r2)
+        ≡ bind {A = Both × List Pair} (bind g (λ u r2. ok (u, ps ++ carries w (aliasOf a) (directOf (readForm (t .names) r1)) (u .names .visible)) r2)) (λ x r2. projectionsGo w t m n (x .1) (x .0) r2)
     second a r1 (ok u r2) = refl
     second a r1 (no e) = refl
 
     first : (g : Got ℕ) → bind g (λ a r1. bind (within w t m general s r1) (λ u r2. projectionsGo w t m n (ps ++ carries w (aliasOf a) (directOf (readForm (t .names) r1)) (u .names .visible)) u r2))
-        ≡ bind (bind g (λ a r1. bind (within w t m general s r1) (λ u r2. ok (u, ps ++ carries w (aliasOf a) (directOf (readForm (t .names) r1)) (u .names .visible)) r2))) (λ x r2. projectionsGo w t m n (x .1) (x .0) r2)
+        ≡ bind {A = Both × List Pair} (bind g (λ a r1. bind (within w t m general s r1) (λ u r2. ok (u, ps ++ carries w (aliasOf a) (directOf (readForm (t .names) r1)) (u .names .visible)) r2))) (λ x r2. projectionsGo w t m n (x .1) (x .0) r2)
     first (ok a r1) = second a r1 (within w t m general s r1)
     first (no e) = refl
 
@@ -255,7 +251,41 @@ module _ {ws tab m₀ vis₀ found₀ held₀ : List ℕ} {mode n : ℕ} {m vis 
         paid = omega (arith, o .paid, y .paid);
         named = λ b. y .named (o .named b);
         fit = λ k f. y .fit k (lower (omega arith) (omega arith) (o .fit k f));
-        ready = ?;
+        ready = record { fine = o .ready .fine; fit = lower (omega arith) (omega arith) (y .fit 0 (lower (omega arith) (omega arith) (o .ready .fit))) };
         on = λ id s b. let c = o .on id s b in let g = y .goes id (c .state) (c .holds) in
             record { state = g .state; holds = g .holds; same = c .same ∙ ahead (worldAt ws tab id) (tablesIn tab) (modeOf mode) left _ _ _ h ∙ rw (g .same) };
       }
+
+  pub fall : {m' vis' found' held' : List ℕ} (a : ℕ) → 0 < left → (a ≡ 0 → ⊥) → Carries 0 ws tab m vis found held m' vis' found' held' (projectionsAt ws tab mode 1) a → Carries 0 ws tab m₀ vis₀ found₀ held₀ m' vis' found' held' (projectionsAt ws tab mode n) a
+  fall zero h q x = absurd (q refl)
+  fall (suc a) h q x =
+      record {
+        sized = x .sized ∙ o .sized;
+        seen = x .seen ∙ o .seen;
+        wrote = x .wrote ∙ o .wrote;
+        kept = x .kept ∙ o .kept;
+        carries = λ id s b. let c = o .on id s b in c .same ∙ ahead (worldAt ws tab id) (tablesIn tab) (modeOf mode) left _ _ _ h ∙ rw (x .carries id (c .state) (c .holds));
+      }
+
+  pub over : left ≤ 0 → Carries 0 ws tab m₀ vis₀ found₀ held₀ m vis found held (projectionsAt ws tab mode n) 0
+  unfolding projectionsGo
+  over h =
+      let z : left ≡ 0 = omega arith in
+      record {
+        sized = o .sized;
+        seen = o .seen;
+        wrote = o .wrote;
+        kept = o .kept;
+        carries = record {
+          from = o .from;
+          paid = omega (arith, o .paid);
+          named = o .named;
+          fit = λ k f. o .fit k (lower (omega arith) (omega arith) f);
+          goes = λ id s b. let c = o .on id s b in
+              record { state = c .state; holds = c .holds; same = c .same ∙ ap (λ (l : ℕ). projectionsGo (worldAt ws tab id) (tablesIn tab) (modeOf mode) l (pairsIn (heldOf m) held) (c .state) (drop (atOf m) ws)) z };
+        };
+      }
+
+  -- the next one may be walked
+  pub goes-in : Holding 0 ws tab m₀ held₀ → Holding 0 ws tab m held
+  goes-in b = record { room = omega (arith, b .room, o .kept); few = omega (arith, b .few, o .paid) }

@@ -164,7 +164,7 @@ fn walk_projection(s: &[u8], tab: &[u32], m: &mut [u32], vis: &mut [u32], found:
 
 // n projections.
 fn walk_projections(s: &[u8], tab: &[u32], m: &mut [u32], vis: &mut [u32], found: &mut [u32], held: &mut [u32], n: u32, mode: u32) -> u32
-    requires { ⌜ (Held (words (now s)) (now held) mode) × ((Holding 0 (words (now s)) (now tab) (now m) (now held)) × (Ready 0 (words (now s)) (now tab) (now m) (now vis) (now found))) ⌝ }
+    requires { ⌜ (Held (words (now s)) (now held) mode) × ((Holding 0 (words (now s)) (now tab) (now m) (now held)) × (Ready (heldOf (now m) * 2) (words (now s)) (now tab) (now m) (now vis) (now found))) ⌝ }
     ensures { λ r. ⌜ Carries 0 (words (now (s .entry))) (now (tab .entry)) (now (m .entry)) (now (vis .entry)) (now (found .entry)) (now (held .entry)) (now (m .exit)) (now (vis .exit)) (now (found .exit)) (now (held .exit)) (projectionsAt (words (now (s .entry))) (now (tab .entry)) mode n) r ⌝ }
 {
     let mut left = n;
