@@ -10,20 +10,21 @@ use mathlib.Core.Option.{Option, none, some}
 use lib.ListN.{length, getD, set, length-set}
 use borrow.Author.Tests.{eqb-true, eq-eqb, ne-eqb}
 use lib.Seq.{getD-set-same, getD-set-other}
+use Rattle.scope.specs.Graph.{carried}
 use Rattle.tables.specs.Row.{Row, row}
 use Rattle.clauses.specs.Read.{aliasOf}
-use Rattle.semantics.specs.Log.{Event, finding, missing, write, find}
+use Rattle.semantics.specs.Log.{Event, finding, missing, write, find, carry}
 use Rattle.semantics.specs.Log.{answer as answer'}
 use Rattle.semantics.specs.World.{World, Direct, aVar, aName}
-use Rattle.semantics.specs.Resolve.{State, Seen, Pair, pair, lookup, ifRow, ifSome, say, sayIf, useName, useVar, carries}
+use Rattle.semantics.specs.Resolve.{State, Seen, Pair, pair, lookup, ifRow, ifSome, say, sayIf, useName, useVar, carries, carryAll, bindAll, bindName}
 use Rattle.fused.specs.Fused.{Both, nameUse}
 use Rattle.visible.specs.Visible.{answer, seens}
 use Rattle.visible.specs.declared.Found.{Found}
 use Rattle.visible.specs.declared.Found.the-variants as found'
 use Rattle.steps.specs.Memory.{atOf, topOf, curOf, lastOf, saidOf, toldOf, lostOf, heldOf, slotsIn, wantsIn, eventOf, worldAt}
-use Rattle.steps.specs.Hold.{Fits, Holds, Costs, Steps, Ready, Says, shown, onNames, nameRecord}
+use Rattle.steps.specs.Hold.{Fits, Holds, Costs, Steps, Ready, Fine, Roomy, Says, SaysIf, shown, onNames, nameRecord}
 use Rattle.steps.specs.declared.row.Row.the-variants as row'
-use Rattle.steps.proofs.Held.{Numbers, unset, store, lower, refit, instead, as-steps, says-step, wanted}
+use Rattle.steps.proofs.Held.{Numbers, unset, store, lower, refit, instead, as-steps, says-step, says-if, wanted, unwanted, idle-step, then-steps, more-costs, roomy-in}
 use Rattle.steps.proofs.Heads.{quiet-use, rowless-use}
 use Rattle.clause_walk.specs.Passes.{pairsIn, InNames, Holding, Kept, Adds}
 
@@ -193,3 +194,20 @@ module _ {ws tab m vis found : List ℕ} (v : ℕ) where
 -- ---- kinds
 pub unwanted-kind : (tab : List ℕ) {k : ℕ} → (getD tab 9 0 ≡ 1 → ⊥) → wantsIn tab ≡ true → 0 ≡ k
 unwanted-kind tab h e = absurd (h (eqb-true (getD tab 9 0) 1 e))
+
+-- ---- the barrier carries the pairs, one after the other
+carry-one : (w : World) (ps : List Pair) (x v : ℕ) (s : State) → carryAll w (ps ++ (pair x v ∷ [])) s ≡ say (carry (carried (carryAll w ps s .cur) x v)) (carryAll w ps s)
+unfolding carryAll
+carry-one w [] x v s = refl
+carry-one w (pair y u ∷ ps) x v s = carry-one w ps x v (say (carry (carried (s .cur) y u)) s)
+
+pub none-carried : {ws tab m vis found held : List ℕ} → Costs 0 0 ws tab m vis found m vis found (λ id. onNames (carryAll (worldAt ws tab id) (pairsIn 0 held)))
+unfolding carryAll pairsIn
+none-carried = idle-step _ (λ id s h. h)
+
+pub one-carried : {ws tab m₀ vis found₀ held m found m' found' : List ℕ} (i : ℕ) {k : ℕ} → length m₀ ≡ 64 → k ≡ i * 2 → Costs i 0 ws tab m₀ vis found₀ m vis found (λ id. onNames (carryAll (worldAt ws tab id) (pairsIn i held))) →
+    SaysIf (wantsIn tab) 3 (curOf m) (getD held k 0) (getD held (k + 1) 0) 0 0 m found m' found' → Costs (i + 1) 0 ws tab m₀ vis found₀ m' vis found' (λ id. onNames (carryAll (worldAt ws tab id) (pairsIn (i + 1) held)))
+unfolding pairsIn
+one-carried {ws} {tab} {held = held} {m} i {k} size e x p =
+    let y : Costs 1 0 ws tab m _ _ _ _ _ (λ id. onNames (λ s. say (carry (carried (s .cur) (getD held (i * 2) 0) (getD held (i * 2 + 1) 0))) s)) = instead _ (says-if (x .sized ∙ size) (rw e at p) (λ id l. refl)) (λ id s h. rw (h .cur)) in
+    rw (add-one i) (as-steps _ (more-costs (omega arith) (omega arith) (then-steps x y)) (λ id s. ap (λ (u : State). record { names = u; kinds = s .kinds; known = s .known }) (sym (carry-one (worldAt ws tab id) (pairsIn i held) (getD held (i * 2) 0) (getD held (i * 2 + 1) 0) (s .names)))))

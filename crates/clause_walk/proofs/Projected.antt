@@ -29,6 +29,7 @@ use Rattle.steps.specs.Memory.{atOf, heldOf, namesIn, slotsIn, tablesIn, worldA
 use Rattle.steps.specs.Hold.{Fits, Fit, Holds, Ready, onNames}
 use Rattle.steps.proofs.Held.{lower}
 use Rattle.walk.specs.Goes.{Walked, exprIn}
+use Rattle.walk.proofs.Paid.{form-paid}
 use Rattle.walk.proofs.Stage.{placed, placed-fit, placed-holds}
 use Rattle.clause_walk.specs.Passes.{pairsIn, InNames, Holding, Adds, Projector, Carries, Next, carriedAt, projectionsAt}
 use Rattle.clause_walk.proofs.Passing.{goes-on, stays}
@@ -40,7 +41,7 @@ unfolding atRow
 general-row none = refl
 general-row (some (row i x k a b)) = refl
 
-module _ (w : World) (t : Tables) (m : Mode) (s : Both) {r r2 : List ℕ} (live : m .resolves ≡ true) where
+module _ (w : World) (t : Tables) (m : Mode) (s : Both) (r : List ℕ) {r2 : List ℕ} (live : m .resolves ≡ true) where
   pub var-within : {v : ℕ} → readForm (t .names) r ≡ ok (Var v) r2 → within w t m general s r ≡ ok (onNames (useVar w v (w .row v)) s) r2
   unfolding exprGo restGo rowGo rounds
   var-within {v} q = rw (q, general-row (w .row v)) (ap (λ (u : Both). ok u r2) (names-step m (useVar w v (w .row v)) s live))
@@ -57,6 +58,14 @@ nothing : (w : World) (o : Option ℕ) (vis : List Seen) → carries w o other v
 unfolding carries
 nothing w none vis = refl
 nothing w (some x) vis = refl
+
+-- two words were read of it, and a name is in range
+module _ {ws : List ℕ} {at p : ℕ} {f : Form} {names slots : ℕ} (l : names ≤ slots) (a : Ans ws at (readForm names (drop at ws)) (ok f (drop p ws)) p) where
+  pub var-paid : {v : ℕ} → f ≡ Var v → at + 2 ≤ p
+  var-paid e = let z = rw e at (form-paid ws at p names slots f l a .0) in omega (arith, z)
+
+  pub name-paid : {x : ℕ} → f ≡ Unresolved x → (at + 2 ≤ p) × (x < slots)
+  name-paid e = let z = rw e at (form-paid ws at p names slots f l a) in (omega (arith, z .0), z .1)
 
 -- ---- after the alias
 module _ {ws tab m vis found held : List ℕ} {f : Form} {p : ℕ} (h : Ready 1 ws tab m vis found) (o : Holding 1 ws tab m held) (l : atOf m + 2 ≤ p) (a : Ans ws (atOf m) (readForm (namesIn tab) (drop (atOf m) ws)) (ok f (drop p ws)) p) where
@@ -167,7 +176,7 @@ alias-passes {ws} {tab} {m} {held = held} {m1} {w = w} mode zero h n q x =
         from = omega (arith, y .from, k0);
         paid = omega (arith, y .paid, k0, k7);
         named = λ b. y .named (rw k7 b);
-        fit = λ k f. y .fit k (lower {e = 1 + k + heldOf m * 2} {t = 1 + k + heldOf m * 2} (omega (arith, k7)) (omega (arith, k7)) (rw e (placed-fit m (atOf m + 1) {c = k + heldOf m * 2} {i = 1 + k + heldOf m * 2} (h .fit .size) (g .from) (g .within) (omega arith) (lower (omega arith) (omega arith) f))));
+        fit = λ k f. y .fit k (lower {e = 1 + k + heldOf m * 2} {t = 1 + k + heldOf m * 2} (omega (arith, k7)) (omega (arith, k7)) (rw e (placed-fit m (atOf m + 1) (h .fit .size) {c = k + heldOf m * 2} {i = 1 + k + heldOf m * 2} (g .from) (g .within) (omega arith) (lower (omega arith) (omega arith) f))));
         goes = λ id s b. let c = y .goes id s (rw e (placed-holds m (atOf m + 1) (h .fit .size) b)) in
             record { state = c .state; holds = c .holds; same = rw z (rw (k0, k7) at (c .same)) };
       };

@@ -1,180 +1,59 @@
+-- By the head: a Var or a name is its use and what it adds, any other expression is walked.
+use Prim.Native.Nat.{_*_, _/_}
 use borrow.Author.Needs.{needs}
+use mathlib.Core.Path.{ap}
+use native.Mathlib.Omega.{arith}
+use Rattle.fused.specs.Clauses.{directForm}
+use Rattle.heads.proofs.Chain.{fact}
+use Rattle.steps.proofs.Held.{ready-less}
+use Rattle.steps.specs.Memory.{tablesIn, worldAt, modeOf}
+use Rattle.walk.proofs.Modes.{in-set}
+use Rattle.words.specs.Words.{words}
+use Rattle.clause_walk.proofs.Projected.{var-within, name-within, var-paid, name-paid, form-ready, form-holding, form-refused, direct-passes, other-passes}
 use Rattle.clause_walk.proofs.with.walk_carried.Statement.{statement}
 use Rattle.clause_walk.proofs.with.walk_carried.Tie as tie
-use Rattle.clause_walk.proofs.with.walk_carried.Reads as reads
-use Rattle.clause_walk.proofs.with.walk_carried.Lts as lts
-use Rattle.clause_walk.proofs.with.carry_name.Reads as carry-name-reads
-use Rattle.clause_walk.proofs.with.carry_var.Reads as carry-var-reads
-use Rattle.clause_walk.proofs.with.direct_of.Reads as direct-of-reads
-use Rattle.heads.proofs.read_form.Reads as read-form-reads
-use Rattle.walk.proofs.walk_expr.Reads as walk-expr-reads
-
--- src/with.rt:135:14
-slice-read-at : tie.Need-slice-read-at
-slice-read-at c = search needs
-
--- src/with.rt:135:14
-cast-at : tie.Need-cast-at
-cast-at c = search needs
-
--- src/with.rt:136:43
-shared-slice-read-read-form : tie.Need-shared-slice-read-read-form
-shared-slice-read-read-form c = search needs
-
--- src/with.rt:136:30
-read-form-requires : tie.Need-read-form-requires
-read-form-requires c κs = search needs
-
--- src/with.rt:136:22
-enum-known-f : tie.Need-enum-known-f
-enum-known-f c = search needs
-
--- src/with.rt:137:9
-enum-told : tie.Need-enum-told
-enum-told c = search needs
-
--- src/with.rt:137:9
-returns : tie.Need-returns
-returns c = ?
-
--- src/with.rt:139:11
-direct-of-requires : tie.Need-direct-of-requires
-direct-of-requires c κs = search needs
-
--- src/with.rt:140:21
-enum-known-v : tie.Need-enum-known-v
-enum-known-v c = search needs
-
--- src/with.rt:141:21
-cast-m : tie.Need-cast-m
-cast-m c = ?
-
--- src/with.rt:141:13
-slice-write-m : tie.Need-slice-write-m
-slice-write-m c = search needs
-
--- src/with.rt:142:13
-carry-var-requires : tie.Need-carry-var-requires
-carry-var-requires c κs = ?
-
--- src/with.rt:145:22
-enum-known-x : tie.Need-enum-known-x
-enum-known-x c = search needs
-
--- src/with.rt:146:21
-cast-m-2 : tie.Need-cast-m-2
-cast-m-2 c = ?
-
--- src/with.rt:146:13
-slice-write-m-2 : tie.Need-slice-write-m-2
-slice-write-m-2 c = search needs
-
--- src/with.rt:147:13
-carry-name-requires : tie.Need-carry-name-requires
-carry-name-requires c κs = ?
-
--- src/with.rt:150:44
-enum-told-2 : tie.Need-enum-told-2
-enum-told-2 c = search needs
-
--- src/with.rt:150:66
-mul-walk-expr : tie.Need-mul-walk-expr
-mul-walk-expr c = search needs
-
--- src/with.rt:150:26
-walk-expr-requires : tie.Need-walk-expr-requires
-walk-expr-requires c κs = ?
-
--- src/with.rt:131:1
-same-length : tie.Need-same-length
-same-length c = ?
-
--- src/with.rt:131:1
-same-length-2 : tie.Need-same-length-2
-same-length-2 c = search needs
-
--- src/with.rt:131:1
-same-length-3 : tie.Need-same-length-3
-same-length-3 c = search needs
-
--- src/with.rt:131:1
-same-length-4 : tie.Need-same-length-4
-same-length-4 c = search needs
-
--- src/with.rt:131:1
-returns-2 : tie.Need-returns-2
-returns-2 c = ?
-
--- src/with.rt:131:1
-same-length-5 : tie.Need-same-length-5
-same-length-5 c = ?
-
--- src/with.rt:131:1
-same-length-6 : tie.Need-same-length-6
-same-length-6 c = search needs
-
--- src/with.rt:131:1
-same-length-7 : tie.Need-same-length-7
-same-length-7 c = search needs
-
--- src/with.rt:131:1
-same-length-8 : tie.Need-same-length-8
-same-length-8 c = search needs
-
--- src/with.rt:131:1
-returns-3 : tie.Need-returns-3
-returns-3 c = ?
-
--- src/with.rt:131:1
-same-length-9 : tie.Need-same-length-9
-same-length-9 c = search needs
-
--- src/with.rt:131:1
-same-length-10 : tie.Need-same-length-10
-same-length-10 c = search needs
-
--- src/with.rt:131:1
-same-length-11 : tie.Need-same-length-11
-same-length-11 c = search needs
-
--- src/with.rt:131:1
-returns-4 : tie.Need-returns-4
-returns-4 c = ?
 
 pub walk-carried-spec : {M : Type 1} → statement M
 walk-carried-spec =
+    let form = fact (λ (k : tie.After-known-told). rw (k .before .f .given .1) at (k .before .before .before .read-form .ensures .1)) in
+    let a-var = fact (λ (k : tie.After-known-told2). rw (k .before .v .given .1) at (k .before .before .before .direct-of .ensures)) in
+    let a-name = fact (λ (k : tie.After-known-told3). rw (k .before .x .given .1) at (k .before .before .before .direct-of .ensures)) in
+    let var-there = fact (λ (k : tie.After-known-told2). var-paid (k .before .before .before .before .before .before .before .before .before .before .before .before .before .before .before .before .pre .1 .1 .1 .fine .places) (form (k .before .before .before .before)) (a-var k)) in
+    let name-there = fact (λ (k : tie.After-known-told3). name-paid (k .before .before .before .before .before .before .before .before .before .before .before .before .before .before .before .before .pre .1 .1 .1 .fine .places) (form (k .before .before .before .before)) (a-name k)) in
+    let var-passes = fact (λ (k : tie.After-carry-var). direct-passes (k .before .before .before .before .before .before .before .before .before .before .before .before .before .before .before .before .before .before .before .before .before .pre .1 .1 .1) (k .before .before .before .before .before .before .before .before .before .before .before .before .before .before .before .before .before .before .before .before .before .pre .1 .1 .0) (var-there (k .before .before .before .before .before)) (form (k .before .before .before .before .before .before .before .before .before)) (k .before .before .before .before .before .before .before .before .before .before .before .before .before .before .before .before .before .before .before .before .before .args .alias) (k .before .before .before .before .before .before .before .before .before .before .before .before .before .before .before .before .before .before .before .before .before .args .mode) (k .carry-var .ensures) (ap directForm (a-var (k .before .before .before .before .before))) (λ id s. var-within (worldAt (words (k .before .before .before .before .before .before .before .before .before .before .before .before .before .before .before .before .before .before .before .before .before .args .s .now)) (k .before .before .before .before .before .before .before .before .before .before .before .before .before .before .before .before .before .before .before .before .before .args .tab .now) id) (tablesIn (k .before .before .before .before .before .before .before .before .before .before .before .before .before .before .before .before .before .before .before .before .before .args .tab .now)) (modeOf (k .before .before .before .before .before .before .before .before .before .before .before .before .before .before .before .before .before .before .before .before .before .args .mode)) s _ (k .before .before .before .before .before .before .before .before .before .before .before .before .before .before .before .before .before .before .before .before .before .pre .1 .0 .resolves) (rw (a-var (k .before .before .before .before .before)) at (form (k .before .before .before .before .before .before .before .before .before) .same)))) in
+    let name-passes = fact (λ (k : tie.After-carry-name). direct-passes (k .before .before .before .before .before .before .before .before .before .before .before .before .before .before .before .before .before .before .before .before .before .pre .1 .1 .1) (k .before .before .before .before .before .before .before .before .before .before .before .before .before .before .before .before .before .before .before .before .before .pre .1 .1 .0) (name-there (k .before .before .before .before .before) .0) (form (k .before .before .before .before .before .before .before .before .before)) (k .before .before .before .before .before .before .before .before .before .before .before .before .before .before .before .before .before .before .before .before .before .args .alias) (k .before .before .before .before .before .before .before .before .before .before .before .before .before .before .before .before .before .before .before .before .before .args .mode) (k .carry-name .ensures) (ap directForm (a-name (k .before .before .before .before .before))) (λ id s. name-within (worldAt (words (k .before .before .before .before .before .before .before .before .before .before .before .before .before .before .before .before .before .before .before .before .before .args .s .now)) (k .before .before .before .before .before .before .before .before .before .before .before .before .before .before .before .before .before .before .before .before .before .args .tab .now) id) (tablesIn (k .before .before .before .before .before .before .before .before .before .before .before .before .before .before .before .before .before .before .before .before .before .args .tab .now)) (modeOf (k .before .before .before .before .before .before .before .before .before .before .before .before .before .before .before .before .before .before .before .before .before .args .mode)) s _ (k .before .before .before .before .before .before .before .before .before .before .before .before .before .before .before .before .before .before .before .before .before .pre .1 .0 .resolves) (rw (a-name (k .before .before .before .before .before)) at (form (k .before .before .before .before .before .before .before .before .before) .same)))) in
     tie.close
     (tie.spec
-    slice-read-at
-    cast-at
-    shared-slice-read-read-form
-    read-form-requires
-    enum-known-f
-    enum-told
-    returns
-    direct-of-requires
-    enum-known-v
-    cast-m
-    slice-write-m
-    carry-var-requires
-    enum-known-x
-    cast-m-2
-    slice-write-m-2
-    carry-name-requires
-    enum-told-2
-    mul-walk-expr
-    walk-expr-requires
-    same-length
-    same-length-2
-    same-length-3
-    same-length-4
-    returns-2
-    same-length-5
-    same-length-6
-    same-length-7
-    same-length-8
-    returns-3
-    same-length-9
-    same-length-10
-    same-length-11
-    returns-4)
+    (λ c. search needs)  -- slice-read-at
+    (λ c. search needs)  -- cast-at
+    (λ c. search needs)  -- shared-slice-read-read-form
+    (λ c κs. search needs)  -- read-form-requires
+    (λ c. search needs)  -- enum-known-f
+    (λ c. search needs)  -- enum-told
+    (λ c. form-refused (c .before .before .before .before .before .before .before .before .before .before .before .args .alias) (c .before .before .before .before .before .before .before .before .before .before .before .args .mode) (rw (c .enum-told .given .1) at (c .before .before .read-form .ensures .1)))  -- returns
+    (λ c κs. search needs)  -- direct-of-requires
+    (λ c. search needs)  -- enum-known-v
+    (λ c. omega (arith, form (c .before .before .before .before) .within, c .before .before .before .before .before .before .before .before .before .before .before .before .before .before .before .before .pre .1 .1 .1 .fine .short))  -- cast-m
+    (λ c. search needs)  -- slice-write-m
+    (λ c κs. (c .before .before .before .before .before .before .before .before .before .before .before .before .before .before .before .before .before .before .before .before .pre .0, (form-holding (c .before .before .before .before .before .before .before .before .before .before .before .before .before .before .before .before .before .before .before .before .pre .1 .1 .1) (c .before .before .before .before .before .before .before .before .before .before .before .before .before .before .before .before .before .before .before .before .pre .1 .1 .0) (var-there (c .before .before .before .before)) (form (c .before .before .before .before .before .before .before .before)), form-ready (c .before .before .before .before .before .before .before .before .before .before .before .before .before .before .before .before .before .before .before .before .pre .1 .1 .1) (c .before .before .before .before .before .before .before .before .before .before .before .before .before .before .before .before .before .before .before .before .pre .1 .1 .0) (var-there (c .before .before .before .before)) (form (c .before .before .before .before .before .before .before .before)))))  -- carry-var-requires
+    (λ c. search needs)  -- enum-known-x
+    (λ c. omega (arith, form (c .before .before .before .before) .within, c .before .before .before .before .before .before .before .before .before .before .before .before .before .before .before .before .pre .1 .1 .1 .fine .short))  -- cast-m-2
+    (λ c. search needs)  -- slice-write-m-2
+    (λ c κs. (name-there (c .before .before .before .before) .1, (form-holding (c .before .before .before .before .before .before .before .before .before .before .before .before .before .before .before .before .before .before .before .before .pre .1 .1 .1) (c .before .before .before .before .before .before .before .before .before .before .before .before .before .before .before .before .before .before .before .before .pre .1 .1 .0) (name-there (c .before .before .before .before) .0) (form (c .before .before .before .before .before .before .before .before)), form-ready (c .before .before .before .before .before .before .before .before .before .before .before .before .before .before .before .before .before .before .before .before .pre .1 .1 .1) (c .before .before .before .before .before .before .before .before .before .before .before .before .before .before .before .before .before .before .before .before .pre .1 .1 .0) (name-there (c .before .before .before .before) .0) (form (c .before .before .before .before .before .before .before .before)))))  -- carry-name-requires
+    (λ c. search needs)  -- enum-told-2
+    (λ c. search needs)  -- mul-walk-expr
+    (λ c κs. (omega arith, ready-less (omega arith) (c .before .before .before .before .before .before .before .before .before .before .before .before .before .before .before .before .before .before .pre .1 .1 .1)))  -- walk-expr-requires
+    (λ c. var-passes (c .before .before .before .before .before .before) .sized)  -- same-length
+    (λ c. search needs)  -- same-length-2
+    (λ c. search needs)  -- same-length-3
+    (λ c. search needs)  -- same-length-4
+    (λ c. var-passes (c .before .before .before .before .before .before))  -- returns-2
+    (λ c. name-passes (c .before .before .before .before .before .before) .sized)  -- same-length-5
+    (λ c. search needs)  -- same-length-6
+    (λ c. search needs)  -- same-length-7
+    (λ c. search needs)  -- same-length-8
+    (λ c. name-passes (c .before .before .before .before .before .before))  -- returns-3
+    (λ c. search needs)  -- same-length-9
+    (λ c. search needs)  -- same-length-10
+    (λ c. search needs)  -- same-length-11
+    (λ c. other-passes (c .before .before .before .before .before .before .before .before .before .before .before .before .before .before .before .before .before .before .before .before .before .before .before .before .before .args .alias) (c .before .before .before .before .before .before .before .before .before .before .before .before .before .before .before .before .before .before .before .before .before .before .before .before .before .args .mode) _ (form (c .before .before .before .before .before .before .before .before .before .before .before .before .before)) (rw (c .before .before .before .before .before .before .before .before .before .before .enum-told2 .given .1) at (c .before .before .before .before .before .before .before .before .before .before .before .before .direct-of .ensures)) (in-set (c .before .before .before .before .before .before .before .before .before .before .before .before .before .before .before .before .before .before .before .before .before .before .before .before .before .args .mode) 0 (c .before .before .before .before .before .before .before .before .before .before .before .before .before .before .before .before .before .before .before .before .before .before .before .before .before .args .mode / 64 * 64) (omega arith) (omega arith) 48 (omega arith) (c .before .before .before .before .before .before .walk-expr .ensures))))  -- returns-4
