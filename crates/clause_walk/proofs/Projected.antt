@@ -42,13 +42,19 @@ general-row none = refl
 general-row (some (row i x k a b)) = refl
 
 module _ (w : World) (t : Tables) (m : Mode) (s : Both) (r : List ℕ) {r2 : List ℕ} (live : m .resolves ≡ true) where
-  pub var-within : {v : ℕ} → readForm (t .names) r ≡ ok (Var v) r2 → within w t m general s r ≡ ok (onNames (useVar w v (w .row v)) s) r2
+  var-at : (d : ℕ) {v : ℕ} → readForm (t .names) r ≡ ok (Var v) r2 → exprGo w t (suc d) m general s r ≡ ok (onNames (useVar w v (w .row v)) s) r2
   unfolding exprGo restGo rowGo rounds
-  var-within {v} q = rw (q, general-row (w .row v)) (ap (λ (u : Both). ok u r2) (names-step m (useVar w v (w .row v)) s live))
+  var-at d {v} q = rw (q, general-row (w .row v)) (ap (λ (u : Both). ok u r2) (names-step m (useVar w v (w .row v)) s live))
+
+  name-at : (d : ℕ) {x : ℕ} → readForm (t .names) r ≡ ok (Unresolved x) r2 → exprGo w t (suc d) m general s r ≡ ok (onNames (nameUse w x) s) r2
+  unfolding exprGo restGo rowGo rounds
+  name-at d {x} q = rw q (ap (λ (u : Both). ok u r2) (names-step m (nameUse w x) s live))
+
+  pub var-within : {v : ℕ} → readForm (t .names) r ≡ ok (Var v) r2 → within w t m general s r ≡ ok (onNames (useVar w v (w .row v)) s) r2
+  var-within q = var-at 47 q
 
   pub name-within : {x : ℕ} → readForm (t .names) r ≡ ok (Unresolved x) r2 → within w t m general s r ≡ ok (onNames (nameUse w x) s) r2
-  unfolding exprGo restGo rowGo rounds
-  name-within {x} q = rw q (ap (λ (u : Both). ok u r2) (names-step m (nameUse w x) s live))
+  name-within q = name-at 47 q
 
 pub none-within : (w : World) (t : Tables) (m : Mode) (s : Both) (r : List ℕ) → readForm (t .names) r ≡ no 5 → within w t m general s r ≡ no 5
 unfolding exprGo

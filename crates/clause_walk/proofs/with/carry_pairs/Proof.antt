@@ -1,82 +1,23 @@
+-- After i turns the barrier carries the first i pairs, for which as many events pay.
+use Prim.Native.Nat.{_-_, _≤_, _*_}
+use borrow.Author.Needs.{needs}
+use lib.ListN.{length}
+use mathlib.Core.Path.{_≡_, refl, _∙_}
+use native.Mathlib.Omega.{arith}
+use Rattle.semantics.specs.Resolve.{carryAll}
+use Rattle.steps.specs.Hold.{Costs, onNames}
+use Rattle.steps.specs.Memory.{heldOf, worldAt}
+use Rattle.words.specs.Words.{words}
+use Rattle.clause_walk.proofs.Carrying.{none-carried, one-carried, carry-room, all-carried}
 use Rattle.clause_walk.proofs.with.carry_pairs.Statement.{statement}
 use Rattle.clause_walk.proofs.with.carry_pairs.Tie as tie
-use Rattle.clause_walk.proofs.with.carry_pairs.Reads as reads
-use Rattle.clause_walk.proofs.with.carry_pairs.Lts as lts
-use Rattle.steps.proofs.say_wanted.Reads as say-wanted-reads
+use Rattle.clause_walk.specs.Passes.{pairsIn}
 
 abbrev Inv-loop : tie.InvT-loop
-Inv-loop s tab m₀ vis found₀ held n i₀ m found i = ?
+Inv-loop s tab m₀ vis found₀ held n i₀ m found i = (i ≤ n) × Costs i 0 (words s) tab m₀ vis found₀ m vis found (λ id. onNames (carryAll (worldAt (words s) tab id) (pairsIn i held)))
 
 abbrev μ-loop : tie.MeasureT-loop
-μ-loop s tab m₀ vis found₀ held n i₀ m found i = ?
-
--- src/with.rt:186:13
-slice-read-n : tie.Need-slice-read-n Inv-loop μ-loop
-slice-read-n c = ?
-
--- src/with.rt:186:13
-cast-n : tie.Need-cast-n Inv-loop μ-loop
-cast-n c = ?
-
--- src/with.rt:188:5
-loop-holds : tie.Need-loop-holds Inv-loop μ-loop
-loop-holds c = ?
-
--- src/with.rt:189:17
-mul-k : tie.Need-mul-k Inv-loop μ-loop
-mul-k c = ?
-
--- src/with.rt:190:17
-mul-x : tie.Need-mul-x Inv-loop μ-loop
-mul-x c = ?
-
--- src/with.rt:190:17
-shared-slice-read-x : tie.Need-shared-slice-read-x Inv-loop μ-loop
-shared-slice-read-x c = ?
-
--- src/with.rt:191:22
-add-v : tie.Need-add-v Inv-loop μ-loop
-add-v c = ?
-
--- src/with.rt:191:17
-mul-v : tie.Need-mul-v Inv-loop μ-loop
-mul-v c = ?
-
--- src/with.rt:191:17
-shared-slice-read-v : tie.Need-shared-slice-read-v Inv-loop μ-loop
-shared-slice-read-v c = ?
-
--- src/with.rt:192:19
-slice-read-cur : tie.Need-slice-read-cur Inv-loop μ-loop
-slice-read-cur c = ?
-
--- src/with.rt:193:9
-say-wanted-requires : tie.Need-say-wanted-requires Inv-loop μ-loop
-say-wanted-requires c κs = ?
-
--- src/with.rt:194:9
-add-i : tie.Need-add-i Inv-loop μ-loop
-add-i c = ?
-
--- src/with.rt:188:5
-loop-less : tie.Need-loop-less Inv-loop μ-loop
-loop-less c = ?
-
--- src/with.rt:188:5
-loop-again : tie.Need-loop-again Inv-loop μ-loop
-loop-again c = ?
-
--- src/with.rt:182:1
-same-length : tie.Need-same-length Inv-loop μ-loop
-same-length c = ?
-
--- src/with.rt:182:1
-same-length-2 : tie.Need-same-length-2 Inv-loop μ-loop
-same-length-2 c = ?
-
--- src/with.rt:182:1
-returns : tie.Need-returns Inv-loop μ-loop
-returns c = ?
+μ-loop s tab m₀ vis found₀ held n i₀ m found i = n - i
 
 pub carry-pairs-spec : {M : Type 1} → statement M
 carry-pairs-spec =
@@ -84,20 +25,20 @@ carry-pairs-spec =
     (tie.spec
     Inv-loop
     μ-loop
-    slice-read-n
-    cast-n
-    loop-holds
-    mul-k
-    mul-x
-    shared-slice-read-x
-    add-v
-    mul-v
-    shared-slice-read-v
-    slice-read-cur
-    say-wanted-requires
-    add-i
-    loop-less
-    loop-again
-    same-length
-    same-length-2
-    returns)
+    (λ c. omega (arith, c .before .before .before .before .before .before .before .pre .1 .1 .size))  -- slice-read-n
+    (λ c. search needs)  -- cast-n
+    (λ c. (omega arith, none-carried (c .before .before .before .before .before .before .before .args .held .now)))  -- loop-holds
+    (λ c. omega (arith, c .loop-test .taken, c .before .loop .inv .0, c .before .before .before .before .before .before .before .before .before .pre .0))  -- mul-k
+    (λ c. omega (arith, c .loop-test .taken, c .before .loop .inv .0, c .before .before .before .before .before .before .before .before .before .pre .0))  -- mul-x
+    (λ c. omega (arith, c .before .loop-test .taken, c .before .before .before .before .before .before .before .before .before .before .pre .0))  -- shared-slice-read-x
+    (λ c. omega (arith, c .before .loop-test .taken, c .before .before .before .before .before .before .before .before .before .before .pre .0))  -- add-v
+    (λ c. omega (arith, c .before .loop-test .taken, c .before .before .before .before .before .before .before .before .before .before .pre .0))  -- mul-v
+    (λ c. omega (arith, c .before .before .loop-test .taken, c .before .before .before .before .before .before .before .before .before .before .before .pre .0))  -- shared-slice-read-v
+    (λ c. omega (arith, c .before .before .before .before .loop .inv .1 .sized, c .before .before .before .before .before .before .before .before .before .before .before .before .pre .1 .1 .size))  -- slice-read-cur
+    (λ c κs. carry-room (c .before .before .before .before .before .loop-test .taken) (c .before .before .before .before .before .before .before .before .before .before .before .before .before .before .pre .1 .0) (c .before .before .before .before .before .before .before .before .before .before .before .before .before .before .pre .1 .1) (c .before .before .before .before .before .before .loop .inv .1))  -- say-wanted-requires
+    (λ c. omega (arith, c .before .before .before .before .before .before .before .before .before .before .loop-test .taken, c .before .before .before .before .before .before .before .before .before .before .before .before .before .before .before .before .before .before .before .pre .0))  -- add-i
+    (λ c. omega (arith, c .before .before .before .before .before .before .before .before .before .before .loop-test .taken))  -- loop-less
+    (λ c. (omega (arith, c .before .before .before .before .before .before .before .before .before .before .loop-test .taken), one-carried (c .before .before .before .before .before .before .before .before .before .before .before .before .before .before .before .before .before .before .before .args .held .now) _ (c .before .before .before .before .before .before .before .before .before .before .before .before .before .before .before .before .before .before .before .pre .1 .1 .size) refl (c .before .before .before .before .before .before .before .before .before .before .before .loop .inv .1) (c .before .before .before .before .say-wanted .ensures)))  -- loop-again
+    (λ c. c .before .loop .inv .1 .sized)  -- same-length
+    (λ c. c .before .loop .inv .1 .wrote)  -- same-length-2
+    (λ c. all-carried (c .before .before .before .before .before .before .before .before .before .args .held .now) (c .before .loop .inv .0) (c .loop-test .left) (c .before .loop .inv .1)))  -- returns
