@@ -233,9 +233,9 @@ fn bind_with(s: &[u8], tab: &[u32], m: &mut [u32], vis: &mut [u32], found: &mut 
 {
     enter(s, tab, m, vis, found, 7, head.start, head.end);
     carry_pairs(s, tab, m, vis, found, held);
-    let barrier = m[CUR];
-    leave(tab, m, vis, 0, barrier);
     enter(s, tab, m, vis, found, 1, head.end, head.end);
+    let root = m[CUR];
+    leave(tab, m, vis, 0, root);
     bind_pairs(s, tab, m, vis, found, held);
 }
 
