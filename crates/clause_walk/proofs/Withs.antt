@@ -47,8 +47,8 @@ unheld {m = m} o =
           };
     }
 
-pub unheld-none : (m : List ℕ) → length m ≡ 64 → heldOf (set m 7 0) ≡ 0
-unheld-none m size = store 7 0 (omega arith) size (unset {m = m}) .held
+pub unheld-none : {j : ℕ} {ws tab m₀ vis₀ found₀ : List ℕ} {G : Goer} {c : ℕ} {m vis found : List ℕ} {K : Rest} → Stage none j ws tab m₀ vis₀ found₀ G c m vis found K → heldOf (set m 7 0) ≡ 0
+unheld-none {m = m} o = store 7 0 (omega arith) (o .size) (unset {m = m}) .held
 
 module _ {j : ℕ} {ws tab m₀ vis₀ found₀ : List ℕ} {G : Goer} {c : ℕ} {m vis found : List ℕ} (mode n : ℕ) {K : (ℕ → ℕ) → Both → Both × List Pair → Chain Both} {held m' vis' found' held' : List ℕ}
     (o : Stage none j ws tab m₀ vis₀ found₀ G c m vis found (λ id s t. step (projectionsAt ws tab mode n id [] t) (K id s))) (z : heldOf m ≡ 0) where
@@ -106,10 +106,8 @@ pub record Known (tab m m3 held3 m5 : List ℕ) : Type 0 where
   pub reach : atOf m + 1 + heldOf m3 * 3 ≤ atOf m5
   pub named : InNames (slotsIn tab) (pairsIn (heldOf m3) held3)
 
-pub with-holding : {ws held : List ℕ} {mode : ℕ} (tab m : List ℕ) → length m ≡ 64 → Held ws held mode → Holding 0 ws tab (set m 7 0) held
-with-holding tab m size h =
-    let q = store 7 0 (omega arith) size (unset {m = m}) in
-    record { room = h .room; few = omega (arith, q .held) }
+pub with-holding : {j : ℕ} {ws tab m₀ vis₀ found₀ : List ℕ} {G : Goer} {c : ℕ} {m vis found held : List ℕ} {K : Rest} {mode : ℕ} → Stage none j ws tab m₀ vis₀ found₀ G c m vis found K → Held ws held mode → Holding 0 ws tab (set m 7 0) held
+with-holding o h = record { room = h .room; few = omega (arith, unheld-none o) }
 
 pub known : {ws tab m vis found held m1 m3 vis3 found3 held3 m4 m5 vis5 found5 : List ℕ} {lo hi lo' hi' n g e e' : ℕ} {r r' : Word} {P : Projector} {H : Goer} → length m ≡ 64 → Next ws lo hi m m1 r → r ≡ word.Is n → Carries 0 ws tab (set m1 7 0) vis found held m3 vis3 found3 held3 P e → e ≡ 0 →
     Next ws lo' hi' m3 m4 r' → r' ≡ word.Is g → Walked 48 ws tab m4 vis3 found3 m5 vis5 found5 H e' → e' ≡ 0 → Known tab m m3 held3 m5
