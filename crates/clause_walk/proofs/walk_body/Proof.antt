@@ -3,7 +3,7 @@ use Prim.Native.Nat.{_*_, _/_}
 use borrow.Author.Needs.{needs}
 use mathlib.Core.Path.{refl}
 use native.Mathlib.Omega.{arith}
-use Rattle.fused.specs.Clauses.{openingGo, bodyGo}
+use Rattle.fused.specs.Clauses.{openingGo, markedGo, bodyGo}
 use Rattle.semantics.specs.World.{opens}
 use Rattle.steps.proofs.Held.{ready-less}
 use Rattle.walk.proofs.Modes.{in-pair}
@@ -13,7 +13,7 @@ use Rattle.clause_walk.proofs.walk_body.Statement.{statement}
 use Rattle.clause_walk.proofs.walk_body.Tie as tie
 
 pub walk-body-spec : {M : Type 1} → statement M
-unfolding bodyGo openingGo opens
+unfolding bodyGo openingGo markedGo opens
 walk-body-spec =
     tie.close
     (tie.spec
