@@ -1,17 +1,29 @@
 -- What the walk over clauses and arms asks and leaves. A WITH replaces what is visible, so nothing is said of what stays below.
-use Prim.Native.Nat.{ℕ, zero, suc, _+_, _-_, _*_, _≤_}
+use Prim.Native.Nat.{ℕ, zero, suc, _+_, _*_, _<_, _≤_}
 use mathlib.Core.Path.{_≡_}
 use mathlib.Core.Bool.{Bool, true}
 use mathlib.Core.List.{List, [], _∷_, _++_}
-use lib.ListN.{length, getD, drop}
-use Rattle.heads.specs.Got.{Got, ok, no, bind, flag}
-use Rattle.clauses.specs.Tree.{Opening}
-use Rattle.semantics.specs.Resolve.{Pair, pair, enter}
-use Rattle.fused.specs.Fused.{Both, Mode, rounds, step, patternGo}
-use Rattle.fused.specs.Clauses.{within, projectionsGo, countedRow, yieldGo, openingGo, withGo, returnGo, unwindGo, callGo, markedGo, bodyGo, clauseGo, armGo}
-use Rattle.steps.specs.Memory.{atOf, heldOf, tablesIn, worldAt, modeOf}
-use Rattle.steps.specs.Hold.{Fit, Holds}
+use lib.ListN.{length, getD, set, drop}
+use Rattle.scope.specs.Graph.{unwindScope}
+use Rattle.heads.specs.Got.{Got, ok, no, bind, wordIn, flag}
+use Rattle.heads.specs.Answer.{Ans, wordGot, wordEnd}
+use Rattle.heads.specs.Form.{readForm}
+use Rattle.heads.specs.declared.Word.{Word}
+use Rattle.heads.specs.declared.Word.the-variants as word
+use Rattle.heads.specs.declared.Form.{Form}
+use Rattle.heads.specs.declared.Form.the-variants.{Var, Unresolved}
+use Rattle.clauses.specs.Read.{aliasOf}
+use Rattle.tables.specs.Row.{valueKind}
+use Rattle.semantics.specs.World.{Direct, other, nameOf}
+use Rattle.semantics.specs.Resolve.{Pair, pair, enter, bindName, bindAll, carries, barrier, fresh}
+use Rattle.semantics.specs.Kinds.{general}
+use Rattle.fused.specs.Fused.{Both, rounds, step, noting, patternGo}
+use Rattle.fused.specs.Clauses.{within, directForm, directOf, projectionsGo, countedRow, yieldGo, withGo, returnGo, unwindGo, callGo, markedGo, bodyGo, clauseGo, armGo}
+use Rattle.steps.specs.Memory.{atOf, topOf, heldOf, namesIn, slotsIn, tablesIn, worldAt, modeOf}
+use Rattle.steps.specs.Hold.{Fits, Fit, Holds, onNames}
 use Rattle.walk.specs.Goes.{Goer, Comes}
+use Rattle.clause_walk.specs.declared.with.Direct.{Direct as Direct'}
+use Rattle.clause_walk.specs.declared.with.Direct.the-variants as direct'
 
 -- the pairs that a WITH holds, two words each, in order
 unfoldable pub pairsIn : ℕ → List ℕ → List Pair
@@ -36,7 +48,7 @@ pub record Passes (j : ℕ) (ws tab m vis found held m' vis' found' held' : List
   pub kept : length held' ≡ length held
   pub passes : PassesAs j ws tab m vis found m' vis' found' G r
 
--- Projections of a WITH: the pairs that they carry are held behind those there are, and each is paid for by two words more.
+-- Projections of a WITH: the pairs that they carry are held behind those there are.
 pub record ComesHolding (id : ℕ → ℕ) (ws tab m vis found held : List ℕ) (g : Got (Both × List Pair)) : Type 0 where
   pub state : Both
   pub holds : Holds id tab m vis found state
@@ -46,46 +58,113 @@ pub record ComesHolding (id : ℕ → ℕ) (ws tab m vis found held : List ℕ) 
 abbrev pub Projector : Type 0
 Projector = (ℕ → ℕ) → List Pair → Both → List ℕ → Got (Both × List Pair)
 
-pub record Carried (ws tab m vis found held m' vis' found' held' : List ℕ) (G : Projector) : Type 0 where
+-- the names of pairs are names that `vis` has a place for
+unfoldable pub InNames : ℕ → List Pair → Type 0
+InNames slots [] = Unit {0}
+InNames slots (pair x v ∷ ps) = (x < slots) × InNames slots ps
+
+-- Three words were read for each pair, j of them before; one word pays for its use, two are left for it.
+pub record Carried (j : ℕ) (ws tab m vis found held m' vis' found' held' : List ℕ) (G : Projector) : Type 0 where
   pub from : atOf m ≤ atOf m'
-  pub more : heldOf m ≤ heldOf m'
-  pub paid : heldOf m' * 3 + atOf m ≤ heldOf m * 3 + atOf m'
-  pub fit : (k : ℕ) → Fit k ws tab m vis found → Fit (k + (heldOf m' - heldOf m) * 2) ws tab m' vis' found'
+  pub paid : heldOf m' * 3 + atOf m ≤ heldOf m * 3 + j + atOf m'
+  pub named : InNames (slotsIn tab) (pairsIn (heldOf m) held) → InNames (slotsIn tab) (pairsIn (heldOf m') held')
+  pub fit : (k : ℕ) → Fit (j + k + heldOf m * 2) ws tab m vis found → Fit (k + heldOf m' * 2) ws tab m' vis' found'
   pub goes : (id : ℕ → ℕ) (s : Both) → Holds id tab m vis found s → ComesHolding id ws tab m' vis' found' held' (G id (pairsIn (heldOf m) held) s (drop (atOf m) ws))
 
-abbrev pub CarriesAs : (ws tab m vis found held m' vis' found' held' : List ℕ) → Projector → ℕ → Type 0
-CarriesAs ws tab m vis found held m' vis' found' held' G zero = Carried ws tab m vis found held m' vis' found' held' G
-CarriesAs ws tab m vis found held m' vis' found' held' G (suc c) =
+abbrev pub CarriesAs : (j : ℕ) → (ws tab m vis found held m' vis' found' held' : List ℕ) → Projector → ℕ → Type 0
+CarriesAs j ws tab m vis found held m' vis' found' held' G zero = Carried j ws tab m vis found held m' vis' found' held' G
+CarriesAs j ws tab m vis found held m' vis' found' held' G (suc c) =
     (id : ℕ → ℕ) (s : Both) → Holds id tab m vis found s → G id (pairsIn (heldOf m) held) s (drop (atOf m) ws) ≡ no (suc c)
 
-pub record Carries (ws tab m vis found held m' vis' found' held' : List ℕ) (G : Projector) (r : ℕ) : Type 0 where
+pub record Carries (j : ℕ) (ws tab m vis found held m' vis' found' held' : List ℕ) (G : Projector) (r : ℕ) : Type 0 where
   pub sized : length m' ≡ length m
   pub seen : length vis' ≡ length vis
   pub wrote : length found' ≡ length found
   pub kept : length held' ≡ length held
-  pub carries : CarriesAs ws tab m vis found held m' vis' found' held' G r
+  pub carries : CarriesAs j ws tab m vis found held m' vis' found' held' G r
 
 -- what the clauses ask besides: room for the pairs of a WITH, and that names are resolved
 pub record Held (ws held : List ℕ) (mode : ℕ) : Type 0 where
   pub room : length ws ≤ length held
   pub resolves : modeOf mode .resolves ≡ true
 
+-- while projections are walked: three words were read for each pair that is held, and j more
+pub record Holding (j : ℕ) (ws tab m held : List ℕ) : Type 0 where
+  pub room : length ws ≤ length held
+  pub few : heldOf m * 3 + j ≤ atOf m
+
 -- a pair was held
 pub record Kept (x v : ℕ) (m held m' held' : List ℕ) : Type 0 where
-  pub count : heldOf m' ≡ suc (heldOf m)
-  pub others : (i : ℕ) → (i ≡ 7 → ⊥) → getD m' i 0 ≡ getD m i 0
-  pub size : length m' ≡ length m
-  pub same : pairsIn (heldOf m') held' ≡ pairsIn (heldOf m) held ++ (pair x v ∷ [])
+  pub numbers : m' ≡ set m 7 (suc (heldOf m))
+  pub same : pairsIn (suc (heldOf m)) held' ≡ pairsIn (heldOf m) held ++ (pair x v ∷ [])
   pub kept : length held' ≡ length held
+
+-- A projection that is a Var or a name: F is its use, and what it carries is held.
+pub record Adds (ws tab m vis found held m' vis' found' held' : List ℕ) (F : (ℕ → ℕ) → Both → Both) (alias : ℕ) (d : Direct) : Type 0 where
+  pub at : atOf m' ≡ atOf m
+  pub sized : length m' ≡ length m
+  pub wrote : length found' ≡ length found
+  pub kept : length held' ≡ length held
+  pub more : heldOf m' ≤ heldOf m + 1
+  pub named : InNames (slotsIn tab) (pairsIn (heldOf m) held) → InNames (slotsIn tab) (pairsIn (heldOf m') held')
+  pub fit : (k : ℕ) → Fit (3 + k + heldOf m * 2) ws tab m vis found → Fit (k + heldOf m' * 2) ws tab m' vis' found'
+  pub goes : (id : ℕ → ℕ) (s : Both) → Holds id tab m vis found s → Holds id tab m' vis' found' (F id s)
+  pub pairs : (id : ℕ → ℕ) (s : Both) → Holds id tab m vis found s → pairsIn (heldOf m') held' ≡ pairsIn (heldOf m) held ++ carries (worldAt ws tab id) (aliasOf alias) d (F id s .names .visible)
+
+-- which of the two forms a head is
+abbrev pub DirectAs : Form → Direct' → Type 0
+DirectAs f (direct'.Var v) = f ≡ Var v
+DirectAs f (direct'.Name x) = f ≡ Unresolved x
+DirectAs f direct'.Other = directForm f ≡ other
+
+-- n pairs were bound: three words of the stack pay for each, and one for its event
+pub record BindsAll (n : ℕ) (ws tab m vis found held m' vis' found' : List ℕ) : Type 0 where
+  pub at : atOf m' ≡ atOf m
+  pub sized : length m' ≡ length m
+  pub seen : length vis' ≡ length vis
+  pub wrote : length found' ≡ length found
+  pub fit : (i k : ℕ) → Fits (n + i) k ws tab m vis found → slotsIn tab + (topOf m + n) * 3 + k ≤ atOf m + 1 → Fits i k ws tab m' vis' found'
+  pub goes : (id : ℕ → ℕ) (s : Both) → Holds id tab m vis found s → Holds id tab m' vis' found' (onNames (bindAll (worldAt ws tab id) (pairsIn n held)) s)
+
+-- what a WITH leaves
+pub record Rebinds (ws tab m vis found held m' vis' found' : List ℕ) (a b : ℕ) : Type 0 where
+  pub at : atOf m' ≡ atOf m
+  pub sized : length m' ≡ length m
+  pub seen : length vis' ≡ length vis
+  pub wrote : length found' ≡ length found
+  pub fit : (k : ℕ) → Fit (2 + k + heldOf m * 2) ws tab m vis found → slotsIn tab + heldOf m * 3 + k ≤ atOf m → Fit k ws tab m' vis' found'
+  pub goes : (id : ℕ → ℕ) (s : Both) → Holds id tab m vis found s →
+      Holds id tab m' vis' found' (onNames (λ y. fresh (worldAt ws tab id) b (pairsIn (heldOf m) held) (barrier (worldAt ws tab id) a b (pairsIn (heldOf m) held) y)) s)
+
+-- where the walk stands after a word, which it passes if it is in range
+abbrev pub moved : List ℕ → Word → List ℕ
+moved m (word.Is w) = set m 0 (atOf m + 1)
+moved m word.No = m
+
+pub record Next (ws : List ℕ) (lo hi : ℕ) (m m' : List ℕ) (r : Word) : Type 0 where
+  pub got : Ans ws (atOf m) (wordIn lo hi (drop (atOf m) ws)) (wordGot ws (atOf m) r) (wordEnd (atOf m) r)
+  pub now : m' ≡ moved m r
 
 -- What is walked, in a mode; a clause has its span from a to b.
 module _ (ws tab : List ℕ) (mode : ℕ) where
   abbrev pub projectionsAt : ℕ → Projector
   projectionsAt n id ps = projectionsGo (worldAt ws tab id) (tablesIn tab) (modeOf mode) n ps
 
+  -- the expression of a projection with the alias
+  abbrev pub carriedAt : ℕ → Projector
+  carriedAt alias id ps s r =
+      bind (within (worldAt ws tab id) (tablesIn tab) (modeOf mode) general s r)
+      (λ u r2. ok (u, ps ++ carries (worldAt ws tab id) (aliasOf alias) (directOf (readForm (namesIn tab) r)) (u .names .visible)) r2)
+
   -- projections of a RETURN, which carries nothing
+  abbrev pub outputAt : Goer
+  outputAt id s r = bind (wordIn 0 (suc (namesIn tab)) r) (λ a r1. within (worldAt ws tab id) (tablesIn tab) (modeOf mode) general s r1)
+
   abbrev pub outputsAt : ℕ → Goer
-  outputsAt n id s r = bind (projectionsGo (worldAt ws tab id) (tablesIn tab) (modeOf mode) n [] s r) (λ x r2. ok (x .0) r2)
+  outputsAt n id = rounds n (outputAt id)
+
+  abbrev pub returnedAt : Goer
+  returnedAt id s r = bind (wordIn 0 4294967296 r) (λ n r1. rounds n (outputAt id) s r1)
 
   abbrev pub countedAt : Goer
   countedAt id = countedRow (worldAt ws tab id) (tablesIn tab) (modeOf mode)
@@ -99,12 +178,6 @@ module _ (ws tab : List ℕ) (mode : ℕ) where
   abbrev pub matchAt : (a b : ℕ) → Goer
   matchAt a b id s r = bind (flag r) (λ o r1. scopeAt a b 2 id s r1)
 
-  abbrev pub yieldAt : (a b : ℕ) → Goer
-  yieldAt a b id = yieldGo (worldAt ws tab id) (tablesIn tab) (modeOf mode) a b
-
-  abbrev pub openingAt : (a b : ℕ) → Opening → Goer
-  openingAt a b o id = openingGo (worldAt ws tab id) (tablesIn tab) (modeOf mode) a b o
-
   abbrev pub withAt : (a b : ℕ) → Goer
   withAt a b id = withGo (worldAt ws tab id) (tablesIn tab) (modeOf mode) a b
 
@@ -113,9 +186,6 @@ module _ (ws tab : List ℕ) (mode : ℕ) where
 
   abbrev pub unwindAt : (a b : ℕ) → Goer
   unwindAt a b id = unwindGo (worldAt ws tab id) (tablesIn tab) (modeOf mode) a b
-
-  abbrev pub yieldsAt : (a b n : ℕ) → Goer
-  yieldsAt a b n id = rounds n (yieldGo (worldAt ws tab id) (tablesIn tab) (modeOf mode) a b)
 
   abbrev pub callAt : (a b : ℕ) → Goer
   callAt a b id = callGo (worldAt ws tab id) (tablesIn tab) (modeOf mode) a b
@@ -134,3 +204,14 @@ module _ (ws tab : List ℕ) (mode : ℕ) where
 
   abbrev pub armsAt : ℕ → Goer
   armsAt n id = rounds n (armAt id)
+
+-- A yield is bound, and an Unwind's variable, whether or not kinds are checked.
+module _ (ws tab : List ℕ) (a b : ℕ) where
+  abbrev pub yieldAt : Goer
+  yieldAt id = yieldGo (worldAt ws tab id) (tablesIn tab) (modeOf 64) a b
+
+  abbrev pub yieldsAt : ℕ → Goer
+  yieldsAt n id = rounds n (yieldAt id)
+
+  abbrev pub unwoundAt : ℕ → (ℕ → ℕ) → Both → Both
+  unwoundAt v id s = noting (worldAt ws tab id) (v ∷ []) (onNames (λ y. bindName (nameOf (worldAt ws tab id) v) v valueKind (enter unwindScope a b y)) s)

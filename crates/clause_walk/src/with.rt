@@ -1,10 +1,11 @@
 // WITH: its projections are walked, and what they carry is held; then it is bound in a new Root, and alone visible.
 use crate::DEPTH;
+use crate::Head;
+use crate::next_word;
 use heads::Form;
 use heads::FormRead;
 use heads::Word;
 use heads::read_form;
-use heads::word_in;
 use steps::AT;
 use steps::CUR;
 use steps::HELD;
@@ -19,22 +20,31 @@ use steps::leave;
 use steps::record_name;
 use steps::row_of;
 use steps::say;
+use steps::say_wanted;
 use steps::use_name;
 use visible::Found;
 use visible::bind;
 use visible::find;
 use walk::walk_expr;
 use walk::walk_row;
-use words::word;
 ghost use mathlib.Core.Path.{_≡_};
 ghost use mathlib.Core.Bool.{Bool, true};
 ghost use Prim.Native.Nat.{ℕ, _+_, _*_, _<_, _≤_};
-ghost use lib.ListN.{length, getD};
+ghost use lib.ListN.{length};
 ghost use Rattle.words.specs.Words.{words};
-ghost use Rattle.semantics.specs.Resolve.{useVar};
-ghost use Rattle.steps.specs.Memory.{heldOf, worldAt, modeOf};
-ghost use Rattle.steps.specs.Hold.{Ready, Steps, onNames};
-ghost use Rattle.clause_walk.specs.Passes.{Held, Passes, Carries, Kept, projectionsAt, withAt};
+ghost use Rattle.semantics.specs.World.{rowKind, aVar, aName};
+ghost use Rattle.semantics.specs.Resolve.{useVar, carryAll};
+ghost use Rattle.fused.specs.Fused.{nameUse};
+ghost use Rattle.steps.specs.Memory.{atOf, topOf, heldOf, slotsIn, wantsIn, worldAt};
+ghost use Rattle.steps.specs.Hold.{Ready, Fine, Fits, Costs, Steps, onNames};
+ghost use Rattle.clause_walk.specs.Passes.{Held, Holding, Passes, Carries, Kept, Adds, DirectAs, BindsAll, Rebinds, InNames, pairsIn, carriedAt, projectionsAt, withAt};
+
+// The two forms of an expression that a WITH may carry.
+pub enum Direct {
+    Var(u32),
+    Name(u32),
+    Other,
+}
 
 // A pair is held behind those there are.
 fn keep(m: &mut [u32], held: &mut [u32], x: u32, v: u32)
@@ -50,8 +60,8 @@ fn keep(m: &mut [u32], held: &mut [u32], x: u32, v: u32)
 
 // A Var as a projection: its use, in the general setting.
 fn use_plain(s: &[u8], tab: &[u32], m: &mut [u32], vis: &[u32], found: &mut [u32], v: u32)
-    requires { ⌜ Ready 1 (words (now s)) (now tab) (now m) (now vis) (now found) ⌝ }
-    ensures { λ r. ⌜ Steps 1 (words (now (s .entry))) (now (tab .entry)) (now (m .entry)) (now (vis .entry)) (now (found .entry)) (now (m .exit)) (now (vis .entry)) (now (found .exit)) (λ id. onNames (useVar (worldAt (words (now (s .entry))) (now (tab .entry)) id) v (worldAt (words (now (s .entry))) (now (tab .entry)) id .row v))) ⌝ }
+    requires { ⌜ (Ready 1 (words (now s)) (now tab) (now m) (now vis) (now found)) ⌝ }
+    ensures { λ r. ⌜ Steps 1 (words (now (s .entry))) (now (tab .entry)) (now (m .entry)) (now (vis .entry)) (now (found .entry)) (now (m .exit)) (now (vis .entry)) (now (found .exit)) (λ id. onNames (useVar (worldAt (words (now (s .entry))) (now (tab .entry)) id) v ((worldAt (words (now (s .entry))) (now (tab .entry)) id) .row v))) ⌝ }
 {
     if tab[WANTS] == 1 {
         match row_of(s, tab, v) {
@@ -62,7 +72,9 @@ fn use_plain(s: &[u8], tab: &[u32], m: &mut [u32], vis: &[u32], found: &mut [u32
 }
 
 // A Var: carried under its alias, or under the name of its row.
-fn carry_var(s: &[u8], tab: &[u32], m: &mut [u32], vis: &mut [u32], found: &mut [u32], held: &mut [u32], alias: u32, v: u32)
+fn carry_var(s: &[u8], tab: &[u32], m: &mut [u32], vis: &[u32], found: &mut [u32], held: &mut [u32], alias: u32, v: u32)
+    requires { ⌜ (alias ≤ slotsIn (now tab)) × ((Holding 3 (words (now s)) (now tab) (now m) (now held)) × (Ready 3 (words (now s)) (now tab) (now m) (now vis) (now found))) ⌝ }
+    ensures { λ r. ⌜ Adds (words (now (s .entry))) (now (tab .entry)) (now (m .entry)) (now (vis .entry)) (now (found .entry)) (now (held .entry)) (now (m .exit)) (now (vis .entry)) (now (found .exit)) (now (held .exit)) (λ id. onNames (useVar (worldAt (words (now (s .entry))) (now (tab .entry)) id) v ((worldAt (words (now (s .entry))) (now (tab .entry)) id) .row v))) alias (aVar v) ⌝ }
 {
     use_plain(s, tab, m, vis, found, v);
     if alias == 0 {
@@ -76,13 +88,13 @@ fn carry_var(s: &[u8], tab: &[u32], m: &mut [u32], vis: &mut [u32], found: &mut 
 }
 
 // A name: carried if it is visible and has no alias.
-fn carry_name(s: &[u8], tab: &[u32], m: &mut [u32], vis: &mut [u32], found: &mut [u32], held: &mut [u32], alias: u32, x: u32)
+fn carry_name(s: &[u8], tab: &[u32], m: &mut [u32], vis: &[u32], found: &mut [u32], held: &mut [u32], alias: u32, x: u32)
+    requires { ⌜ (x < slotsIn (now tab)) × ((Holding 3 (words (now s)) (now tab) (now m) (now held)) × (Ready 3 (words (now s)) (now tab) (now m) (now vis) (now found))) ⌝ }
+    ensures { λ r. ⌜ Adds (words (now (s .entry))) (now (tab .entry)) (now (m .entry)) (now (vis .entry)) (now (found .entry)) (now (held .entry)) (now (m .exit)) (now (vis .entry)) (now (found .exit)) (now (held .exit)) (λ id. onNames (nameUse (worldAt (words (now (s .entry))) (now (tab .entry)) id) x)) alias (aName x) ⌝ }
 {
     match find(vis, tab[SLOTS], m[TOP], x) {
         Found::Is(v, _) => {
-            if tab[WANTS] == 1 {
-                record_name(s, tab, m, vis, found, x);
-            }
+            record_name(s, tab, m, vis, found, x);
             if alias == 0 {
                 keep(m, held, x, v);
             }
@@ -91,39 +103,69 @@ fn carry_name(s: &[u8], tab: &[u32], m: &mut [u32], vis: &mut [u32], found: &mut
     }
 }
 
-// A projection: its alias + 1 or 0, and its expression.
-fn walk_projection(s: &[u8], tab: &[u32], m: &mut [u32], vis: &mut [u32], found: &mut [u32], held: &mut [u32], mode: u32) -> u32
-    requires { ⌜ Held (words (now s)) (now held) mode × Ready 0 (words (now s)) (now tab) (now m) (now vis) (now found) ⌝ }
-    ensures { λ r. ⌜ Carries (words (now (s .entry))) (now (tab .entry)) (now (m .entry)) (now (vis .entry)) (now (found .entry)) (now (held .entry)) (now (m .exit)) (now (vis .exit)) (now (found .exit)) (now (held .exit)) (projectionsAt (words (now (s .entry))) (now (tab .entry)) mode 1) r ⌝ }
+// Which of the two forms a head is, if it is one.
+fn direct_of(f: Form) -> Direct
+    ensures { λ r. ⌜ DirectAs f r ⌝ }
+{
+    match f {
+        Form::Leaf(_) => Direct::Other,
+        Form::Var(v) => Direct::Var(v),
+        Form::Unresolved(x) => Direct::Name(x),
+        Form::Prop(_) => Direct::Other,
+        Form::Two(_) => Direct::Other,
+        Form::Slice(_) => Direct::Other,
+        Form::Many(_, _) => Direct::Other,
+        Form::BinOp(_) => Direct::Other,
+        Form::UnaryOp(_) => Direct::Other,
+        Form::Case(_, _) => Direct::Other,
+        Form::IsNull => Direct::Other,
+        Form::PatternPredicate => Direct::Other,
+        Form::ListComprehension(_) => Direct::Other,
+        Form::PatternComprehension(_, _, _) => Direct::Other,
+        Form::ListPredicate(_) => Direct::Other,
+        Form::MapProjection(_) => Direct::Other,
+    }
+}
+
+// The expression of a projection.
+fn walk_carried(s: &[u8], tab: &[u32], m: &mut [u32], vis: &mut [u32], found: &mut [u32], held: &mut [u32], alias: u32, mode: u32) -> u32
+    requires { ⌜ (alias ≤ slotsIn (now tab)) × ((Held (words (now s)) (now held) mode) × ((Holding 1 (words (now s)) (now tab) (now m) (now held)) × (Ready 1 (words (now s)) (now tab) (now m) (now vis) (now found)))) ⌝ }
+    ensures { λ r. ⌜ Carries 1 (words (now (s .entry))) (now (tab .entry)) (now (m .entry)) (now (vis .entry)) (now (found .entry)) (now (held .entry)) (now (m .exit)) (now (vis .exit)) (now (found .exit)) (now (held .exit)) (carriedAt (words (now (s .entry))) (now (tab .entry)) mode alias) r ⌝ }
 {
     let at = m[AT] as usize;
-    let Word::Is(alias) = word_in(s, at, 0, tab[NAMES] as u64 + 1) else {
+    let FormRead::Is(f, q) = read_form(s, tab[NAMES], at) else {
         return 5;
     };
-    let p = at + 1;
-    m[AT] = p as u32;
-    let FormRead::Is(f, q) = read_form(s, tab[NAMES], p) else {
-        return 5;
-    };
-    match f {
-        Form::Var(v) => {
+    match direct_of(f) {
+        Direct::Var(v) => {
             m[AT] = q as u32;
             carry_var(s, tab, m, vis, found, held, alias, v);
             0
         }
-        Form::Unresolved(x) => {
+        Direct::Name(x) => {
             m[AT] = q as u32;
             carry_name(s, tab, m, vis, found, held, alias, x);
             0
         }
-        _ => walk_expr(s, tab, m, vis, found, DEPTH, mode / 64 * 64),
+        Direct::Other => walk_expr(s, tab, m, vis, found, DEPTH, mode / 64 * 64),
     }
+}
+
+// A projection: its alias + 1 or 0, and its expression.
+fn walk_projection(s: &[u8], tab: &[u32], m: &mut [u32], vis: &mut [u32], found: &mut [u32], held: &mut [u32], mode: u32) -> u32
+    requires { ⌜ (Held (words (now s)) (now held) mode) × ((Holding 0 (words (now s)) (now tab) (now m) (now held)) × (Ready 0 (words (now s)) (now tab) (now m) (now vis) (now found))) ⌝ }
+    ensures { λ r. ⌜ Carries 0 (words (now (s .entry))) (now (tab .entry)) (now (m .entry)) (now (vis .entry)) (now (found .entry)) (now (held .entry)) (now (m .exit)) (now (vis .exit)) (now (found .exit)) (now (held .exit)) (projectionsAt (words (now (s .entry))) (now (tab .entry)) mode 1) r ⌝ }
+{
+    let Word::Is(alias) = next_word(s, m, 0, tab[NAMES] as u64 + 1) else {
+        return 5;
+    };
+    walk_carried(s, tab, m, vis, found, held, alias, mode)
 }
 
 // n projections.
 fn walk_projections(s: &[u8], tab: &[u32], m: &mut [u32], vis: &mut [u32], found: &mut [u32], held: &mut [u32], n: u32, mode: u32) -> u32
-    requires { ⌜ Held (words (now s)) (now held) mode × Ready 0 (words (now s)) (now tab) (now m) (now vis) (now found) ⌝ }
-    ensures { λ r. ⌜ Carries (words (now (s .entry))) (now (tab .entry)) (now (m .entry)) (now (vis .entry)) (now (found .entry)) (now (held .entry)) (now (m .exit)) (now (vis .exit)) (now (found .exit)) (now (held .exit)) (projectionsAt (words (now (s .entry))) (now (tab .entry)) mode n) r ⌝ }
+    requires { ⌜ (Held (words (now s)) (now held) mode) × ((Holding 0 (words (now s)) (now tab) (now m) (now held)) × (Ready (heldOf (now m) * 2) (words (now s)) (now tab) (now m) (now vis) (now found))) ⌝ }
+    ensures { λ r. ⌜ Carries 0 (words (now (s .entry))) (now (tab .entry)) (now (m .entry)) (now (vis .entry)) (now (found .entry)) (now (held .entry)) (now (m .exit)) (now (vis .exit)) (now (found .exit)) (now (held .exit)) (projectionsAt (words (now (s .entry))) (now (tab .entry)) mode n) r ⌝ }
 {
     let mut left = n;
     while 0 < left {
@@ -137,71 +179,86 @@ fn walk_projections(s: &[u8], tab: &[u32], m: &mut [u32], vis: &mut [u32], found
 }
 
 // The barrier carries the pairs, in order.
-fn carry_pairs(s: &[u8], tab: &[u32], m: &mut [u32], found: &mut [u32], held: &[u32])
-{
-    if tab[WANTS] == 1 {
-        let n = m[HELD] as usize;
-        let cur = m[CUR];
-        let mut i = 0;
-        while i < n {
-            let k = i * 2;
-            let x = held[k];
-            let v = held[k + 1];
-            say(m, found, 3, cur, x, v, 0, 0);
-            i += 1;
-        }
-    }
-}
-
-// The new Root binds them, with the table's kinds.
-fn bind_pairs(s: &[u8], tab: &[u32], m: &mut [u32], vis: &mut [u32], found: &mut [u32], held: &[u32])
+fn carry_pairs(s: &[u8], tab: &[u32], m: &mut [u32], vis: &[u32], found: &mut [u32], held: &[u32])
+    requires { ⌜ (heldOf (now m) * 2 ≤ length (now held)) × (Fine (words (now s)) (now tab) × Fits (heldOf (now m)) 0 (words (now s)) (now tab) (now m) (now vis) (now found)) ⌝ }
+    ensures { λ r. ⌜ Costs (heldOf (now (m .entry))) 0 (words (now (s .entry))) (now (tab .entry)) (now (m .entry)) (now (vis .entry)) (now (found .entry)) (now (m .exit)) (now (vis .entry)) (now (found .exit)) (λ id. onNames (carryAll (worldAt (words (now (s .entry))) (now (tab .entry)) id) (pairsIn (heldOf (now (m .entry))) (now (held .entry))))) ⌝ }
 {
     let n = m[HELD] as usize;
-    let cur = m[CUR];
     let mut i = 0;
     while i < n {
         let k = i * 2;
         let x = held[k];
         let v = held[k + 1];
-        if tab[WANTS] == 1 {
-            let kind = kind_of(s, tab, v);
-            say(m, found, 2, cur, x, v, kind, 0);
-        }
-        let t = bind(vis, tab[SLOTS], m[TOP], x, v, cur);
+        let cur = m[CUR];
+        say_wanted(tab, m, found, 3, cur, x, v, 0);
+        i += 1;
+    }
+}
+
+// The kind of a variable, where it is wanted.
+fn kind_wanted(s: &[u8], tab: &[u32], v: u32) -> u32
+    requires { ⌜ Fine (words (now s)) (now tab) ⌝ }
+    ensures { λ r. ⌜ (wantsIn (now (tab .entry)) ≡ true → r ≡ rowKind ((worldAt (words (now (s .entry))) (now (tab .entry)) (λ x. x)) .row v)) ⌝ }
+{
+    if tab[WANTS] == 1 {
+        return kind_of(s, tab, v);
+    }
+    0
+}
+
+// The new Root binds them, with the table's kinds.
+fn bind_pairs(s: &[u8], tab: &[u32], m: &mut [u32], vis: &mut [u32], found: &mut [u32], held: &[u32])
+    requires { ⌜ ((heldOf (now m) * 2 ≤ length (now held)) × (InNames (slotsIn (now tab)) (pairsIn (heldOf (now m)) (now held)) × (slotsIn (now tab) + (topOf (now m) + heldOf (now m)) * 3 ≤ atOf (now m) + 1))) × (Fine (words (now s)) (now tab) × Fits (heldOf (now m)) 0 (words (now s)) (now tab) (now m) (now vis) (now found)) ⌝ }
+    ensures { λ r. ⌜ BindsAll (heldOf (now (m .entry))) (words (now (s .entry))) (now (tab .entry)) (now (m .entry)) (now (vis .entry)) (now (found .entry)) (now (held .entry)) (now (m .exit)) (now (vis .exit)) (now (found .exit)) ⌝ }
+{
+    let n = m[HELD] as usize;
+    let mut i = 0;
+    while i < n {
+        let k = i * 2;
+        let x = held[k];
+        let v = held[k + 1];
+        let kind = kind_wanted(s, tab, v);
+        let cur = m[CUR];
+        say_wanted(tab, m, found, 2, cur, x, v, kind);
+        let t = bind(vis, tab[SLOTS], m[TOP], x, v, m[CUR]);
         m[TOP] = t;
         i += 1;
     }
 }
 
-pub fn walk_with(s: &[u8], tab: &[u32], m: &mut [u32], vis: &mut [u32], found: &mut [u32], held: &mut [u32], mode: u32, head: usize) -> u32
-    requires { ⌜ Held (words (now s)) (now held) mode × Ready 3 (words (now s)) (now tab) (now m) (now vis) (now found) ⌝ }
-    ensures { λ r. ⌜ Passes 3 (words (now (s .entry))) (now (tab .entry)) (now (m .entry)) (now (vis .entry)) (now (found .entry)) (now (held .entry)) (now (m .exit)) (now (vis .exit)) (now (found .exit)) (now (held .exit)) (withAt (words (now (s .entry))) (now (tab .entry)) mode (getD (words (now (s .entry))) (head + 1) 0) (getD (words (now (s .entry))) (head + 2) 0)) r ⌝ }
+// The pairs that are held are carried by a barrier, and bound in a new Root, where nothing else is visible.
+fn bind_with(s: &[u8], tab: &[u32], m: &mut [u32], vis: &mut [u32], found: &mut [u32], held: &[u32], head: Head)
+    requires { ⌜ ((heldOf (now m) * 2 ≤ length (now held)) × (InNames (slotsIn (now tab)) (pairsIn (heldOf (now m)) (now held)) × (slotsIn (now tab) + heldOf (now m) * 3 ≤ atOf (now m)))) × Ready (2 + heldOf (now m) * 2) (words (now s)) (now tab) (now m) (now vis) (now found) ⌝ }
+    ensures { λ r. ⌜ Rebinds (words (now (s .entry))) (now (tab .entry)) (now (m .entry)) (now (vis .entry)) (now (found .entry)) (now (held .entry)) (now (m .exit)) (now (vis .exit)) (now (found .exit)) (head .start) (head .end) ⌝ }
 {
-    let at = m[AT] as usize;
-    let Word::Is(n) = word_in(s, at, 0, 4294967296) else {
+    enter(s, tab, m, vis, found, 7, head.start, head.end);
+    carry_pairs(s, tab, m, vis, found, held);
+    enter(s, tab, m, vis, found, 1, head.end, head.end);
+    let root = m[CUR];
+    leave(tab, m, vis, 0, root);
+    bind_pairs(s, tab, m, vis, found, held);
+}
+
+// WITH.
+pub fn walk_with(s: &[u8], tab: &[u32], m: &mut [u32], vis: &mut [u32], found: &mut [u32], held: &mut [u32], head: Head, mode: u32) -> u32
+    requires { ⌜ Held (words (now s)) (now held) mode × (Ready 3 (words (now s)) (now tab) (now m) (now vis) (now found)) ⌝ }
+    ensures { λ r. ⌜ Passes 3 (words (now (s .entry))) (now (tab .entry)) (now (m .entry)) (now (vis .entry)) (now (found .entry)) (now (held .entry)) (now (m .exit)) (now (vis .exit)) (now (found .exit)) (now (held .exit)) (withAt (words (now (s .entry))) (now (tab .entry)) mode (head .start) (head .end)) r ⌝ }
+{
+    let Word::Is(n) = next_word(s, m, 0, 4294967296) else {
         return 5;
     };
-    m[AT] = at as u32 + 1;
     m[HELD] = 0;
     let r = walk_projections(s, tab, m, vis, found, held, n, mode);
     if r != 0 {
         return r;
     }
-    let p = m[AT] as usize;
-    let Word::Is(g) = word_in(s, p, 0, 2) else {
+    let Word::Is(g) = next_word(s, m, 0, 2) else {
         return 5;
     };
-    m[AT] = p as u32 + 1;
     let q = walk_row(s, tab, m, vis, found, DEPTH, g as usize, mode / 64 * 64);
     if q != 0 {
         return q;
     }
-    let end = word(s, head + 2);
-    enter(s, tab, m, vis, found, 7, word(s, head + 1), end);
-    carry_pairs(s, tab, m, found, held);
-    let barrier = m[CUR];
-    leave(tab, m, vis, 0, barrier);
-    enter(s, tab, m, vis, found, 1, end, end);
-    bind_pairs(s, tab, m, vis, found, held);
+    bind_with(s, tab, m, vis, found, held, head);
     0
 }

@@ -1,0 +1,56 @@
+-- The span and the count are read, nothing is visible any more, and the clauses are walked.
+use Prim.Native.Nat.{ℕ, _*_, _/_, suc, _+_}
+use borrow.Author.Needs.{needs}
+use mathlib.Core.List.{[]}
+use mathlib.Core.Option.{none}
+use mathlib.Core.Path.{refl}
+use native.Mathlib.Omega.{arith}
+use Rattle.fused.specs.Clauses.{armGo}
+use Rattle.heads.proofs.Chain.{fact}
+use Rattle.heads.proofs.Chain.{step, last}
+use Rattle.heads.specs.Got.{wordIn}
+use Rattle.semantics.specs.Resolve.{standing}
+use Rattle.steps.specs.Hold.{Ready}
+use Rattle.steps.specs.Hold.{onNames}
+use Rattle.walk.proofs.Stage.{start, ready}
+use Rattle.words.specs.Words.{words}
+use Rattle.clause_walk.proofs.Bodies.{cut-all}
+use Rattle.clause_walk.proofs.Passing.{asked, last-one, past, halted}
+use Rattle.clause_walk.proofs.Rescoped.{cleared}
+use Rattle.clause_walk.proofs.walk_arm.Statement.{statement}
+use Rattle.clause_walk.proofs.walk_arm.Tie as tie
+use Rattle.clause_walk.specs.Passes.{armAt, clausesAt}
+
+pub walk-arm-spec : {M : Type 1} → statement M
+unfolding armGo
+walk-arm-spec =
+    let begun = fact (λ (k : tie.Start). let a = k .args in start {keep = none} {G = armAt (words (a .s .now)) (a .tab .now) 192} (λ id u w. step (wordIn 0 4294967296) (λ x. step (wordIn x 4294967296) (λ y. step (wordIn 0 4294967296) (λ n. last (clausesAt (words (a .s .now)) (a .tab .now) 64 n id (onNames (standing [] 0) w)))))) (k .pre .1) (λ id s r. refl)) in
+    let one = fact (λ (k : tie.After-known-told). past (begun (k .before .before .before .before .before .before .before .before .before .before .before .before .before)) (k .before .before .before .before .before .next-word .ensures) (k .before .start .given .1)) in
+    let two = fact (λ (k : tie.After-enum-told2). past (one (k .before .before .before .before .before .before)) (k .before .before .before .before .next-word2 .ensures) (k .enum-told2 .given .1)) in
+    let three = fact (λ (k : tie.After-known-told2). past (two (k .before .before .before .before .before .before .before)) (k .before .before .before .before .before .next-word3 .ensures) (k .before .n .given .1)) in
+    let four = fact (λ (k : tie.After-leave). let a = k .before .before .before .before .before .before .before .before .before .before .before .before .before .before .before .before .before .before .before .before .before .before .before .before .before .before .before .before .before .args in cleared (λ id u w. last (clausesAt (words (a .s .now)) (a .tab .now) 64 (k .before .before .before .before .n .given .0 .0) id w)) (k .leave .ensures) (three (k .before .before .before))) in
+    let ended = fact (λ (k : tie.After-walk-clauses). last-one _ (omega arith) refl (four (k .before .before .before .before .before .before .before .before .before)) (k .walk-clauses .ensures)) in
+    tie.close
+    (tie.spec
+    (λ c κs. asked (c .before .before .before .before .before .before .before .pre .1))  -- next-word-requires
+    (λ c. search needs)  -- enum-known-start
+    (λ c. search needs)  -- enum-told
+    (λ c. search needs)  -- same-length
+    (λ c. halted (begun (c .before .before .before .before .before .before .before .before .before .before .before .before)) (c .before .before .before .before .next-word .ensures) (c .enum-told .given .1) refl)  -- returns
+    (λ c κs. asked (ready {i = 0} (omega arith) (c .before .before .before .before .before .before .before .before .before .before .before .before .before .before .pre .1) (one (c .before))))  -- next-word-requires-2
+    (λ c. search needs)  -- enum-told-2
+    (λ c. search needs)  -- enum-told-3
+    (λ c. search needs)  -- same-length-2
+    (λ c. halted (one (c .before .before .before .before .before .before)) (c .before .before .before .before .next-word2 .ensures) (c .enum-told3 .given .1) refl)  -- returns-2
+    (λ c κs. asked (ready {i = 0} (omega arith) (c .before .before .before .before .before .before .before .before .before .before .before .before .before .before .before .before .before .before .before .before .pre .1) (two (c .before))))  -- next-word-requires-3
+    (λ c. search needs)  -- enum-known-n
+    (λ c. search needs)  -- enum-told-4
+    (λ c. search needs)  -- same-length-3
+    (λ c. halted (two (c .before .before .before .before .before .before)) (c .before .before .before .before .next-word3 .ensures) (c .enum-told4 .given .1) refl)  -- returns-3
+    (λ c κs. cut-all (ready {i = 0} (omega arith) (c .before .before .before .before .before .before .before .before .before .before .before .before .before .before .before .before .before .before .before .before .before .before .before .before .before .before .before .before .pre .1) (three (c .before .before))))  -- leave-requires
+    (λ c κs. (c .before .before .before .before .before .before .before .before .before .before .before .before .before .before .before .before .before .before .before .before .before .before .before .before .before .before .before .before .before .before .before .before .before .before .before .before .before .pre .0, ready (omega arith) (c .before .before .before .before .before .before .before .before .before .before .before .before .before .before .before .before .before .before .before .before .before .before .before .before .before .before .before .before .before .before .before .before .before .before .before .before .before .pre .1) (four (c .before .before .before .before .before .before .before .before))))  -- walk-clauses-requires
+    (λ c. ended (c .before .before .before .before .before .before .before .before) .sized)  -- same-length-4
+    (λ c. ended (c .before .before .before .before .before .before .before .before) .seen)  -- same-length-5
+    (λ c. ended (c .before .before .before .before .before .before .before .before) .wrote)  -- same-length-6
+    (λ c. ended (c .before .before .before .before .before .before .before .before) .kept)  -- same-length-7
+    (λ c. ended (c .before .before .before .before .before .before .before .before)))  -- returns-4
