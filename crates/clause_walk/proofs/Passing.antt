@@ -5,7 +5,7 @@
 use Prim.Native.Nat.{ℕ, zero, suc, _+_, _-_, _<_, _≤_}
 use native.Mathlib.Omega.{arith}
 use mathlib.Core.Path.{_≡_, refl, ap, sym, _∙_}
-use mathlib.Core.List.{List, []}
+use mathlib.Core.List.{List}
 use mathlib.Core.Option.{Option, none}
 use lib.ListN.{length, set, drop}
 use Rattle.heads.specs.Got.{Got, ok, no, bind, wordIn}
@@ -15,11 +15,11 @@ use Rattle.heads.specs.declared.Word.the-variants as word
 use Rattle.expr.proofs.Inverse.{never, word-gives}
 use Rattle.fused.specs.Fused.{Both, Go, rounds}
 use Rattle.steps.specs.Memory.{atOf}
-use Rattle.steps.specs.Hold.{Fine, Fits, Fit, Ready}
+use Rattle.steps.specs.Hold.{Ready}
 use Rattle.steps.proofs.Held.{lower}
-use Rattle.walk.specs.Goes.{Goer, Comes, Walked}
+use Rattle.walk.specs.Goes.{Goer, Walked}
 use Rattle.walk.proofs.Stage.{Rest, Stage, Refuses, start, recast, read, stop}
-use Rattle.clause_walk.specs.Passes.{Passed, Passes, Held, Next, moved}
+use Rattle.clause_walk.specs.Passes.{Passes, Held, Next}
 
 pub forget : {i : ℕ} {ws tab m vis found m' vis' found' held : List ℕ} {H : Goer} (a : ℕ) → Walked i ws tab m vis found m' vis' found' H a → Passes 0 ws tab m vis found held m' vis' found' held H a
 forget zero w =

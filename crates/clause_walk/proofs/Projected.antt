@@ -5,8 +5,8 @@ use Prim.Native.Nat.{ℕ, zero, suc, _+_, _-_, _*_, _<_, _≤_}
 use native.Mathlib.Omega.{arith}
 use native.Mathlib.Numerals.{add-one}
 use mathlib.Core.Path.{_≡_, refl, ap, sym, _∙_}
-use mathlib.Core.Bool.{Bool, true, false}
-use mathlib.Core.List.{List, [], _∷_, _++_, append-nil}
+use mathlib.Core.Bool.{true}
+use mathlib.Core.List.{List, [], _++_, append-nil}
 use mathlib.Core.Option.{Option, none, some}
 use lib.ListN.{length, set, drop}
 use Rattle.heads.specs.Got.{Got, ok, no, bind, wordIn}
@@ -17,21 +17,20 @@ use Rattle.heads.specs.declared.Form.{Form}
 use Rattle.heads.specs.declared.Form.the-variants.{Var, Unresolved}
 use Rattle.heads.specs.declared.Word.{Word}
 use Rattle.heads.specs.declared.Word.the-variants as word
-use Rattle.expr.proofs.Inverse.{never}
 use Rattle.clauses.specs.Read.{aliasOf}
 use Rattle.tables.specs.Row.{Row, row}
 use Rattle.semantics.specs.World.{World, Direct, other}
 use Rattle.semantics.specs.Resolve.{Seen, Pair, carries, useVar}
-use Rattle.semantics.specs.Kinds.{general, settings, atRow}
-use Rattle.fused.specs.Fused.{Both, Mode, nameUse, rowGo, rounds, restGo, exprGo, step, told}
+use Rattle.semantics.specs.Kinds.{general, atRow}
+use Rattle.fused.specs.Fused.{Both, Mode, nameUse, rowGo, rounds, restGo, exprGo}
 use Rattle.fused.specs.Clauses.{within, directForm, directOf, projectionsGo}
 use Rattle.steps.specs.Memory.{atOf, heldOf, namesIn, slotsIn, tablesIn, worldAt, modeOf}
-use Rattle.steps.specs.Hold.{Fits, Fit, Holds, Ready, onNames}
+use Rattle.steps.specs.Hold.{Fit, Holds, Ready, onNames}
 use Rattle.steps.proofs.Held.{lower}
 use Rattle.walk.specs.Goes.{Walked, exprIn}
 use Rattle.walk.proofs.Paid.{form-paid}
 use Rattle.walk.proofs.Stage.{placed, placed-fit, placed-holds}
-use Rattle.clause_walk.specs.Passes.{pairsIn, InNames, Holding, Adds, Projector, Carries, Next, carriedAt, projectionsAt}
+use Rattle.clause_walk.specs.Passes.{pairsIn, InNames, Holding, Adds, Carries, Next, carriedAt, projectionsAt}
 use Rattle.clause_walk.proofs.Passing.{goes-on, stays}
 use Rattle.clause_walk.proofs.Rescoped.{names-step}
 

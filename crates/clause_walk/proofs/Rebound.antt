@@ -3,7 +3,7 @@
 use Prim.Native.Nat.{ℕ, zero, suc, _+_, _-_, _*_, _<_, _≤_}
 use native.Mathlib.Omega.{arith}
 use native.Mathlib.Numerals.{add-one}
-use mathlib.Core.Path.{_≡_, refl, ap, sym, _∙_}
+use mathlib.Core.Path.{_≡_, refl, sym, _∙_}
 use mathlib.Core.Bool.{Bool, true, false}
 use mathlib.Core.List.{List, [], _∷_, _++_}
 use lib.Dec.{eqb}
@@ -11,10 +11,10 @@ use lib.ListN.{length, getD, set}
 use borrow.Author.Tests.{eqb-true, eqb-false}
 use Rattle.semantics.specs.Log.{bound, bind}
 use Rattle.semantics.specs.World.{World, rowKind, kindOf}
-use Rattle.semantics.specs.Resolve.{State, Pair, pair, say, enter, standing, bindName, bindAll, carryAll, barrier, fresh}
+use Rattle.semantics.specs.Resolve.{State, Pair, pair, say, enter, bindName, bindAll, carryAll, barrier, fresh}
 use Rattle.fused.specs.Fused.{Both}
-use Rattle.visible.specs.Visible.{seens, Descends, Tabled, Bound}
-use Rattle.steps.specs.Memory.{atOf, topOf, curOf, lastOf, heldOf, slotsIn, wantsIn, worldAt, eventOf}
+use Rattle.visible.specs.Visible.{Descends, Tabled, Bound}
+use Rattle.steps.specs.Memory.{atOf, topOf, curOf, heldOf, slotsIn, wantsIn, worldAt, eventOf}
 use Rattle.steps.specs.Hold.{Fine, Fits, Fit, Holds, Costs, Steps, Ready, Roomy, SaysIf, Left, onNames}
 use Rattle.steps.proofs.Held.{unset, store, lower, refit, says-if, unwanted, roomy-in}
 use Rattle.steps.proofs.Moved.{if-numbers, names}

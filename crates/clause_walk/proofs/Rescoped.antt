@@ -6,8 +6,8 @@ use native.Mathlib.Numerals.{add-one}
 use mathlib.Core.Path.{_≡_, refl, ap, sym, subst, _∙_}
 use mathlib.Core.Bool.{Bool, true, false}
 use mathlib.Core.List.{List, [], _∷_, _++_}
-use mathlib.Core.Option.{Option, none, some}
-use lib.ListN.{length, set, drop}
+use mathlib.Core.Option.{none}
+use lib.ListN.{length, drop}
 use Rattle.heads.specs.Got.{Got, ok, no, bind, wordIn, anyWord}
 use Rattle.heads.specs.Head.{Tables}
 use Rattle.heads.specs.Form.{readForm}
@@ -17,7 +17,7 @@ use Rattle.tables.specs.Row.{valueKind}
 use Rattle.semantics.specs.World.{World, yieldName, nameOf, rowName}
 use Rattle.semantics.specs.Resolve.{State, Seen, seen, Pair, enter, leave, standing, carries, bindName, bindAnew}
 use Rattle.semantics.specs.Kinds.{general}
-use Rattle.fused.specs.Fused.{Both, Mode, Go, unresolving, rounds, step, when, told, noting}
+use Rattle.fused.specs.Fused.{Both, Mode, Go, unresolving, rounds, step, told, noting}
 use Rattle.fused.specs.Clauses.{within, directOf, projectionsGo, returned, returnGo, yielded, yieldGo, unwindGo, callGo}
 use Rattle.visible.specs.Visible.{seens, Descends, Tabled}
 use Rattle.visible.proofs.Names.{descends-above}
@@ -32,7 +32,7 @@ use Rattle.walk.specs.Goes.{Goer, Walked, exprAt}
 use Rattle.walk.proofs.Modes.{in-set, unresolved}
 use Rattle.clause_walk.proofs.Passing.{forget}
 use Rattle.walk.proofs.Stage.{Rest, Stage}
-use Rattle.clause_walk.specs.Passes.{Passed, Passes, outputAt, returnedAt, returnAt, yieldAt, yieldsAt, unwindAt, unwoundAt, countedAt, callAt}
+use Rattle.clause_walk.specs.Passes.{Passes, outputAt, returnedAt, returnAt, yieldAt, yieldsAt, unwindAt, unwoundAt, countedAt, callAt}
 
 -- ---- with nothing visible
 module _ {tab m vis m' vis' : List ℕ} {cur : ℕ} (size : length m ≡ 64) (p : Left tab m vis m' vis' 0 cur) where
