@@ -1,5 +1,7 @@
--- What a WITH holds and binds. A pair is held (`kept-fits`, `kept-holds`, `held-one`), so a projection that is a Var or a name adds what the
--- definition carries (`adds-pair`, `adds-none`; `var-..`, `name-..` say what that is).
+-- What a WITH holds. A pair is held (`held-one`, `kept-fits`, `kept-holds`, `names-more`), so a projection that is a Var or a name adds what the
+-- definition carries (`adds-pair`, `adds-none`; what that is: `var-aliased`, `var-named`, `var-none`, `name-carried`, `name-missing`,
+-- `name-aliased`, by `looked` and `unlooked`). Its use (`plain-said`, `plain-none`, `plain-quiet`, `name-found`). The barrier carries the pairs one
+-- after the other (`none-carried`, `one-carried`, `carry-room`, `all-carried`).
 use Prim.Native.Nat.{ℕ, zero, suc, _+_, _-_, _*_, _<_, _≤_}
 use native.Mathlib.Omega.{arith}
 use native.Mathlib.Numerals.{add-one}

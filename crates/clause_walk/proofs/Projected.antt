@@ -1,6 +1,7 @@
--- Projections of a WITH, on the way to the pairs that it carries. A Var or a name is its use and what it adds (`direct-passes`), any other
--- expression is walked and carries nothing (`other-passes`), no head is refused (`form-refused`); the alias comes first (`alias-passes`,
--- `alias-refused`). A loop of them is a walk of which projections are left (`begun`, `turn`, `fall`, `over`).
+-- Projections of a WITH, on the way to the pairs that it carries. A Var or a name is its use (`var-within`, `name-within`, paid by two words:
+-- `var-paid`, `name-paid`) and what it adds (`form-ready`, `form-holding`, `direct-passes`), any other expression is walked and carries nothing
+-- (`other-passes`), no head is refused (`form-refused`). The alias comes first (`alias-ready`, `alias-holding`, `alias-passes`, `alias-refused`).
+-- A loop of them is a walk of which projections are left (`begun`, `turn`, `fall`, `over`, `goes-in`).
 use Prim.Native.Nat.{ℕ, zero, suc, _+_, _-_, _*_, _<_, _≤_}
 use native.Mathlib.Omega.{arith}
 use native.Mathlib.Numerals.{add-one}
@@ -148,8 +149,8 @@ module _ {ws tab m vis found held : List ℕ} (alias mode : ℕ) where
 pub alias-refused : {ws tab m vis found held m1 : List ℕ} {r : Word} (mode : ℕ) → Next ws 0 (namesIn tab + 1) m m1 r → r ≡ word.No → Carries 0 ws tab m vis found held m1 vis found held (projectionsAt ws tab mode 1) 5
 unfolding projectionsGo
 alias-refused {ws} {tab} {m} mode n q =
-      let z : wordIn 0 (suc (namesIn tab)) (drop (atOf m) ws) ≡ no 5 = ap (λ (k : ℕ). wordIn 0 k (drop (atOf m) ws)) (sym (add-one (namesIn tab))) ∙ rw q at (n .got .same) in
-      rw (stays n q) (record { sized = refl; seen = refl; wrote = refl; kept = refl; carries = λ id s b. rw z })
+    let z : wordIn 0 (suc (namesIn tab)) (drop (atOf m) ws) ≡ no 5 = ap (λ (k : ℕ). wordIn 0 k (drop (atOf m) ws)) (sym (add-one (namesIn tab))) ∙ rw q at (n .got .same) in
+    rw (stays n q) (record { sized = refl; seen = refl; wrote = refl; kept = refl; carries = λ id s b. rw z })
 
 pub alias-holding : {ws tab m held m1 : List ℕ} {lo hi w : ℕ} {r : Word} → length m ≡ 64 → Holding 0 ws tab m held → Next ws lo hi m m1 r → r ≡ word.Is w → Holding 1 ws tab m1 held
 alias-holding {m = m} size o n q =

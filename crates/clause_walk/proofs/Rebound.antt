@@ -1,5 +1,6 @@
--- What a WITH binds. The names of pairs in their order (`names-at`), a pair's binding (`one-bound`, and what it asks: `bind-ready`, `bind-asks`), all of them
--- (`none-bound`, `all-bound`); the barrier, the new Root and the pairs in it (`rebinds`, with what each step asks).
+-- What a WITH binds. The names of pairs are in range (`names-at`). Of the pairs the first i are bound (`Binding`: `none-bound`, `one-bound`,
+-- `all-bound`; what a turn asks: `bind-ready`, `bind-asks`, `bound-size`): the stack was cut, so three words for each pair are room for it. The
+-- barrier, the new Root and the pairs in it (`rebinds`; what each step asks: `carry-asks`, `root-asks`, `root-ready`, `leave-asks`, `pairs-ask`).
 use Prim.Native.Nat.{ℕ, zero, suc, _+_, _-_, _*_, _<_, _≤_}
 use native.Mathlib.Omega.{arith}
 use native.Mathlib.Numerals.{add-one}

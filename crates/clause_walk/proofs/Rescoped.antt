@@ -1,5 +1,8 @@
--- What clauses do to scopes. Nothing is visible any more (`cleared`, `cleared-fits`, `cleared-holds`: an arm, a WITH). A RETURN's expressions look from outside its scope,
--- which is current after them (`outputs-as`, `reset`, `return-passes`). A step in a mode that resolves names is one of names alone (`names-step`, `yield-same`).
+-- What clauses do to scopes. Nothing is visible any more (`cleared`, `cleared-fits`, `cleared-holds`: an arm, a WITH). A RETURN's projections are
+-- walked as rounds, from outside its scope, which is current after them (`opened-cut`, `inner-ready`, `walked-cut`, `return-refused`,
+-- `return-passes`). A step in a mode that resolves names is one of names alone (`names-step`), so a yield is bound as in any such mode
+-- (`yields-same`, `yield-as`, `yield-below`, `alias-none`, `alias-some`), an Unwind's variable (`unwind-as`, `unwound`, `noted-ready`,
+-- `unresolved-expr`), and a Call's scope is opened (`call-as`).
 use Prim.Native.Nat.{ℕ, zero, suc, _+_, _-_, _*_, _/_, _<_, _≤_}
 use native.Mathlib.Omega.{arith}
 use native.Mathlib.Numerals.{add-one}

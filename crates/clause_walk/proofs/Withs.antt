@@ -1,5 +1,5 @@
--- A WITH on its way: no pairs are held at first (`unheld`), projections hold theirs (`carried-on`, `carried-fell`), and at the end they are
--- bound anew (`rebound`).
+-- A WITH on its way: no pairs are held at first (`unheld`, `unheld-none`, `with-holding`), projections hold theirs (`carried-on`,
+-- `carried-fell`), and at the end, by what is known then (`known`, `with-asks`), they are bound anew (`rebound`).
 use Prim.Native.Nat.{ℕ, zero, suc, _+_, _*_, _≤_}
 use native.Mathlib.Omega.{arith}
 use mathlib.Core.Path.{_≡_, refl, ap, _∙_}
