@@ -1,6 +1,6 @@
 -- The body of a clause by its kind (`body-is`), and no other kind there is (`body-none`); with more words before it (`more`). What `leave` asks
 -- where nothing stays visible (`cut-all`).
-use Prim.Native.Nat.{ℕ, zero, suc, _+_, _≤_}
+use Prim.Native.Nat.{ℕ, zero, suc, _≤_}
 use native.Mathlib.Omega.{arith}
 use mathlib.Core.Path.{_≡_, refl}
 use mathlib.Core.List.{List}

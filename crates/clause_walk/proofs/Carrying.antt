@@ -1,5 +1,7 @@
--- What a WITH holds and binds. A pair is held (`kept-fits`, `kept-holds`, `held-one`), so a projection that is a Var or a name adds what the
--- definition carries (`adds-pair`, `adds-none`; `var-..`, `name-..` say what that is).
+-- What a WITH holds. A pair is held (`held-one`, `kept-fits`, `kept-holds`, `names-more`), so a projection that is a Var or a name adds what the
+-- definition carries (`adds-pair`, `adds-none`; what that is: `var-aliased`, `var-named`, `var-none`, `name-carried`, `name-missing`,
+-- `name-aliased`, by `looked` and `unlooked`). Its use (`plain-said`, `plain-none`, `plain-quiet`, `name-found`). The barrier carries the pairs one
+-- after the other (`none-carried`, `one-carried`, `carry-room`, `all-carried`).
 use Prim.Native.Nat.{ℕ, zero, suc, _+_, _-_, _*_, _<_, _≤_}
 use native.Mathlib.Omega.{arith}
 use native.Mathlib.Numerals.{add-one}
@@ -13,20 +15,20 @@ use lib.Seq.{getD-set-same, getD-set-other}
 use Rattle.scope.specs.Graph.{carried}
 use Rattle.tables.specs.Row.{Row, row}
 use Rattle.clauses.specs.Read.{aliasOf}
-use Rattle.semantics.specs.Log.{Event, finding, missing, write, find, carry}
+use Rattle.semantics.specs.Log.{finding, missing, write, find, carry}
 use Rattle.semantics.specs.Log.{answer as answer'}
 use Rattle.semantics.specs.World.{World, Direct, aVar, aName}
-use Rattle.semantics.specs.Resolve.{State, Seen, Pair, pair, lookup, ifRow, ifSome, say, sayIf, useName, useVar, carries, carryAll, bindAll, bindName}
+use Rattle.semantics.specs.Resolve.{State, Seen, Pair, pair, lookup, ifRow, ifSome, say, sayIf, useName, useVar, carries, carryAll}
 use Rattle.fused.specs.Fused.{Both, nameUse}
 use Rattle.visible.specs.Visible.{answer, seens}
 use Rattle.visible.specs.declared.Found.{Found}
 use Rattle.visible.specs.declared.Found.the-variants as found'
 use Rattle.steps.specs.Memory.{atOf, topOf, curOf, lastOf, saidOf, toldOf, lostOf, heldOf, slotsIn, wantsIn, eventOf, worldAt}
-use Rattle.steps.specs.Hold.{Fits, Holds, Costs, Steps, Ready, Fine, Roomy, Says, SaysIf, shown, onNames, nameRecord}
+use Rattle.steps.specs.Hold.{Fits, Holds, Costs, Steps, Fine, Roomy, Says, SaysIf, shown, onNames, nameRecord}
 use Rattle.steps.specs.declared.row.Row.the-variants as row'
-use Rattle.steps.proofs.Held.{Numbers, unset, store, lower, refit, instead, as-steps, says-step, says-if, wanted, unwanted, idle-step, then-steps, more-costs, roomy-in}
+use Rattle.steps.proofs.Held.{Numbers, unset, store, lower, refit, instead, as-steps, says-step, says-if, wanted, idle-step, then-steps, more-costs, roomy-in}
 use Rattle.steps.proofs.Heads.{quiet-use, rowless-use}
-use Rattle.clause_walk.specs.Passes.{pairsIn, InNames, Holding, Kept, Adds}
+use Rattle.clause_walk.specs.Passes.{pairsIn, InNames, Kept, Adds}
 
 -- ---- a pair is held
 pairs-alike : (n : ℕ) (a b : List ℕ) → ((i : ℕ) → i < n * 2 → getD a i 0 ≡ getD b i 0) → pairsIn n a ≡ pairsIn n b

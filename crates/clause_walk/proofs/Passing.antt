@@ -1,11 +1,11 @@
 -- How far clauses have come (walk's Stage, of which nothing is said of what stays below). A walk of expressions passes (`forget`); a walk within
--- goes on (`went`), refuses (`fell`) or is the last one (`last-one`); a word is passed (`past`, `in-range`) or refused (`halted`, `stopped`); at
--- the end stands the answer (`passed`). Loops are walks of which rounds are left (`begun`, `turn`, `fall`, `over`). `lend` and `as-passes` put
--- the same another way.
+-- goes on (`went`), refuses (`fell`) or is the last one (`last-one`); a word is passed (`past`, `goes-on`, `in-range`, where `asked` says what it
+-- asks) or refused (`halted`, `stopped`, `stays`); at the end stands the answer (`passed`, `refused`). A loop is a walk of which rounds are left
+-- (`begun`, `turn`, `fall`, `over`). `lend` and `still-held` put the same with other pairs held.
 use Prim.Native.Nat.{ℕ, zero, suc, _+_, _-_, _<_, _≤_}
 use native.Mathlib.Omega.{arith}
 use mathlib.Core.Path.{_≡_, refl, ap, sym, _∙_}
-use mathlib.Core.List.{List, []}
+use mathlib.Core.List.{List}
 use mathlib.Core.Option.{Option, none}
 use lib.ListN.{length, set, drop}
 use Rattle.heads.specs.Got.{Got, ok, no, bind, wordIn}
@@ -15,11 +15,11 @@ use Rattle.heads.specs.declared.Word.the-variants as word
 use Rattle.expr.proofs.Inverse.{never, word-gives}
 use Rattle.fused.specs.Fused.{Both, Go, rounds}
 use Rattle.steps.specs.Memory.{atOf}
-use Rattle.steps.specs.Hold.{Fine, Fits, Fit, Ready}
+use Rattle.steps.specs.Hold.{Ready}
 use Rattle.steps.proofs.Held.{lower}
-use Rattle.walk.specs.Goes.{Goer, Comes, Walked}
+use Rattle.walk.specs.Goes.{Goer, Walked}
 use Rattle.walk.proofs.Stage.{Rest, Stage, Refuses, start, recast, read, stop}
-use Rattle.clause_walk.specs.Passes.{Passed, Passes, Held, Next, moved}
+use Rattle.clause_walk.specs.Passes.{Passes, Held, Next}
 
 pub forget : {i : ℕ} {ws tab m vis found m' vis' found' held : List ℕ} {H : Goer} (a : ℕ) → Walked i ws tab m vis found m' vis' found' H a → Passes 0 ws tab m vis found held m' vis' found' held H a
 forget zero w =
@@ -36,18 +36,6 @@ forget (suc a) w = record { sized = w .sized; seen = w .seen; wrote = w .wrote; 
 -- with other pairs held
 pub lend : {j : ℕ} {ws tab m vis found m' vis' found' held held' : List ℕ} {G : Goer} {a : ℕ} (l : List ℕ) → Passes j ws tab m vis found held m' vis' found' held' G a → Passes j ws tab m vis found l m' vis' found' l G a
 lend l x = record { sized = x .sized; seen = x .seen; wrote = x .wrote; kept = refl; passes = x .passes }
-
-pub as-passes : {j : ℕ} {ws tab m vis found m' vis' found' held held' : List ℕ} {G : Goer} (H : Goer) (a : ℕ) → ((id : ℕ → ℕ) (s : Both) (r : List ℕ) → G id s r ≡ H id s r) → Passes j ws tab m vis found held m' vis' found' held' G a → Passes j ws tab m vis found held m' vis' found' held' H a
-as-passes H zero q x =
-    let z = x .passes in
-    record {
-      sized = x .sized;
-      seen = x .seen;
-      wrote = x .wrote;
-      kept = x .kept;
-      passes = record { from = z .from; fit = z .fit; goes = λ id s h. let y = z .goes id s h in record { state = y .state; holds = y .holds; same = sym (q id s _) ∙ y .same } };
-    }
-as-passes H (suc a) q x = record { sized = x .sized; seen = x .seen; wrote = x .wrote; kept = x .kept; passes = λ id s h. sym (q id s _) ∙ x .passes id s h }
 
 -- ---- the end
 module _ {j : ℕ} {ws tab m₀ vis₀ found₀ : List ℕ} {G : Goer} {c : ℕ} {m vis found held held' : List ℕ} where

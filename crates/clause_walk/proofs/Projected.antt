@@ -1,12 +1,13 @@
--- Projections of a WITH, on the way to the pairs that it carries. A Var or a name is its use and what it adds (`direct-passes`), any other
--- expression is walked and carries nothing (`other-passes`), no head is refused (`form-refused`); the alias comes first (`alias-passes`,
--- `alias-refused`). A loop of them is a walk of which projections are left (`begun`, `turn`, `fall`, `over`).
+-- Projections of a WITH, on the way to the pairs that it carries. A Var or a name is its use (`var-within`, `name-within`, paid by two words:
+-- `var-paid`, `name-paid`) and what it adds (`form-ready`, `form-holding`, `direct-passes`), any other expression is walked and carries nothing
+-- (`other-passes`), no head is refused (`form-refused`). The alias comes first (`alias-ready`, `alias-holding`, `alias-passes`, `alias-refused`).
+-- A loop of them is a walk of which projections are left (`begun`, `turn`, `fall`, `over`, `goes-in`).
 use Prim.Native.Nat.{ℕ, zero, suc, _+_, _-_, _*_, _<_, _≤_}
 use native.Mathlib.Omega.{arith}
 use native.Mathlib.Numerals.{add-one}
 use mathlib.Core.Path.{_≡_, refl, ap, sym, _∙_}
-use mathlib.Core.Bool.{Bool, true, false}
-use mathlib.Core.List.{List, [], _∷_, _++_, append-nil}
+use mathlib.Core.Bool.{true}
+use mathlib.Core.List.{List, [], _++_, append-nil}
 use mathlib.Core.Option.{Option, none, some}
 use lib.ListN.{length, set, drop}
 use Rattle.heads.specs.Got.{Got, ok, no, bind, wordIn}
@@ -17,21 +18,20 @@ use Rattle.heads.specs.declared.Form.{Form}
 use Rattle.heads.specs.declared.Form.the-variants.{Var, Unresolved}
 use Rattle.heads.specs.declared.Word.{Word}
 use Rattle.heads.specs.declared.Word.the-variants as word
-use Rattle.expr.proofs.Inverse.{never}
 use Rattle.clauses.specs.Read.{aliasOf}
 use Rattle.tables.specs.Row.{Row, row}
 use Rattle.semantics.specs.World.{World, Direct, other}
 use Rattle.semantics.specs.Resolve.{Seen, Pair, carries, useVar}
-use Rattle.semantics.specs.Kinds.{general, settings, atRow}
-use Rattle.fused.specs.Fused.{Both, Mode, nameUse, rowGo, rounds, restGo, exprGo, step, told}
+use Rattle.semantics.specs.Kinds.{general, atRow}
+use Rattle.fused.specs.Fused.{Both, Mode, nameUse, rowGo, rounds, restGo, exprGo}
 use Rattle.fused.specs.Clauses.{within, directForm, directOf, projectionsGo}
 use Rattle.steps.specs.Memory.{atOf, heldOf, namesIn, slotsIn, tablesIn, worldAt, modeOf}
-use Rattle.steps.specs.Hold.{Fits, Fit, Holds, Ready, onNames}
+use Rattle.steps.specs.Hold.{Fit, Holds, Ready, onNames}
 use Rattle.steps.proofs.Held.{lower}
 use Rattle.walk.specs.Goes.{Walked, exprIn}
 use Rattle.walk.proofs.Paid.{form-paid}
 use Rattle.walk.proofs.Stage.{placed, placed-fit, placed-holds}
-use Rattle.clause_walk.specs.Passes.{pairsIn, InNames, Holding, Adds, Projector, Carries, Next, carriedAt, projectionsAt}
+use Rattle.clause_walk.specs.Passes.{pairsIn, InNames, Holding, Adds, Carries, Next, carriedAt, projectionsAt}
 use Rattle.clause_walk.proofs.Passing.{goes-on, stays}
 use Rattle.clause_walk.proofs.Rescoped.{names-step}
 
@@ -149,8 +149,8 @@ module _ {ws tab m vis found held : List ℕ} (alias mode : ℕ) where
 pub alias-refused : {ws tab m vis found held m1 : List ℕ} {r : Word} (mode : ℕ) → Next ws 0 (namesIn tab + 1) m m1 r → r ≡ word.No → Carries 0 ws tab m vis found held m1 vis found held (projectionsAt ws tab mode 1) 5
 unfolding projectionsGo
 alias-refused {ws} {tab} {m} mode n q =
-      let z : wordIn 0 (suc (namesIn tab)) (drop (atOf m) ws) ≡ no 5 = ap (λ (k : ℕ). wordIn 0 k (drop (atOf m) ws)) (sym (add-one (namesIn tab))) ∙ rw q at (n .got .same) in
-      rw (stays n q) (record { sized = refl; seen = refl; wrote = refl; kept = refl; carries = λ id s b. rw z })
+    let z : wordIn 0 (suc (namesIn tab)) (drop (atOf m) ws) ≡ no 5 = ap (λ (k : ℕ). wordIn 0 k (drop (atOf m) ws)) (sym (add-one (namesIn tab))) ∙ rw q at (n .got .same) in
+    rw (stays n q) (record { sized = refl; seen = refl; wrote = refl; kept = refl; carries = λ id s b. rw z })
 
 pub alias-holding : {ws tab m held m1 : List ℕ} {lo hi w : ℕ} {r : Word} → length m ≡ 64 → Holding 0 ws tab m held → Next ws lo hi m m1 r → r ≡ word.Is w → Holding 1 ws tab m1 held
 alias-holding {m = m} size o n q =

@@ -1,9 +1,10 @@
--- What a WITH binds. The names of pairs in their order (`names-at`), a pair's binding (`one-bound`, and what it asks: `bind-ready`, `bind-asks`), all of them
--- (`none-bound`, `all-bound`); the barrier, the new Root and the pairs in it (`rebinds`, with what each step asks).
+-- What a WITH binds. The names of pairs are in range (`names-at`). Of the pairs the first i are bound (`Binding`: `none-bound`, `one-bound`,
+-- `all-bound`; what a turn asks: `bind-ready`, `bind-asks`, `bound-size`): the stack was cut, so three words for each pair are room for it. The
+-- barrier, the new Root and the pairs in it (`rebinds`; what each step asks: `carry-asks`, `root-asks`, `root-ready`, `leave-asks`, `pairs-ask`).
 use Prim.Native.Nat.{ℕ, zero, suc, _+_, _-_, _*_, _<_, _≤_}
 use native.Mathlib.Omega.{arith}
 use native.Mathlib.Numerals.{add-one}
-use mathlib.Core.Path.{_≡_, refl, ap, sym, _∙_}
+use mathlib.Core.Path.{_≡_, refl, sym, _∙_}
 use mathlib.Core.Bool.{Bool, true, false}
 use mathlib.Core.List.{List, [], _∷_, _++_}
 use lib.Dec.{eqb}
@@ -11,10 +12,10 @@ use lib.ListN.{length, getD, set}
 use borrow.Author.Tests.{eqb-true, eqb-false}
 use Rattle.semantics.specs.Log.{bound, bind}
 use Rattle.semantics.specs.World.{World, rowKind, kindOf}
-use Rattle.semantics.specs.Resolve.{State, Pair, pair, say, enter, standing, bindName, bindAll, carryAll, barrier, fresh}
+use Rattle.semantics.specs.Resolve.{State, Pair, pair, say, enter, bindName, bindAll, carryAll, barrier, fresh}
 use Rattle.fused.specs.Fused.{Both}
-use Rattle.visible.specs.Visible.{seens, Descends, Tabled, Bound}
-use Rattle.steps.specs.Memory.{atOf, topOf, curOf, lastOf, heldOf, slotsIn, wantsIn, worldAt, eventOf}
+use Rattle.visible.specs.Visible.{Descends, Tabled, Bound}
+use Rattle.steps.specs.Memory.{atOf, topOf, curOf, heldOf, slotsIn, wantsIn, worldAt, eventOf}
 use Rattle.steps.specs.Hold.{Fine, Fits, Fit, Holds, Costs, Steps, Ready, Roomy, SaysIf, Left, onNames}
 use Rattle.steps.proofs.Held.{unset, store, lower, refit, says-if, unwanted, roomy-in}
 use Rattle.steps.proofs.Moved.{if-numbers, names}

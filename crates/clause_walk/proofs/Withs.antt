@@ -1,21 +1,21 @@
--- A WITH on its way: no pairs are held at first (`unheld`), projections hold theirs (`carried-on`, `carried-fell`), and at the end they are
--- bound anew (`rebound`).
+-- A WITH on its way: no pairs are held at first (`unheld`, `unheld-none`, `with-holding`), projections hold theirs (`carried-on`,
+-- `carried-fell`), and at the end, by what is known then (`known`, `with-asks`), they are bound anew (`rebound`).
 use Prim.Native.Nat.{ℕ, zero, suc, _+_, _*_, _≤_}
 use native.Mathlib.Omega.{arith}
-use mathlib.Core.Path.{_≡_, refl, ap, sym, _∙_}
-use mathlib.Core.Bool.{Bool, true}
+use mathlib.Core.Path.{_≡_, refl, ap, _∙_}
+use mathlib.Core.Bool.{true}
 use mathlib.Core.List.{List, []}
 use mathlib.Core.Option.{none}
 use lib.ListN.{length, set, drop}
-use Rattle.heads.specs.Got.{Got, ok, no, bind}
-use Rattle.heads.proofs.Chain.{Chain, step, last, run}
+use Rattle.heads.specs.Got.{ok}
+use Rattle.heads.proofs.Chain.{Chain, step, last}
 use Rattle.heads.specs.declared.Word.{Word}
 use Rattle.heads.specs.declared.Word.the-variants as word
 use Rattle.semantics.specs.Resolve.{Pair, barrier, fresh}
 use Rattle.fused.specs.Fused.{Both}
 use Rattle.fused.specs.Fused.{step as stepped}
-use Rattle.steps.specs.Memory.{atOf, topOf, heldOf, slotsIn, worldAt, modeOf}
-use Rattle.steps.specs.Hold.{Fits, Fit, Holds, Ready, onNames}
+use Rattle.steps.specs.Memory.{atOf, heldOf, slotsIn, worldAt, modeOf}
+use Rattle.steps.specs.Hold.{Ready, onNames}
 use Rattle.steps.proofs.Held.{unset, store, lower, refit, ready-less}
 use Rattle.walk.specs.Goes.{Goer, Walked}
 use Rattle.walk.proofs.Stage.{Rest, Stage, placed}

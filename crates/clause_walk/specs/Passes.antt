@@ -1,7 +1,7 @@
 -- What the walk over clauses and arms asks and leaves. A WITH replaces what is visible, so nothing is said of what stays below.
 use Prim.Native.Nat.{ℕ, zero, suc, _+_, _*_, _<_, _≤_}
 use mathlib.Core.Path.{_≡_}
-use mathlib.Core.Bool.{Bool, true}
+use mathlib.Core.Bool.{true}
 use mathlib.Core.List.{List, [], _∷_, _++_}
 use lib.ListN.{length, getD, set, drop}
 use Rattle.scope.specs.Graph.{unwindScope}

@@ -58,7 +58,14 @@ fn next_word(s: &[u8], m: &mut [u32], lo: u32, hi: u64) -> Word
 }
 
 // A count, and as many expressions.
-fn walk_counted(s: &[u8], tab: &[u32], m: &mut [u32], vis: &mut [u32], found: &mut [u32], mode: u32) -> u32
+fn walk_counted(
+    s: &[u8],
+    tab: &[u32],
+    m: &mut [u32],
+    vis: &mut [u32],
+    found: &mut [u32],
+    mode: u32,
+) -> u32
     requires { ⌜ (Ready 0 (words (now s)) (now tab) (now m) (now vis) (now found)) ⌝ }
     ensures { λ r. ⌜ Passes 0 (words (now (s .entry))) (now (tab .entry)) (now (m .entry)) (now (vis .entry)) (now (found .entry)) [] (now (m .exit)) (now (vis .exit)) (now (found .exit)) [] (countedAt (words (now (s .entry))) (now (tab .entry)) mode) r ⌝ }
 {
@@ -69,7 +76,15 @@ fn walk_counted(s: &[u8], tab: &[u32], m: &mut [u32], vis: &mut [u32], found: &m
 }
 
 // A count, and as many marks of the kind.
-fn walk_marked(s: &[u8], tab: &[u32], m: &mut [u32], vis: &mut [u32], found: &mut [u32], kind: u32, mode: u32) -> u32
+fn walk_marked(
+    s: &[u8],
+    tab: &[u32],
+    m: &mut [u32],
+    vis: &mut [u32],
+    found: &mut [u32],
+    kind: u32,
+    mode: u32,
+) -> u32
     requires { ⌜ (Ready 0 (words (now s)) (now tab) (now m) (now vis) (now found)) ⌝ }
     ensures { λ r. ⌜ Passes 0 (words (now (s .entry))) (now (tab .entry)) (now (m .entry)) (now (vis .entry)) (now (found .entry)) [] (now (m .exit)) (now (vis .exit)) (now (found .exit)) [] (markedAt (words (now (s .entry))) (now (tab .entry)) mode 0 0 kind) r ⌝ }
 {
@@ -80,7 +95,16 @@ fn walk_marked(s: &[u8], tab: &[u32], m: &mut [u32], vis: &mut [u32], found: &mu
 }
 
 // A scope of the kind with a pattern: 2 Match, 3 Create, 4 Merge by the kinds of scopes.
-fn walk_opening(s: &[u8], tab: &[u32], m: &mut [u32], vis: &mut [u32], found: &mut [u32], head: Head, kind: u32, mode: u32) -> u32
+fn walk_opening(
+    s: &[u8],
+    tab: &[u32],
+    m: &mut [u32],
+    vis: &mut [u32],
+    found: &mut [u32],
+    head: Head,
+    kind: u32,
+    mode: u32,
+) -> u32
     requires { ⌜ (modeOf mode .resolves ≡ true) × (Ready 3 (words (now s)) (now tab) (now m) (now vis) (now found)) ⌝ }
     ensures { λ r. ⌜ Passes 3 (words (now (s .entry))) (now (tab .entry)) (now (m .entry)) (now (vis .entry)) (now (found .entry)) [] (now (m .exit)) (now (vis .exit)) (now (found .exit)) [] (scopeAt (words (now (s .entry))) (now (tab .entry)) mode (head .start) (head .end) kind) r ⌝ }
 {
@@ -89,7 +113,14 @@ fn walk_opening(s: &[u8], tab: &[u32], m: &mut [u32], vis: &mut [u32], found: &m
 }
 
 // A projection of a RETURN.
-fn walk_output(s: &[u8], tab: &[u32], m: &mut [u32], vis: &mut [u32], found: &mut [u32], mode: u32) -> u32
+fn walk_output(
+    s: &[u8],
+    tab: &[u32],
+    m: &mut [u32],
+    vis: &mut [u32],
+    found: &mut [u32],
+    mode: u32,
+) -> u32
     requires { ⌜ (Ready 0 (words (now s)) (now tab) (now m) (now vis) (now found)) ⌝ }
     ensures { λ r. ⌜ Walked 48 (words (now (s .entry))) (now (tab .entry)) (now (m .entry)) (now (vis .entry)) (now (found .entry)) (now (m .exit)) (now (vis .exit)) (now (found .exit)) (outputAt (words (now (s .entry))) (now (tab .entry)) mode) r ⌝ }
 {
@@ -100,7 +131,15 @@ fn walk_output(s: &[u8], tab: &[u32], m: &mut [u32], vis: &mut [u32], found: &mu
 }
 
 // n projections of a RETURN.
-fn walk_outputs(s: &[u8], tab: &[u32], m: &mut [u32], vis: &mut [u32], found: &mut [u32], n: u32, mode: u32) -> u32
+fn walk_outputs(
+    s: &[u8],
+    tab: &[u32],
+    m: &mut [u32],
+    vis: &mut [u32],
+    found: &mut [u32],
+    n: u32,
+    mode: u32,
+) -> u32
     requires { ⌜ (Ready 0 (words (now s)) (now tab) (now m) (now vis) (now found)) ⌝ }
     ensures { λ r. ⌜ Walked 48 (words (now (s .entry))) (now (tab .entry)) (now (m .entry)) (now (vis .entry)) (now (found .entry)) (now (m .exit)) (now (vis .exit)) (now (found .exit)) (outputsAt (words (now (s .entry))) (now (tab .entry)) mode n) r ⌝ }
 {
@@ -116,7 +155,14 @@ fn walk_outputs(s: &[u8], tab: &[u32], m: &mut [u32], vis: &mut [u32], found: &m
 }
 
 // A count, and as many projections of a RETURN.
-fn walk_returned(s: &[u8], tab: &[u32], m: &mut [u32], vis: &mut [u32], found: &mut [u32], mode: u32) -> u32
+fn walk_returned(
+    s: &[u8],
+    tab: &[u32],
+    m: &mut [u32],
+    vis: &mut [u32],
+    found: &mut [u32],
+    mode: u32,
+) -> u32
     requires { ⌜ (Ready 0 (words (now s)) (now tab) (now m) (now vis) (now found)) ⌝ }
     ensures { λ r. ⌜ Walked 48 (words (now (s .entry))) (now (tab .entry)) (now (m .entry)) (now (vis .entry)) (now (found .entry)) (now (m .exit)) (now (vis .exit)) (now (found .exit)) (returnedAt (words (now (s .entry))) (now (tab .entry)) mode) r ⌝ }
 {
@@ -127,7 +173,15 @@ fn walk_returned(s: &[u8], tab: &[u32], m: &mut [u32], vis: &mut [u32], found: &
 }
 
 // Return: its expressions look from outside its scope, which is current after it.
-fn walk_return(s: &[u8], tab: &[u32], m: &mut [u32], vis: &mut [u32], found: &mut [u32], head: Head, mode: u32) -> u32
+fn walk_return(
+    s: &[u8],
+    tab: &[u32],
+    m: &mut [u32],
+    vis: &mut [u32],
+    found: &mut [u32],
+    head: Head,
+    mode: u32,
+) -> u32
     requires { ⌜ (modeOf mode .resolves ≡ true) × (Ready 3 (words (now s)) (now tab) (now m) (now vis) (now found)) ⌝ }
     ensures { λ r. ⌜ Passes 3 (words (now (s .entry))) (now (tab .entry)) (now (m .entry)) (now (vis .entry)) (now (found .entry)) [] (now (m .exit)) (now (vis .exit)) (now (found .exit)) [] (returnAt (words (now (s .entry))) (now (tab .entry)) mode (head .start) (head .end)) r ⌝ }
 {
@@ -145,7 +199,15 @@ fn walk_return(s: &[u8], tab: &[u32], m: &mut [u32], vis: &mut [u32], found: &mu
 }
 
 // The variable of an Unwind is bound in a scope of its own.
-fn bind_unwind(s: &[u8], tab: &[u32], m: &mut [u32], vis: &mut [u32], found: &mut [u32], head: Head, v: u32)
+fn bind_unwind(
+    s: &[u8],
+    tab: &[u32],
+    m: &mut [u32],
+    vis: &mut [u32],
+    found: &mut [u32],
+    head: Head,
+    v: u32,
+)
     requires { ⌜ (Ready 4 (words (now s)) (now tab) (now m) (now vis) (now found)) ⌝ }
     ensures { λ r. ⌜ Steps 4 (words (now (s .entry))) (now (tab .entry)) (now (m .entry)) (now (vis .entry)) (now (found .entry)) (now (m .exit)) (now (vis .exit)) (now (found .exit)) (unwoundAt (words (now (s .entry))) (now (tab .entry)) (head .start) (head .end) v) ⌝ }
 {
@@ -157,7 +219,15 @@ fn bind_unwind(s: &[u8], tab: &[u32], m: &mut [u32], vis: &mut [u32], found: &mu
 }
 
 // Unwind: its list is not resolved.
-fn walk_unwind(s: &[u8], tab: &[u32], m: &mut [u32], vis: &mut [u32], found: &mut [u32], head: Head, mode: u32) -> u32
+fn walk_unwind(
+    s: &[u8],
+    tab: &[u32],
+    m: &mut [u32],
+    vis: &mut [u32],
+    found: &mut [u32],
+    head: Head,
+    mode: u32,
+) -> u32
     requires { ⌜ (modeOf mode .resolves ≡ true) × (Ready 3 (words (now s)) (now tab) (now m) (now vis) (now found)) ⌝ }
     ensures { λ r. ⌜ Passes 3 (words (now (s .entry))) (now (tab .entry)) (now (m .entry)) (now (vis .entry)) (now (found .entry)) [] (now (m .exit)) (now (vis .exit)) (now (found .exit)) [] (unwindAt (words (now (s .entry))) (now (tab .entry)) mode (head .start) (head .end)) r ⌝ }
 {
@@ -169,7 +239,14 @@ fn walk_unwind(s: &[u8], tab: &[u32], m: &mut [u32], vis: &mut [u32], found: &mu
 }
 
 // A yield: its name or its alias is bound.
-fn walk_yield(s: &[u8], tab: &[u32], m: &mut [u32], vis: &mut [u32], found: &mut [u32], head: Head) -> u32
+fn walk_yield(
+    s: &[u8],
+    tab: &[u32],
+    m: &mut [u32],
+    vis: &mut [u32],
+    found: &mut [u32],
+    head: Head,
+) -> u32
     requires { ⌜ (Ready 0 (words (now s)) (now tab) (now m) (now vis) (now found)) ⌝ }
     ensures { λ r. ⌜ Passes 0 (words (now (s .entry))) (now (tab .entry)) (now (m .entry)) (now (vis .entry)) (now (found .entry)) [] (now (m .exit)) (now (vis .exit)) (now (found .exit)) [] (yieldAt (words (now (s .entry))) (now (tab .entry)) (head .start) (head .end)) r ⌝ }
 {
@@ -188,7 +265,15 @@ fn walk_yield(s: &[u8], tab: &[u32], m: &mut [u32], vis: &mut [u32], found: &mut
 }
 
 // n yields.
-fn walk_yields(s: &[u8], tab: &[u32], m: &mut [u32], vis: &mut [u32], found: &mut [u32], head: Head, n: u32) -> u32
+fn walk_yields(
+    s: &[u8],
+    tab: &[u32],
+    m: &mut [u32],
+    vis: &mut [u32],
+    found: &mut [u32],
+    head: Head,
+    n: u32,
+) -> u32
     requires { ⌜ (Ready 0 (words (now s)) (now tab) (now m) (now vis) (now found)) ⌝ }
     ensures { λ r. ⌜ Passes 0 (words (now (s .entry))) (now (tab .entry)) (now (m .entry)) (now (vis .entry)) (now (found .entry)) [] (now (m .exit)) (now (vis .exit)) (now (found .exit)) [] (yieldsAt (words (now (s .entry))) (now (tab .entry)) (head .start) (head .end) n) r ⌝ }
 {
@@ -204,7 +289,15 @@ fn walk_yields(s: &[u8], tab: &[u32], m: &mut [u32], vis: &mut [u32], found: &mu
 }
 
 // Call: its arguments are not resolved; its yields are bound in its scope.
-fn walk_call(s: &[u8], tab: &[u32], m: &mut [u32], vis: &mut [u32], found: &mut [u32], head: Head, mode: u32) -> u32
+fn walk_call(
+    s: &[u8],
+    tab: &[u32],
+    m: &mut [u32],
+    vis: &mut [u32],
+    found: &mut [u32],
+    head: Head,
+    mode: u32,
+) -> u32
     requires { ⌜ (modeOf mode .resolves ≡ true) × (Ready 3 (words (now s)) (now tab) (now m) (now vis) (now found)) ⌝ }
     ensures { λ r. ⌜ Passes 3 (words (now (s .entry))) (now (tab .entry)) (now (m .entry)) (now (vis .entry)) (now (found .entry)) [] (now (m .exit)) (now (vis .exit)) (now (found .exit)) [] (callAt (words (now (s .entry))) (now (tab .entry)) mode (head .start) (head .end)) r ⌝ }
 {
@@ -220,7 +313,15 @@ fn walk_call(s: &[u8], tab: &[u32], m: &mut [u32], vis: &mut [u32], found: &mut 
 }
 
 // Match: optional or not, and a pattern.
-fn walk_match(s: &[u8], tab: &[u32], m: &mut [u32], vis: &mut [u32], found: &mut [u32], head: Head, mode: u32) -> u32
+fn walk_match(
+    s: &[u8],
+    tab: &[u32],
+    m: &mut [u32],
+    vis: &mut [u32],
+    found: &mut [u32],
+    head: Head,
+    mode: u32,
+) -> u32
     requires { ⌜ (modeOf mode .resolves ≡ true) × (Ready 3 (words (now s)) (now tab) (now m) (now vis) (now found)) ⌝ }
     ensures { λ r. ⌜ Passes 3 (words (now (s .entry))) (now (tab .entry)) (now (m .entry)) (now (vis .entry)) (now (found .entry)) [] (now (m .exit)) (now (vis .exit)) (now (found .exit)) [] (matchAt (words (now (s .entry))) (now (tab .entry)) mode (head .start) (head .end)) r ⌝ }
 {
@@ -231,7 +332,16 @@ fn walk_match(s: &[u8], tab: &[u32], m: &mut [u32], vis: &mut [u32], found: &mut
 }
 
 // What follows the kind and the span of a clause.
-fn walk_body(s: &[u8], tab: &[u32], m: &mut [u32], vis: &mut [u32], found: &mut [u32], held: &mut [u32], head: Head, mode: u32) -> u32
+fn walk_body(
+    s: &[u8],
+    tab: &[u32],
+    m: &mut [u32],
+    vis: &mut [u32],
+    found: &mut [u32],
+    held: &mut [u32],
+    head: Head,
+    mode: u32,
+) -> u32
     requires { ⌜ Held (words (now s)) (now held) mode × (Ready 3 (words (now s)) (now tab) (now m) (now vis) (now found)) ⌝ }
     ensures { λ r. ⌜ Passes 3 (words (now (s .entry))) (now (tab .entry)) (now (m .entry)) (now (vis .entry)) (now (found .entry)) (now (held .entry)) (now (m .exit)) (now (vis .exit)) (now (found .exit)) (now (held .exit)) (bodyAt (words (now (s .entry))) (now (tab .entry)) mode (head .start) (head .end) (head .kind)) r ⌝ }
 {
@@ -253,7 +363,15 @@ fn walk_body(s: &[u8], tab: &[u32], m: &mut [u32], vis: &mut [u32], found: &mut 
 }
 
 // A clause.
-fn walk_clause(s: &[u8], tab: &[u32], m: &mut [u32], vis: &mut [u32], found: &mut [u32], held: &mut [u32], mode: u32) -> u32
+fn walk_clause(
+    s: &[u8],
+    tab: &[u32],
+    m: &mut [u32],
+    vis: &mut [u32],
+    found: &mut [u32],
+    held: &mut [u32],
+    mode: u32,
+) -> u32
     requires { ⌜ Held (words (now s)) (now held) mode × (Ready 0 (words (now s)) (now tab) (now m) (now vis) (now found)) ⌝ }
     ensures { λ r. ⌜ Passes 0 (words (now (s .entry))) (now (tab .entry)) (now (m .entry)) (now (vis .entry)) (now (found .entry)) (now (held .entry)) (now (m .exit)) (now (vis .exit)) (now (found .exit)) (now (held .exit)) (clauseAt (words (now (s .entry))) (now (tab .entry)) mode) r ⌝ }
 {
@@ -266,11 +384,33 @@ fn walk_clause(s: &[u8], tab: &[u32], m: &mut [u32], vis: &mut [u32], found: &mu
     let Word::Is(end) = next_word(s, m, start, 4294967296) else {
         return 5;
     };
-    walk_body(s, tab, m, vis, found, held, Head { kind: kind, start: start, end: end }, mode)
+    walk_body(
+        s,
+        tab,
+        m,
+        vis,
+        found,
+        held,
+        Head {
+            kind: kind,
+            start: start,
+            end: end,
+        },
+        mode,
+    )
 }
 
 // n clauses.
-pub fn walk_clauses(s: &[u8], tab: &[u32], m: &mut [u32], vis: &mut [u32], found: &mut [u32], held: &mut [u32], n: u32, mode: u32) -> u32
+pub fn walk_clauses(
+    s: &[u8],
+    tab: &[u32],
+    m: &mut [u32],
+    vis: &mut [u32],
+    found: &mut [u32],
+    held: &mut [u32],
+    n: u32,
+    mode: u32,
+) -> u32
     requires { ⌜ Held (words (now s)) (now held) mode × (Ready 0 (words (now s)) (now tab) (now m) (now vis) (now found)) ⌝ }
     ensures { λ r. ⌜ Passes 0 (words (now (s .entry))) (now (tab .entry)) (now (m .entry)) (now (vis .entry)) (now (found .entry)) (now (held .entry)) (now (m .exit)) (now (vis .exit)) (now (found .exit)) (now (held .exit)) (clausesAt (words (now (s .entry))) (now (tab .entry)) mode n) r ⌝ }
 {
@@ -286,7 +426,14 @@ pub fn walk_clauses(s: &[u8], tab: &[u32], m: &mut [u32], vis: &mut [u32], found
 }
 
 // An arm: from scope 0, with nothing visible, and no kinds checked.
-fn walk_arm(s: &[u8], tab: &[u32], m: &mut [u32], vis: &mut [u32], found: &mut [u32], held: &mut [u32]) -> u32
+fn walk_arm(
+    s: &[u8],
+    tab: &[u32],
+    m: &mut [u32],
+    vis: &mut [u32],
+    found: &mut [u32],
+    held: &mut [u32],
+) -> u32
     requires { ⌜ Held (words (now s)) (now held) 64 × (Ready 0 (words (now s)) (now tab) (now m) (now vis) (now found)) ⌝ }
     ensures { λ r. ⌜ Passes 0 (words (now (s .entry))) (now (tab .entry)) (now (m .entry)) (now (vis .entry)) (now (found .entry)) (now (held .entry)) (now (m .exit)) (now (vis .exit)) (now (found .exit)) (now (held .exit)) (armAt (words (now (s .entry))) (now (tab .entry)) 192) r ⌝ }
 {
@@ -304,7 +451,15 @@ fn walk_arm(s: &[u8], tab: &[u32], m: &mut [u32], vis: &mut [u32], found: &mut [
 }
 
 // n arms.
-pub fn walk_arms(s: &[u8], tab: &[u32], m: &mut [u32], vis: &mut [u32], found: &mut [u32], held: &mut [u32], n: u32) -> u32
+pub fn walk_arms(
+    s: &[u8],
+    tab: &[u32],
+    m: &mut [u32],
+    vis: &mut [u32],
+    found: &mut [u32],
+    held: &mut [u32],
+    n: u32,
+) -> u32
     requires { ⌜ Held (words (now s)) (now held) 64 × (Ready 0 (words (now s)) (now tab) (now m) (now vis) (now found)) ⌝ }
     ensures { λ r. ⌜ Passes 0 (words (now (s .entry))) (now (tab .entry)) (now (m .entry)) (now (vis .entry)) (now (found .entry)) (now (held .entry)) (now (m .exit)) (now (vis .exit)) (now (found .exit)) (now (held .exit)) (armsAt (words (now (s .entry))) (now (tab .entry)) 192 n) r ⌝ }
 {

@@ -72,7 +72,16 @@ fn use_plain(s: &[u8], tab: &[u32], m: &mut [u32], vis: &[u32], found: &mut [u32
 }
 
 // A Var: carried under its alias, or under the name of its row.
-fn carry_var(s: &[u8], tab: &[u32], m: &mut [u32], vis: &[u32], found: &mut [u32], held: &mut [u32], alias: u32, v: u32)
+fn carry_var(
+    s: &[u8],
+    tab: &[u32],
+    m: &mut [u32],
+    vis: &[u32],
+    found: &mut [u32],
+    held: &mut [u32],
+    alias: u32,
+    v: u32,
+)
     requires { ⌜ (alias ≤ slotsIn (now tab)) × ((Holding 3 (words (now s)) (now tab) (now m) (now held)) × (Ready 3 (words (now s)) (now tab) (now m) (now vis) (now found))) ⌝ }
     ensures { λ r. ⌜ Adds (words (now (s .entry))) (now (tab .entry)) (now (m .entry)) (now (vis .entry)) (now (found .entry)) (now (held .entry)) (now (m .exit)) (now (vis .entry)) (now (found .exit)) (now (held .exit)) (λ id. onNames (useVar (worldAt (words (now (s .entry))) (now (tab .entry)) id) v ((worldAt (words (now (s .entry))) (now (tab .entry)) id) .row v))) alias (aVar v) ⌝ }
 {
@@ -88,7 +97,16 @@ fn carry_var(s: &[u8], tab: &[u32], m: &mut [u32], vis: &[u32], found: &mut [u32
 }
 
 // A name: carried if it is visible and has no alias.
-fn carry_name(s: &[u8], tab: &[u32], m: &mut [u32], vis: &[u32], found: &mut [u32], held: &mut [u32], alias: u32, x: u32)
+fn carry_name(
+    s: &[u8],
+    tab: &[u32],
+    m: &mut [u32],
+    vis: &[u32],
+    found: &mut [u32],
+    held: &mut [u32],
+    alias: u32,
+    x: u32,
+)
     requires { ⌜ (x < slotsIn (now tab)) × ((Holding 3 (words (now s)) (now tab) (now m) (now held)) × (Ready 3 (words (now s)) (now tab) (now m) (now vis) (now found))) ⌝ }
     ensures { λ r. ⌜ Adds (words (now (s .entry))) (now (tab .entry)) (now (m .entry)) (now (vis .entry)) (now (found .entry)) (now (held .entry)) (now (m .exit)) (now (vis .entry)) (now (found .exit)) (now (held .exit)) (λ id. onNames (nameUse (worldAt (words (now (s .entry))) (now (tab .entry)) id) x)) alias (aName x) ⌝ }
 {
@@ -128,7 +146,16 @@ fn direct_of(f: Form) -> Direct
 }
 
 // The expression of a projection.
-fn walk_carried(s: &[u8], tab: &[u32], m: &mut [u32], vis: &mut [u32], found: &mut [u32], held: &mut [u32], alias: u32, mode: u32) -> u32
+fn walk_carried(
+    s: &[u8],
+    tab: &[u32],
+    m: &mut [u32],
+    vis: &mut [u32],
+    found: &mut [u32],
+    held: &mut [u32],
+    alias: u32,
+    mode: u32,
+) -> u32
     requires { ⌜ (alias ≤ slotsIn (now tab)) × ((Held (words (now s)) (now held) mode) × ((Holding 1 (words (now s)) (now tab) (now m) (now held)) × (Ready 1 (words (now s)) (now tab) (now m) (now vis) (now found)))) ⌝ }
     ensures { λ r. ⌜ Carries 1 (words (now (s .entry))) (now (tab .entry)) (now (m .entry)) (now (vis .entry)) (now (found .entry)) (now (held .entry)) (now (m .exit)) (now (vis .exit)) (now (found .exit)) (now (held .exit)) (carriedAt (words (now (s .entry))) (now (tab .entry)) mode alias) r ⌝ }
 {
@@ -152,7 +179,15 @@ fn walk_carried(s: &[u8], tab: &[u32], m: &mut [u32], vis: &mut [u32], found: &m
 }
 
 // A projection: its alias + 1 or 0, and its expression.
-fn walk_projection(s: &[u8], tab: &[u32], m: &mut [u32], vis: &mut [u32], found: &mut [u32], held: &mut [u32], mode: u32) -> u32
+fn walk_projection(
+    s: &[u8],
+    tab: &[u32],
+    m: &mut [u32],
+    vis: &mut [u32],
+    found: &mut [u32],
+    held: &mut [u32],
+    mode: u32,
+) -> u32
     requires { ⌜ (Held (words (now s)) (now held) mode) × ((Holding 0 (words (now s)) (now tab) (now m) (now held)) × (Ready 0 (words (now s)) (now tab) (now m) (now vis) (now found))) ⌝ }
     ensures { λ r. ⌜ Carries 0 (words (now (s .entry))) (now (tab .entry)) (now (m .entry)) (now (vis .entry)) (now (found .entry)) (now (held .entry)) (now (m .exit)) (now (vis .exit)) (now (found .exit)) (now (held .exit)) (projectionsAt (words (now (s .entry))) (now (tab .entry)) mode 1) r ⌝ }
 {
@@ -163,7 +198,16 @@ fn walk_projection(s: &[u8], tab: &[u32], m: &mut [u32], vis: &mut [u32], found:
 }
 
 // n projections.
-fn walk_projections(s: &[u8], tab: &[u32], m: &mut [u32], vis: &mut [u32], found: &mut [u32], held: &mut [u32], n: u32, mode: u32) -> u32
+fn walk_projections(
+    s: &[u8],
+    tab: &[u32],
+    m: &mut [u32],
+    vis: &mut [u32],
+    found: &mut [u32],
+    held: &mut [u32],
+    n: u32,
+    mode: u32,
+) -> u32
     requires { ⌜ (Held (words (now s)) (now held) mode) × ((Holding 0 (words (now s)) (now tab) (now m) (now held)) × (Ready (heldOf (now m) * 2) (words (now s)) (now tab) (now m) (now vis) (now found))) ⌝ }
     ensures { λ r. ⌜ Carries 0 (words (now (s .entry))) (now (tab .entry)) (now (m .entry)) (now (vis .entry)) (now (found .entry)) (now (held .entry)) (now (m .exit)) (now (vis .exit)) (now (found .exit)) (now (held .exit)) (projectionsAt (words (now (s .entry))) (now (tab .entry)) mode n) r ⌝ }
 {
@@ -207,7 +251,14 @@ fn kind_wanted(s: &[u8], tab: &[u32], v: u32) -> u32
 }
 
 // The new Root binds them, with the table's kinds.
-fn bind_pairs(s: &[u8], tab: &[u32], m: &mut [u32], vis: &mut [u32], found: &mut [u32], held: &[u32])
+fn bind_pairs(
+    s: &[u8],
+    tab: &[u32],
+    m: &mut [u32],
+    vis: &mut [u32],
+    found: &mut [u32],
+    held: &[u32],
+)
     requires { ⌜ ((heldOf (now m) * 2 ≤ length (now held)) × (InNames (slotsIn (now tab)) (pairsIn (heldOf (now m)) (now held)) × (slotsIn (now tab) + (topOf (now m) + heldOf (now m)) * 3 ≤ atOf (now m) + 1))) × (Fine (words (now s)) (now tab) × Fits (heldOf (now m)) 0 (words (now s)) (now tab) (now m) (now vis) (now found)) ⌝ }
     ensures { λ r. ⌜ BindsAll (heldOf (now (m .entry))) (words (now (s .entry))) (now (tab .entry)) (now (m .entry)) (now (vis .entry)) (now (found .entry)) (now (held .entry)) (now (m .exit)) (now (vis .exit)) (now (found .exit)) ⌝ }
 {
@@ -227,7 +278,15 @@ fn bind_pairs(s: &[u8], tab: &[u32], m: &mut [u32], vis: &mut [u32], found: &mut
 }
 
 // The pairs that are held are carried by a barrier, and bound in a new Root, where nothing else is visible.
-fn bind_with(s: &[u8], tab: &[u32], m: &mut [u32], vis: &mut [u32], found: &mut [u32], held: &[u32], head: Head)
+fn bind_with(
+    s: &[u8],
+    tab: &[u32],
+    m: &mut [u32],
+    vis: &mut [u32],
+    found: &mut [u32],
+    held: &[u32],
+    head: Head,
+)
     requires { ⌜ ((heldOf (now m) * 2 ≤ length (now held)) × (InNames (slotsIn (now tab)) (pairsIn (heldOf (now m)) (now held)) × (slotsIn (now tab) + heldOf (now m) * 3 ≤ atOf (now m)))) × Ready (2 + heldOf (now m) * 2) (words (now s)) (now tab) (now m) (now vis) (now found) ⌝ }
     ensures { λ r. ⌜ Rebinds (words (now (s .entry))) (now (tab .entry)) (now (m .entry)) (now (vis .entry)) (now (found .entry)) (now (held .entry)) (now (m .exit)) (now (vis .exit)) (now (found .exit)) (head .start) (head .end) ⌝ }
 {
@@ -240,7 +299,16 @@ fn bind_with(s: &[u8], tab: &[u32], m: &mut [u32], vis: &mut [u32], found: &mut 
 }
 
 // WITH.
-pub fn walk_with(s: &[u8], tab: &[u32], m: &mut [u32], vis: &mut [u32], found: &mut [u32], held: &mut [u32], head: Head, mode: u32) -> u32
+pub fn walk_with(
+    s: &[u8],
+    tab: &[u32],
+    m: &mut [u32],
+    vis: &mut [u32],
+    found: &mut [u32],
+    held: &mut [u32],
+    head: Head,
+    mode: u32,
+) -> u32
     requires { ⌜ Held (words (now s)) (now held) mode × (Ready 3 (words (now s)) (now tab) (now m) (now vis) (now found)) ⌝ }
     ensures { λ r. ⌜ Passes 3 (words (now (s .entry))) (now (tab .entry)) (now (m .entry)) (now (vis .entry)) (now (found .entry)) (now (held .entry)) (now (m .exit)) (now (vis .exit)) (now (found .exit)) (now (held .exit)) (withAt (words (now (s .entry))) (now (tab .entry)) mode (head .start) (head .end)) r ⌝ }
 {

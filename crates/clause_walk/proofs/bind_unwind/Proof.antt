@@ -1,6 +1,6 @@
 -- The scope is opened, the variable's row is noted, and it is bound under the row's name (`unwound`).
 use borrow.Author.Needs.{needs}
-use mathlib.Core.Path.{refl, sym, _∙_, ap}
+use mathlib.Core.Path.{sym, ap}
 use native.Mathlib.Omega.{arith}
 use Rattle.heads.proofs.Chain.{fact}
 use Rattle.steps.proofs.Held.{ready-less}

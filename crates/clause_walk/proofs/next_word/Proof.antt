@@ -3,7 +3,6 @@ use borrow.Author.Needs.{needs}
 use mathlib.Core.Path.{refl}
 use Rattle.clause_walk.proofs.next_word.Statement.{statement}
 use Rattle.clause_walk.proofs.next_word.Tie as tie
-use Rattle.clause_walk.specs.Passes.{Next}
 
 pub next-word-spec : {M : Type 1} → statement M
 next-word-spec =

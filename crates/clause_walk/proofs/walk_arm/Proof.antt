@@ -1,16 +1,13 @@
 -- The span and the count are read, nothing is visible any more, and the clauses are walked.
-use Prim.Native.Nat.{ℕ, _*_, _/_, suc, _+_}
 use borrow.Author.Needs.{needs}
 use mathlib.Core.List.{[]}
 use mathlib.Core.Option.{none}
 use mathlib.Core.Path.{refl}
 use native.Mathlib.Omega.{arith}
 use Rattle.fused.specs.Clauses.{armGo}
-use Rattle.heads.proofs.Chain.{fact}
-use Rattle.heads.proofs.Chain.{step, last}
+use Rattle.heads.proofs.Chain.{fact, step, last}
 use Rattle.heads.specs.Got.{wordIn}
 use Rattle.semantics.specs.Resolve.{standing}
-use Rattle.steps.specs.Hold.{Ready}
 use Rattle.steps.specs.Hold.{onNames}
 use Rattle.walk.proofs.Stage.{start, ready}
 use Rattle.words.specs.Words.{words}

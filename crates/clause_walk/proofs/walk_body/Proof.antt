@@ -1,7 +1,6 @@
 -- Each kind is the definition's (`body-is`), and no other there is (`body-none`).
 use Prim.Native.Nat.{_*_, _/_}
 use borrow.Author.Needs.{needs}
-use mathlib.Core.Path.{refl}
 use native.Mathlib.Omega.{arith}
 use Rattle.fused.specs.Clauses.{openingGo, markedGo, bodyGo}
 use Rattle.semantics.specs.World.{opens}

@@ -1,20 +1,16 @@
 -- The scope is opened, the arguments are walked unresolved, and the yields are bound.
-use Prim.Native.Nat.{ℕ, _*_, _/_, suc, _+_}
+use Prim.Native.Nat.{_*_, _/_}
 use borrow.Author.Needs.{needs}
 use mathlib.Core.Option.{none}
 use mathlib.Core.Path.{refl}
 use native.Mathlib.Omega.{arith}
-use Rattle.heads.proofs.Chain.{fact}
-use Rattle.heads.proofs.Chain.{step, last}
+use Rattle.heads.proofs.Chain.{fact, step, last}
 use Rattle.heads.specs.Got.{wordIn}
 use Rattle.scope.specs.Graph.{callScope}
 use Rattle.semantics.specs.Resolve.{enter}
 use Rattle.steps.proofs.Held.{ready-less}
-use Rattle.steps.specs.Hold.{Ready}
 use Rattle.steps.specs.Hold.{onNames}
-use Rattle.steps.specs.Memory.{namesIn, tablesIn, worldAt, modeOf}
-use Rattle.walk.proofs.Stage.{did}
-use Rattle.walk.proofs.Stage.{start, ready}
+use Rattle.walk.proofs.Stage.{did, start, ready}
 use Rattle.words.specs.Words.{words}
 use Rattle.clause_walk.proofs.Passing.{asked, went, fell, last-one, past, halted}
 use Rattle.clause_walk.proofs.Rescoped.{call-as}

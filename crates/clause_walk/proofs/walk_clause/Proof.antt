@@ -1,15 +1,11 @@
 -- Three words are read, and pay for what the body opens.
-use Prim.Native.Nat.{ℕ, _*_, _/_, suc, _+_}
 use borrow.Author.Needs.{needs}
 use mathlib.Core.Option.{none}
 use mathlib.Core.Path.{refl}
 use native.Mathlib.Omega.{arith}
 use Rattle.fused.specs.Clauses.{clauseGo}
-use Rattle.heads.proofs.Chain.{fact}
-use Rattle.heads.proofs.Chain.{step, last}
+use Rattle.heads.proofs.Chain.{fact, step, last}
 use Rattle.heads.specs.Got.{wordIn}
-use Rattle.steps.specs.Hold.{Ready}
-use Rattle.steps.specs.Memory.{namesIn, tablesIn, worldAt, modeOf}
 use Rattle.walk.proofs.Stage.{start, ready}
 use Rattle.words.specs.Words.{words}
 use Rattle.clause_walk.proofs.Passing.{asked, last-one, past, halted}

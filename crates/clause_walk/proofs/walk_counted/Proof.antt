@@ -1,17 +1,16 @@
 -- The count is read, and the expressions are the walk's in the general setting.
-use Prim.Native.Nat.{_*_, _/_, suc, _+_}
+use Prim.Native.Nat.{_*_, _/_}
 use borrow.Author.Needs.{needs}
 use mathlib.Core.Option.{none}
 use mathlib.Core.Path.{refl}
 use native.Mathlib.Omega.{arith}
 use Rattle.fused.specs.Clauses.{within}
 use Rattle.fused.specs.Fused.{rowGo}
-use Rattle.heads.proofs.Chain.{fact}
-use Rattle.heads.proofs.Chain.{step, last}
+use Rattle.heads.proofs.Chain.{fact, step, last}
 use Rattle.heads.specs.Got.{wordIn}
 use Rattle.semantics.specs.Kinds.{plain}
 use Rattle.steps.specs.Hold.{Ready}
-use Rattle.steps.specs.Memory.{namesIn, tablesIn, worldAt, modeOf}
+use Rattle.steps.specs.Memory.{tablesIn, worldAt, modeOf}
 use Rattle.walk.proofs.Modes.{in-pair}
 use Rattle.walk.proofs.Stage.{start, ready}
 use Rattle.words.specs.Words.{words}

@@ -1,16 +1,14 @@
 -- The count is read, and the marks are the walk's.
-use Prim.Native.Nat.{_*_, _/_, suc, _+_}
 use borrow.Author.Needs.{needs}
 use mathlib.Core.Option.{none}
 use mathlib.Core.Path.{refl}
 use native.Mathlib.Omega.{arith}
 use Rattle.fused.specs.Clauses.{within, markedGo}
 use Rattle.fused.specs.Fused.{rounds, markGo}
-use Rattle.heads.proofs.Chain.{fact}
-use Rattle.heads.proofs.Chain.{step, last}
+use Rattle.heads.proofs.Chain.{fact, step, last}
 use Rattle.heads.specs.Got.{wordIn}
 use Rattle.steps.specs.Hold.{Ready}
-use Rattle.steps.specs.Memory.{namesIn, tablesIn, worldAt, modeOf}
+use Rattle.steps.specs.Memory.{tablesIn, worldAt, modeOf}
 use Rattle.walk.proofs.Stage.{start, ready}
 use Rattle.words.specs.Words.{words}
 use Rattle.clause_walk.proofs.Passing.{forget, last-one, past, halted}

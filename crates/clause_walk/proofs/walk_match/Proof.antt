@@ -1,13 +1,10 @@
 -- The flag is read, and the scope with its pattern is walked.
-use Prim.Native.Nat.{_*_, _/_, suc, _+_}
 use borrow.Author.Needs.{needs}
 use mathlib.Core.Option.{none}
 use mathlib.Core.Path.{refl}
 use native.Mathlib.Omega.{arith}
-use Rattle.heads.proofs.Chain.{fact}
-use Rattle.heads.proofs.Chain.{step, last}
+use Rattle.heads.proofs.Chain.{fact, step, last}
 use Rattle.heads.specs.Got.{wordIn}
-use Rattle.steps.specs.Memory.{namesIn, tablesIn, worldAt, modeOf}
 use Rattle.walk.proofs.Stage.{start, ready}
 use Rattle.words.specs.Words.{words}
 use Rattle.clause_walk.proofs.Passing.{last-one, past, halted}

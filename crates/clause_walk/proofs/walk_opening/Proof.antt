@@ -1,20 +1,16 @@
 -- The scope is opened, and the pattern is the walk's.
-use Prim.Native.Nat.{_*_, _/_, suc, _+_}
 use borrow.Author.Needs.{needs}
 use mathlib.Core.Option.{none}
 use mathlib.Core.Path.{refl}
 use native.Mathlib.Omega.{arith}
 use Rattle.fused.specs.Clauses.{within}
 use Rattle.fused.specs.Fused.{patternGo}
-use Rattle.heads.proofs.Chain.{fact}
-use Rattle.heads.proofs.Chain.{step, last}
-use Rattle.heads.specs.Got.{wordIn}
+use Rattle.heads.proofs.Chain.{fact, last}
 use Rattle.semantics.specs.Resolve.{enter}
 use Rattle.steps.proofs.Held.{ready-less}
 use Rattle.steps.specs.Hold.{onNames}
-use Rattle.steps.specs.Memory.{namesIn, tablesIn, worldAt, modeOf}
-use Rattle.walk.proofs.Stage.{did}
-use Rattle.walk.proofs.Stage.{start, ready}
+use Rattle.steps.specs.Memory.{tablesIn, worldAt, modeOf}
+use Rattle.walk.proofs.Stage.{did, start, ready}
 use Rattle.words.specs.Words.{words}
 use Rattle.clause_walk.proofs.Passing.{forget, last-one}
 use Rattle.clause_walk.proofs.Rescoped.{names-step}

@@ -1,19 +1,15 @@
 -- The variable is read and bound, and its list is walked unresolved.
-use Prim.Native.Nat.{_*_, _/_, suc, _+_}
 use borrow.Author.Needs.{needs}
 use mathlib.Core.Option.{none}
 use mathlib.Core.Path.{refl}
 use native.Mathlib.Omega.{arith}
-use Rattle.fused.specs.Clauses.{within, unwindGo}
+use Rattle.fused.specs.Clauses.{within}
 use Rattle.fused.specs.Fused.{unresolving}
-use Rattle.heads.proofs.Chain.{fact}
-use Rattle.heads.proofs.Chain.{step, last}
+use Rattle.heads.proofs.Chain.{fact, step, last}
 use Rattle.heads.specs.Got.{wordIn}
 use Rattle.semantics.specs.Kinds.{general}
-use Rattle.steps.specs.Hold.{Ready}
-use Rattle.steps.specs.Memory.{namesIn, tablesIn, worldAt, modeOf}
-use Rattle.walk.proofs.Stage.{did}
-use Rattle.walk.proofs.Stage.{start, ready}
+use Rattle.steps.specs.Memory.{tablesIn, worldAt, modeOf}
+use Rattle.walk.proofs.Stage.{did, start, ready}
 use Rattle.words.specs.Words.{words}
 use Rattle.clause_walk.proofs.Passing.{last-one, past, halted}
 use Rattle.clause_walk.proofs.Rescoped.{unwind-as, unresolved-expr}

@@ -1,27 +1,19 @@
 -- Three words are read, and pay for the binding.
-use Prim.Native.Nat.{ℕ, _*_, _/_, suc, _+_}
+use Prim.Native.Nat.{_+_}
 use borrow.Author.Needs.{needs}
 use mathlib.Core.Logic.{⊎-elim}
 use mathlib.Core.Option.{none}
-use mathlib.Core.Path.{_≡_, ap, sym, _∙_}
-use mathlib.Core.Path.{refl}
-use native.Mathlib.Numerals.{add-one}
+use mathlib.Core.Path.{_≡_, _∙_, refl}
 use native.Mathlib.Omega.{arith}
-use Rattle.clauses.specs.Read.{aliasOf, readYield}
-use Rattle.fused.specs.Fused.{Both}
-use Rattle.heads.proofs.Chain.{fact}
-use Rattle.heads.proofs.Chain.{step, last}
-use Rattle.heads.specs.Got.{ok}
-use Rattle.heads.specs.Got.{wordIn}
+use Rattle.clauses.specs.Read.{aliasOf}
+use Rattle.heads.proofs.Chain.{fact, step, last}
+use Rattle.heads.specs.Got.{ok, wordIn}
 use Rattle.semantics.specs.Resolve.{bindAnew}
 use Rattle.semantics.specs.World.{yieldName}
-use Rattle.steps.specs.Hold.{Ready}
-use Rattle.steps.specs.Hold.{onNames}
-use Rattle.steps.specs.Memory.{namesIn, tablesIn, worldAt, modeOf}
-use Rattle.steps.specs.Memory.{slotsIn}
+use Rattle.steps.specs.Hold.{Ready, onNames}
+use Rattle.steps.specs.Memory.{namesIn, worldAt}
 use Rattle.tables.specs.Row.{valueKind}
-use Rattle.walk.proofs.Stage.{did, recast}
-use Rattle.walk.proofs.Stage.{start, ready}
+use Rattle.walk.proofs.Stage.{did, start, ready}
 use Rattle.words.specs.Words.{words}
 use Rattle.clause_walk.proofs.Passing.{asked, passed, past, halted, in-range}
 use Rattle.clause_walk.proofs.Rescoped.{yield-as, alias-none, alias-some, yield-below}

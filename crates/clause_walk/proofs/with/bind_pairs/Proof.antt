@@ -1,7 +1,7 @@
 -- After i turns the first i pairs are bound (`Binding`).
-use Prim.Native.Nat.{_-_, _≤_, _*_}
+use Prim.Native.Nat.{_-_, _≤_}
 use borrow.Author.Needs.{needs}
-use mathlib.Core.Path.{_≡_, refl, _∙_}
+use mathlib.Core.Path.{refl}
 use native.Mathlib.Omega.{arith}
 use Rattle.steps.specs.Memory.{slotsIn}
 use Rattle.words.specs.Words.{words}

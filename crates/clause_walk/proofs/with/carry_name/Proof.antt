@@ -1,6 +1,5 @@
 -- A visible name is recorded, and held if it has no alias; any other is used.
 use borrow.Author.Needs.{needs}
-use mathlib.Core.Path.{sym, _∙_}
 use native.Mathlib.Omega.{arith}
 use Rattle.heads.proofs.Chain.{fact}
 use Rattle.semantics.specs.Resolve.{lookup}

@@ -1,12 +1,11 @@
 -- After i turns the barrier carries the first i pairs, for which as many events pay.
-use Prim.Native.Nat.{_-_, _≤_, _*_}
+use Prim.Native.Nat.{_-_, _≤_}
 use borrow.Author.Needs.{needs}
-use lib.ListN.{length}
-use mathlib.Core.Path.{_≡_, refl, _∙_}
+use mathlib.Core.Path.{refl}
 use native.Mathlib.Omega.{arith}
 use Rattle.semantics.specs.Resolve.{carryAll}
 use Rattle.steps.specs.Hold.{Costs, onNames}
-use Rattle.steps.specs.Memory.{heldOf, worldAt}
+use Rattle.steps.specs.Memory.{worldAt}
 use Rattle.words.specs.Words.{words}
 use Rattle.clause_walk.proofs.Carrying.{none-carried, one-carried, carry-room, all-carried}
 use Rattle.clause_walk.proofs.with.carry_pairs.Statement.{statement}

@@ -1,7 +1,5 @@
 -- Where no kind is wanted, any will do.
 use borrow.Author.Needs.{needs}
-use borrow.Author.Tests.{ne-eqb}
-use mathlib.Core.Path.{_≡_}
 use Rattle.clause_walk.proofs.Carrying.{unwanted-kind}
 use Rattle.clause_walk.proofs.with.kind_wanted.Statement.{statement}
 use Rattle.clause_walk.proofs.with.kind_wanted.Tie as tie

@@ -1,7 +1,6 @@
 -- The alias is read, and then the expression.
 use borrow.Author.Needs.{needs}
 use native.Mathlib.Omega.{arith}
-use Rattle.words.specs.Words.{words}
 use Rattle.clause_walk.proofs.Passing.{in-range}
 use Rattle.clause_walk.proofs.Projected.{alias-refused, alias-holding, alias-ready, alias-passes}
 use Rattle.clause_walk.proofs.with.walk_projection.Statement.{statement}

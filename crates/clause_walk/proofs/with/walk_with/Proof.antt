@@ -1,18 +1,17 @@
 -- The projections are walked and what they carry is held, then the filter, and the pairs are bound in a new Root.
-use Prim.Native.Nat.{ℕ, _*_, _/_, _+_}
+use Prim.Native.Nat.{_*_, _/_, _+_}
 use borrow.Author.Needs.{needs}
-use mathlib.Core.List.{List, []}
+use mathlib.Core.List.{[]}
 use mathlib.Core.Option.{none}
-use mathlib.Core.Path.{refl, _∙_}
+use mathlib.Core.Path.{refl}
 use native.Mathlib.Omega.{arith}
 use Rattle.fused.specs.Clauses.{within, withGo}
-use Rattle.fused.specs.Fused.{Both, rowGo}
+use Rattle.fused.specs.Fused.{rowGo}
 use Rattle.fused.specs.Fused.{step as stepped}
-use Rattle.heads.proofs.Chain.{fact}
-use Rattle.heads.proofs.Chain.{step, last}
+use Rattle.heads.proofs.Chain.{fact, step, last}
 use Rattle.heads.specs.Got.{ok, wordIn}
 use Rattle.semantics.specs.Kinds.{plain}
-use Rattle.semantics.specs.Resolve.{Pair, barrier, fresh}
+use Rattle.semantics.specs.Resolve.{barrier, fresh}
 use Rattle.steps.specs.Memory.{heldOf, tablesIn, worldAt, modeOf}
 use Rattle.walk.proofs.Modes.{in-pair}
 use Rattle.walk.proofs.Stage.{start, ready}
@@ -21,7 +20,7 @@ use Rattle.clause_walk.proofs.Passing.{asked, forget, went, fell, past,
 use Rattle.clause_walk.proofs.Withs.{unheld, unheld-none, carried-on, carried-fell, rebound, known, with-holding, with-asks}
 use Rattle.clause_walk.proofs.with.walk_with.Statement.{statement}
 use Rattle.clause_walk.proofs.with.walk_with.Tie as tie
-use Rattle.clause_walk.specs.Passes.{pairsIn, projectionsAt, withAt}
+use Rattle.clause_walk.specs.Passes.{projectionsAt, withAt}
 
 pub walk-with-spec : {M : Type 1} → statement M
 unfolding withGo
