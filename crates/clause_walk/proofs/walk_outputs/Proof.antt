@@ -1,5 +1,6 @@
 -- A loop of rounds (walk's Turning).
 use native.Mathlib.Omega.{arith}
+use mathlib.Core.Option.{some}
 use Rattle.heads.proofs.Chain.{fact}
 use Rattle.steps.specs.Hold.{Ready}
 use Rattle.walk.proofs.Stage.{Turning, ready, begun, turn, fall, over}
@@ -9,7 +10,7 @@ use Rattle.clause_walk.proofs.walk_outputs.Tie as tie
 use Rattle.clause_walk.specs.Passes.{outputAt}
 
 abbrev Inv-loop : tie.InvT-loop
-Inv-loop s tab m₀ vis₀ found₀ n mode left₀ m vis found left = Turning 48 (words s) tab m₀ vis₀ found₀ n (outputAt (words s) tab mode) m vis found left
+Inv-loop s tab m₀ vis₀ found₀ n mode left₀ m vis found left = Turning (some 48) (words s) tab m₀ vis₀ found₀ n (outputAt (words s) tab mode) m vis found left
 
 abbrev μ-loop : tie.MeasureT-loop
 μ-loop s tab m₀ vis₀ found₀ n mode left₀ m vis found left = left
