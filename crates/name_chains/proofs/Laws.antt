@@ -14,7 +14,7 @@ use mathlib.Core.Logic.{_≢_}
 use Rattle.tables.specs.Distinct.{sameBytes, nameIn}
 use Rattle.tables.specs.Answer.{namesIn}
 use Rattle.tables.proofs.Fresh.{is-not, same-eq}
-use Rattle.rows.specs.Rows.{seek, Chained}
+use Rattle.rows.specs.Rows.{seek}
 use Rattle.rows.proofs.Chains.{seek-le, seek-hit, more, none-chained}
 use Rattle.name_chains.specs.Slot.{slotOf}
 use Rattle.name_chains.specs.Hung.{textIn, itself, slotIn, Cleared, Hung, Sought}

@@ -1,5 +1,5 @@
 -- Names that hang in chains by the slots of their texts, in words: the chains of `rows`, with a name's slot for its key.
-use Prim.Native.Nat.{ℕ, suc, _+_, _<_, _≤_}
+use Prim.Native.Nat.{ℕ, suc, _<_, _≤_}
 use mathlib.Core.Path.{_≡_}
 use mathlib.Core.Bool.{Bool, true, not}
 use mathlib.Core.List.{List}

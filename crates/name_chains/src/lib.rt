@@ -8,32 +8,47 @@ use tables::name_at;
 use tables::scan_names;
 use words::word;
 ghost use mathlib.Core.Path.{_≡_};
-ghost use Prim.Native.Nat.{_+_, _*_, _/_, _%_, _^_, _<_, _≤_};
+ghost use Prim.Native.Nat.{_+_, _/_, _<_, _≤_};
 ghost use lib.ListN.{length};
+ghost use Rattle.words.specs.Words.{words};
 ghost use Rattle.tables.specs.Distinct.{sameBytes, nameIn, distinct};
 ghost use Rattle.tables.specs.Answer.{namesIn, Roomy};
 ghost use Rattle.sheet.specs.Answer.{Tabled};
-ghost use Rattle.name_chains.specs.Slot.{hashOf, slotOf};
+ghost use Rattle.name_chains.specs.Slot.{folded, hashFrom, hashOf, slotOf};
 ghost use Rattle.name_chains.specs.Hung.{Cleared, Slots, Hung, Sought, Hangs};
 
 // So few names are compared each with all before it, by their use ids first.
 const FEW: u32 = 8;
 
-// a times b modulo 2^32, over the wider product.
-fn times(a: u32, b: u32) -> u32
-    ensures { λ r. ⌜ r ≡ (a * b) % 2 ^ 32 ⌝ }
+// The product of two numbers, its upper half folded into its lower.
+fn fold(a: u32, b: u32) -> u32
+    ensures { λ r. ⌜ r ≡ folded a b ⌝ }
 {
-    ((a as u64) * (b as u64) % 4294967296) as u32
+    let t = (a as u64) * (b as u64);
+    ((t / 4294967296) as u32) ^ ((t % 4294967296) as u32)
 }
 
-// The hash of a text.
-fn hash(x: &[u8], mult: u32) -> u32
-    ensures { λ r. ⌜ r ≡ hashOf mult (now (x .entry)) ⌝ }
+// The hash of the whole words of a text.
+fn hash_words(x: &[u8], mult: u32) -> u32
+    ensures { λ r. ⌜ r ≡ hashFrom mult mult (words (now (x .entry))) ⌝ }
 {
     let mut h = mult;
     let mut i = 0;
+    while i < x.len() / 4 {
+        h = fold(h ^ word(x, i), mult);
+        i += 1;
+    }
+    h
+}
+
+// The hash of a text: of its whole words, then of the bytes after them.
+fn hash(x: &[u8], mult: u32) -> u32
+    ensures { λ r. ⌜ r ≡ hashOf mult (now (x .entry)) ⌝ }
+{
+    let mut h = hash_words(x, mult);
+    let mut i = x.len() / 4 * 4;
     while i < x.len() {
-        h = times(h, mult) ^ (x[i] as u32);
+        h = fold(h ^ (x[i] as u32), mult);
         i += 1;
     }
     h
@@ -44,9 +59,7 @@ fn slot(x: &[u8], mult: u32, m: usize) -> usize
     requires { ⌜ 0 < m ⌝ }
     ensures { λ r. ⌜ r ≡ slotOf mult m (now (x .entry)) ⌝ }
 {
-    let h = hash(x, mult);
-    let g = times(h ^ (h >> 15), 2654435769);
-    ((g >> 16) as usize) % m
+    (hash(x, mult) as usize) % m
 }
 
 // A multiplier, made from the words of the section: few names need none of their own. Whoever writes all of them can still choose it.
@@ -57,7 +70,7 @@ fn mult_for(s: &[u8], n: usize) -> u32 {
     let mut h: u32 = 2166136261;
     let mut i = 0;
     while i < s.len() / 4 {
-        h = times(h ^ word(s, i), 16777619);
+        h = fold(h ^ word(s, i), 2654435769);
         i += 1;
     }
     h / 2 * 2 + 1

@@ -1,9 +1,8 @@
 -- The loop's invariant: the hash of the whole is the hash of what is left, from h on.
-use Prim.Native.Nat.{ℕ, _≤_, _-_, _+_}
-use mathlib.Core.Path.{_≡_, refl, _∙_, sym, ap}
+use Prim.Native.Nat.{_≤_, _-_}
+use mathlib.Core.Path.{_≡_, _∙_, sym}
 use native.Mathlib.Omega.{arith}
-use lib.Bits.{bitXor}
-use lib.ListN.{length, drop, getD}
+use lib.ListN.{length, drop}
 use Rattle.words.proofs.Words.{drop-word, drop-none}
 use Rattle.name_chains.specs.Slot.{hashFrom, hashOf}
 use Rattle.name_chains.proofs.hash.Statement.{statement}
@@ -22,14 +21,15 @@ hash-spec =
     (tie.spec
     Inv-loop
     μ-loop
-    (λ c. (omega arith, refl))  -- loop-holds
-    (λ c κs. tt)  -- times-requires
-    (λ c. omega arith)  -- shared-slice-read-h
-    (λ c. omega (arith, c .shared-slice-known2 .given (c .before .before .before .loop .i)))  -- cast-h
+    (λ c κs. tt)  -- hash-words-requires
+    (λ c. omega arith)  -- mul-i
+    (λ c. (omega arith, rw (c .hash-words .ensures)))  -- loop-holds
+    (λ c. omega arith)  -- shared-slice-read-fold
+    (λ c. omega (arith, c .shared-slice-known2 .given (c .before .before .loop .i)))  -- cast-fold
+    (λ c κs. tt)  -- fold-requires
     (λ c. omega arith)  -- add-i
     (λ c. omega arith)  -- loop-less
     (λ c.  -- loop-again
     let l = c .before .before .before .loop in
-    let s = c .before .before .before .before .before .args .x .now in
-    (omega arith, l .inv .1 ∙ rw (drop-word s (l .i) (omega arith), c .before .times .ensures)))
-    (λ c. sym (c .before .loop .inv .1 ∙ rw (drop-none (c .before .before .before .args .x .now) (c .before .loop .i) (omega arith)))))  -- returns
+    (omega arith, l .inv .1 ∙ rw (drop-word (c .before .before .before .before .before .before .args .x .now) (l .i) (omega arith), c .fold .ensures)))
+    (λ c. sym (c .before .loop .inv .1 ∙ rw (drop-none (c .before .before .before .before .args .x .now) (c .before .loop .i) (omega arith)))))  -- returns

@@ -20,10 +20,10 @@ mult-for-spec =
     (λ c. tt)  -- returns
     (λ c. (omega arith, omega arith))  -- loop-holds
     (λ c κs. tt)  -- word-requires
-    (λ c κs. tt)  -- times-requires
+    (λ c κs. tt)  -- fold-requires
     (λ c. omega arith)  -- add-i
     (λ c. omega arith)  -- loop-less
-    (λ c. (omega arith, omega (arith, c .times .ok)))  -- loop-again
+    (λ c. (omega arith, omega (arith, c .fold .ok)))  -- loop-again
     (λ c. omega arith)  -- mul-result
     (λ c. omega arith)  -- add-result
     (λ c. tt))  -- returns-2

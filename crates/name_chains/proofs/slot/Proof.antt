@@ -1,4 +1,4 @@
--- The hash and the two products are the definition's.
+-- The hash is the definition's.
 use borrow.Author.Needs.{needs}
 use Rattle.name_chains.specs.Slot.{slotOf}
 use Rattle.name_chains.proofs.slot.Statement.{statement}
@@ -10,7 +10,6 @@ slot-spec =
     tie.close
     (tie.spec
     (λ c κs. search needs)  -- hash-requires
-    (λ c κs. search needs)  -- times-requires
     (λ c. search needs)  -- cast-result
     (λ c. search needs)  -- rem-result
-    (λ c. rw (c .times .ensures, c .before .hash .ensures)))  -- returns
+    (λ c. rw (c .hash .ensures)))  -- returns
