@@ -145,7 +145,15 @@ fn lines_len(s: &[u8], tab: &[u32], k: usize, found: &[u32], front: usize, n: us
 }
 
 // The lines of n findings; how long they are.
-fn put_lines(s: &[u8], tab: &[u32], k: usize, found: &[u32], front: usize, n: usize, out: &mut [u8]) -> usize
+fn put_lines(
+    s: &[u8],
+    tab: &[u32],
+    k: usize,
+    found: &[u32],
+    front: usize,
+    n: usize,
+    out: &mut [u8],
+) -> usize
     requires { ⌜ Given (now s) k (now tab) n (now found) × (length (flatMap (line (namesIn (now s) k (now tab))) (findingsIn front n (now found))) ≤ length (now out)) ⌝ }
     ensures { λ r. ⌜ Puts (flatMap (line (namesIn (now (s .entry)) k (now (tab .entry)))) (findingsIn front n (now (found .entry)))) (now (out .entry)) (now (out .exit)) r ⌝ }
 {
@@ -161,7 +169,15 @@ fn put_lines(s: &[u8], tab: &[u32], k: usize, found: &[u32], front: usize, n: us
 }
 
 // `findings` and their number, and a line each.
-fn put_all(s: &[u8], tab: &[u32], k: usize, found: &[u32], front: usize, n: usize, page: &mut [u8]) -> usize
+fn put_all(
+    s: &[u8],
+    tab: &[u32],
+    k: usize,
+    found: &[u32],
+    front: usize,
+    n: usize,
+    page: &mut [u8],
+) -> usize
     requires { ⌜ Given (now s) k (now tab) n (now found) × (length (listed (namesIn (now s) k (now tab)) (findingsIn front n (now found))) ≤ length (now page)) ⌝ }
     ensures { λ r. ⌜ Puts (listed (namesIn (now (s .entry)) k (now (tab .entry))) (findingsIn front n (now (found .entry)))) (now (page .entry)) (now (page .exit)) r ⌝ }
 {

@@ -18,7 +18,15 @@ ghost use Rattle.listing.specs.Listing.{listing};
 ghost use Rattle.listing.specs.Found.{Found, choiceOf};
 
 // The lines of what was found in a sheet, or 10.
-fn write(s: &[u8], warns: bool, places: &[u32], found: &[u32], said: u32, told: u32, page: &mut [u8]) -> Written
+fn write(
+    s: &[u8],
+    warns: bool,
+    places: &[u32],
+    found: &[u32],
+    said: u32,
+    told: u32,
+    page: &mut [u8],
+) -> Written
     requires { ⌜ Found warns (now s) (now places) (now found) said told ⌝ }
     ensures { λ r. ⌜ Writes (listing warns (now (s .entry))) (now (page .entry)) (now (page .exit)) r × (number r < 4294967296) ⌝ }
 {
@@ -42,7 +50,17 @@ fn choice(warns: bool) -> u32
 }
 
 // With scratch for a sheet's words.
-fn list(s: &[u8], warns: bool, places: &mut [u32], ids: &mut [u32], tab: &mut [u32], vis: &mut [u32], found: &mut [u32], held: &mut [u32], page: &mut [u8]) -> Written
+fn list(
+    s: &[u8],
+    warns: bool,
+    places: &mut [u32],
+    ids: &mut [u32],
+    tab: &mut [u32],
+    vis: &mut [u32],
+    found: &mut [u32],
+    held: &mut [u32],
+    page: &mut [u8],
+) -> Written
     requires { ⌜ Scratch (length (words (now s))) (now places) (now ids) (now tab) (now vis) (now found) (now held) ⌝ }
     ensures { λ r. ⌜ Writes (listing warns (now (s .entry))) (now (page .entry)) (now (page .exit)) r × (number r < 4294967296) ⌝ }
 {
@@ -62,7 +80,17 @@ fn list_32(s: &[u8], warns: bool, page: &mut [u8]) -> Written
     let mut vis = [0u32; 46];
     let mut found = [0u32; 192];
     let mut held = [0u32; 32];
-    list(s, warns, &mut places, &mut ids, &mut tab, &mut vis, &mut found, &mut held, page)
+    list(
+        s,
+        warns,
+        &mut places,
+        &mut ids,
+        &mut tab,
+        &mut vis,
+        &mut found,
+        &mut held,
+        page,
+    )
 }
 
 fn list_64(s: &[u8], warns: bool, page: &mut [u8]) -> Written
@@ -75,7 +103,17 @@ fn list_64(s: &[u8], warns: bool, page: &mut [u8]) -> Written
     let mut vis = [0u32; 88];
     let mut found = [0u32; 384];
     let mut held = [0u32; 64];
-    list(s, warns, &mut places, &mut ids, &mut tab, &mut vis, &mut found, &mut held, page)
+    list(
+        s,
+        warns,
+        &mut places,
+        &mut ids,
+        &mut tab,
+        &mut vis,
+        &mut found,
+        &mut held,
+        page,
+    )
 }
 
 fn list_128(s: &[u8], warns: bool, page: &mut [u8]) -> Written
@@ -88,7 +126,17 @@ fn list_128(s: &[u8], warns: bool, page: &mut [u8]) -> Written
     let mut vis = [0u32; 174];
     let mut found = [0u32; 768];
     let mut held = [0u32; 128];
-    list(s, warns, &mut places, &mut ids, &mut tab, &mut vis, &mut found, &mut held, page)
+    list(
+        s,
+        warns,
+        &mut places,
+        &mut ids,
+        &mut tab,
+        &mut vis,
+        &mut found,
+        &mut held,
+        page,
+    )
 }
 
 fn list_256(s: &[u8], warns: bool, page: &mut [u8]) -> Written
@@ -101,7 +149,17 @@ fn list_256(s: &[u8], warns: bool, page: &mut [u8]) -> Written
     let mut vis = [0u32; 344];
     let mut found = [0u32; 1536];
     let mut held = [0u32; 256];
-    list(s, warns, &mut places, &mut ids, &mut tab, &mut vis, &mut found, &mut held, page)
+    list(
+        s,
+        warns,
+        &mut places,
+        &mut ids,
+        &mut tab,
+        &mut vis,
+        &mut found,
+        &mut held,
+        page,
+    )
 }
 
 fn list_512(s: &[u8], warns: bool, page: &mut [u8]) -> Written
@@ -114,7 +172,17 @@ fn list_512(s: &[u8], warns: bool, page: &mut [u8]) -> Written
     let mut vis = [0u32; 686];
     let mut found = [0u32; 3072];
     let mut held = [0u32; 512];
-    list(s, warns, &mut places, &mut ids, &mut tab, &mut vis, &mut found, &mut held, page)
+    list(
+        s,
+        warns,
+        &mut places,
+        &mut ids,
+        &mut tab,
+        &mut vis,
+        &mut found,
+        &mut held,
+        page,
+    )
 }
 
 fn list_1024(s: &[u8], warns: bool, page: &mut [u8]) -> Written
@@ -127,7 +195,17 @@ fn list_1024(s: &[u8], warns: bool, page: &mut [u8]) -> Written
     let mut vis = [0u32; 1368];
     let mut found = [0u32; 6144];
     let mut held = [0u32; 1024];
-    list(s, warns, &mut places, &mut ids, &mut tab, &mut vis, &mut found, &mut held, page)
+    list(
+        s,
+        warns,
+        &mut places,
+        &mut ids,
+        &mut tab,
+        &mut vis,
+        &mut found,
+        &mut held,
+        page,
+    )
 }
 
 fn list_2048(s: &[u8], warns: bool, page: &mut [u8]) -> Written
@@ -140,7 +218,17 @@ fn list_2048(s: &[u8], warns: bool, page: &mut [u8]) -> Written
     let mut vis = [0u32; 2734];
     let mut found = [0u32; 12288];
     let mut held = [0u32; 2048];
-    list(s, warns, &mut places, &mut ids, &mut tab, &mut vis, &mut found, &mut held, page)
+    list(
+        s,
+        warns,
+        &mut places,
+        &mut ids,
+        &mut tab,
+        &mut vis,
+        &mut found,
+        &mut held,
+        page,
+    )
 }
 
 // A sheet of any size, with scratch for 256 words at least. Its frame is that of the largest scratch, and is touched page by page.
