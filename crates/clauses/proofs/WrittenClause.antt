@@ -16,10 +16,10 @@ use Rattle.expr.specs.Write.{writes}
 use Rattle.expr.specs.Well.{IsWord, IsSpan, Wells}
 use Rattle.expr.proofs.Inverse.{Gives, gave, none, so, after, tested, word-gives}
 use Rattle.expr.proofs.Written.{IsRow, IsPatterned, expr-gives, row-gives, marks-gives, pattern-gives}
-use Rattle.clauses.specs.Tree.{delete, Clause, Arm}
-use Rattle.clauses.specs.Read.{maxDepth, aliasOf, clauseExpr, readProjection, readYield, countedExprs, countedMarks, readBody, readClause, readArm, clausal}
-use Rattle.clauses.specs.Write.{aliasWord, writeProjection, writeYield, countedWords, openingCode, openingFlag, readingCode, readingCount, writeClause, writeArm}
-use Rattle.clauses.specs.Well.{Each, WellAlias, WellProjection, WellYield, WellOpening, WellReading, WellMany, WellClause, WellArm}
+use Rattle.clauses.specs.Tree.{delete, Keys, Clause, Arm}
+use Rattle.clauses.specs.Read.{maxDepth, aliasOf, clauseExpr, readProjection, readYield, countedExprs, countedMarks, noKeys, someKeys, readWith, readReturn, readBody, readClause, readArm, clausal}
+use Rattle.clauses.specs.Write.{aliasWord, writeProjection, writeYield, countedWords, openingCode, openingFlag, readingCode, readingCount, keyCode, writeKeys, writeClause, writeArm}
+use Rattle.clauses.specs.Well.{Each, WellAlias, WellProjection, WellYield, WellOpening, WellReading, WellMany, WellKeys, WellClause, WellArm}
 
 -- what is read from ws before r is x, written there and well-formed
 abbrev pub Is : {A : Type 0} → (A → List ℕ) → (A → Type 0) → List ℕ → A → List ℕ → Type 0
@@ -100,16 +100,41 @@ module _ (w : Tables) where
       after (word-gives 0 4294967296 ws)
       (λ n r p. so (marks-gives w maxDepth (clauseExpr w) (expr-gives w maxDepth) kind n r) (λ es s q. (cc, (q .kids, omega (arith, q .marked), q .well))))
 
+  -- sort keys, none or a count of them: `which` picks the clause's kind
+  abbrev IsKeys : (ℕ → ℕ → ℕ) → List ℕ → Keys → List ℕ → Type 0
+  IsKeys which ws ks r = (ws ≡ writeKeys ks ++ r) × WellKeys w ks × ((c d : ℕ) → keyCode c d ks ≡ which c d)
+
+  no-keys : (ws : List ℕ) → Gives (noKeys w ws) (IsKeys (λ c d. c) ws)
+  unfolding noKeys writeKeys WellKeys keyCode
+  no-keys ws = gave (refl, tt, λ c d. refl)
+
+  some-keys : (ws : List ℕ) → Gives (someKeys w ws) (IsKeys (λ c d. d) ws)
+  unfolding someKeys writeKeys WellKeys keyCode
+  some-keys ws = after (exprs-gives ws) (λ es r q. gave (q .0, q .1, λ c d. refl))
+
+  module _ (K : List ℕ → Got Keys) (which : ℕ → ℕ → ℕ) (keys-give : (ws : List ℕ) → Gives (K ws) (IsKeys which ws)) (a b kind : ℕ) (ws : List ℕ) (h : IsSpan a b) where
+    with-gives : kind ≡ which 3 12 → Gives (readWith w a b K ws) (Is writeClause (WellClause w) (kind ∷ a ∷ b ∷ ws))
+    unfolding readWith writeClause WellClause
+    with-gives k =
+        after (projections ws)
+        (λ ps r p. after (word-gives 0 2 r)
+        (λ g s i. after (row g s)
+        (λ es t q. after (keys-give t)
+        (λ ks u j. gave (simp append-assoc (let e = j .2 3 12 in cc), (h, p .1, omega (arith, q .kids), q .marked, q .well, j .1))))))
+
+    return-gives : kind ≡ which 4 13 → Gives (readReturn w a b K ws) (Is writeClause (WellClause w) (kind ∷ a ∷ b ∷ ws))
+    unfolding readReturn writeClause WellClause
+    return-gives k =
+        after (projections ws)
+        (λ ps r p. after (keys-give r) (λ ks u j. gave (simp append-assoc (let e = j .2 4 13 in cc), (h, p .1, j .1))))
+
   body-gives : (a b kind : ℕ) (ws : List ℕ) → IsSpan a b → Gives (readBody w a b kind ws) (Is writeClause (WellClause w) (kind ∷ a ∷ b ∷ ws))
   unfolding clausal writeClause openingCode openingFlag readingCode readingCount WellClause WellOpening WellReading
   body-gives a b kind ws h =
       entry kind 1 (λ k. after (word-gives 0 2 ws) (λ o r p. after (steps r) (λ s t q. gave (cc, (h, p .2, q .1)))))  -- Match
       (entry kind 2 (λ k. after (row 1 ws) (λ es r q. gave (cc, (h, (q .kids, q .marked, q .well)))))  -- Where
-      (entry kind 3  -- With
-      (λ k. after (projections ws)
-      (λ ps r p. after (word-gives 0 2 r)
-      (λ g s i. after (row g s) (λ es t q. gave (simp append-assoc (cc), (h, p .1, omega (arith, q .kids), q .marked, q .well))))))
-      (entry kind 4 (λ k. after (projections ws) (λ ps r p. gave (cc, (h, p .1))))  -- Return
+      (entry kind 3 (with-gives (noKeys w) (λ c d. c) no-keys a b kind ws h)  -- With
+      (entry kind 4 (return-gives (noKeys w) (λ c d. c) no-keys a b kind ws h)  -- Return
       (entry kind 5  -- Unwind
       (λ k. after (word-gives 0 4294967296 ws)
       (λ v r p. tested (w .known v) 7 (λ known. after (expr-gives w maxDepth r) (λ e s q. gave (cc, (h, p .2, known, q .1))))))
@@ -121,7 +146,9 @@ module _ (w : Tables) where
       (entry kind 11  -- Call
       (λ k. after (exprs-gives ws)
       (λ es r p. after (counted-gives writeYield (WellYield w) yield-gives r) (λ ys s q. gave (simp append-assoc (cc), (h, p .1, q .1)))))
-      none))))))))))
+      (entry kind 12 (with-gives (someKeys w) (λ c d. d) some-keys a b kind ws h)  -- With, sorted
+      (entry kind 13 (return-gives (someKeys w) (λ c d. d) some-keys a b kind ws h)  -- Return, sorted
+      none))))))))))))
 
   pub clause-gives : (ws : List ℕ) → Gives (readClause w ws) (Is writeClause (WellClause w) ws)
   unfolding readClause

@@ -7,7 +7,7 @@ use Rattle.heads.specs.Got.{Got, ok, no, bind, look, wordIn, anyWord, flag, cou
 use Rattle.heads.specs.Head.{Tables}
 use Rattle.expr.specs.Tree.{Exprs, Steps}
 use Rattle.expr.specs.Read.{Reader, readExpr, times, noMore, marks, pattern}
-use Rattle.clauses.specs.Tree.{Projection, projection, Yield, yield, Opening, match, create, merge, Reading, where', set, remove, delete, Clause, opening, reading, with', return, unwind, call, Arm, arm}
+use Rattle.clauses.specs.Tree.{Projection, projection, Yield, yield, Opening, match, create, merge, Reading, where', set, remove, delete, Keys, unsorted, sorted, Clause, opening, reading, with', return, unwind, call, Arm, arm}
 
 -- "depth over 48"
 abbrev pub maxDepth : ℕ
@@ -41,7 +41,14 @@ module _ (w : Tables) where
   unfoldable pub countedMarks : ℕ → List ℕ → Got Exprs
   countedMarks kind ws = bind (anyWord ws) (λ n r. marks kind n clauseExpr r)
 
-  -- What follows the kind and the span, a clause kind each.
+  -- the sort keys of a clause that has none, and of one that has a count of them
+  unfoldable pub noKeys : List ℕ → Got Keys
+  noKeys ws = ok unsorted ws
+
+  unfoldable pub someKeys : List ℕ → Got Keys
+  someKeys ws = bind (countedExprs ws) (λ es r. ok (sorted es) r)
+
+  -- What follows the kind and the span, a clause kind each; K reads the sort keys.
   module _ (a b : ℕ) where
     unfoldable pub readMatch : List ℕ → Got Clause
     readMatch ws = bind (flag ws) (λ o r. bind (pattern w clauseExpr r) (λ s r2. ok (opening (match o) a b s) r2))
@@ -52,13 +59,13 @@ module _ (w : Tables) where
     unfoldable pub readWhere : List ℕ → Got Clause
     readWhere ws = bind (times 1 clauseExpr noMore ws) (λ es r. ok (reading where' a b es) r)
 
-    unfoldable pub readWith : List ℕ → Got Clause
-    readWith ws =
+    unfoldable pub readWith : (List ℕ → Got Keys) → List ℕ → Got Clause
+    readWith K ws =
         bind (counted readProjection ws)
-        (λ ps r. bind (flag r) (λ g r2. bind (times g clauseExpr noMore r2) (λ es r3. ok (with' a b ps es) r3)))
+        (λ ps r. bind (flag r) (λ g r2. bind (times g clauseExpr noMore r2) (λ es r3. bind (K r3) (λ ks r4. ok (with' a b ps es ks) r4))))
 
-    unfoldable pub readReturn : List ℕ → Got Clause
-    readReturn ws = bind (counted readProjection ws) (λ ps r. ok (return a b ps) r)
+    unfoldable pub readReturn : (List ℕ → Got Keys) → List ℕ → Got Clause
+    readReturn K ws = bind (counted readProjection ws) (λ ps r. bind (K r) (λ ks r2. ok (return a b ps ks) r2))
 
     -- the variable is bound: cause 7 where it is not known
     unfoldable pub readUnwind : List ℕ → Got Clause
@@ -78,8 +85,8 @@ module _ (w : Tables) where
         look kind
         ((1, readMatch ws)
         ∷ (2, readWhere ws)
-        ∷ (3, readWith ws)
-        ∷ (4, readReturn ws)
+        ∷ (3, readWith noKeys ws)
+        ∷ (4, readReturn noKeys ws)
         ∷ (5, readUnwind ws)
         ∷ (6, readOpening create ws)
         ∷ (7, readOpening merge ws)
@@ -87,6 +94,8 @@ module _ (w : Tables) where
         ∷ (9, readMarked remove 2 ws)
         ∷ (10, readDelete ws)
         ∷ (11, readCall ws)
+        ∷ (12, readWith someKeys ws)
+        ∷ (13, readReturn someKeys ws)
         ∷ [])
         (no 5)
 
@@ -100,5 +109,5 @@ module _ (w : Tables) where
 
 -- `unfolding clausal` opens all of the above
 unfoldable pub clausal : Unit {0}
-unfolding readProjection readYield countedExprs countedMarks readMatch readOpening readWhere readWith readReturn readUnwind readMarked readDelete readCall readBody readClause readArm
+unfolding readProjection readYield countedExprs countedMarks noKeys someKeys readMatch readOpening readWhere readWith readReturn readUnwind readMarked readDelete readCall readBody readClause readArm
 clausal = tt

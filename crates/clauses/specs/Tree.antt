@@ -2,7 +2,7 @@
 use Prim.Native.Nat.{ℕ}
 use mathlib.Core.List.{List, [], _∷_}
 use mathlib.Core.Option.{Option}
-use Rattle.expr.specs.Tree.{Expr, Exprs, more, Steps}
+use Rattle.expr.specs.Tree.{Expr, Exprs, done, more, Steps}
 
 pub data Projection : Type 0 where
   projection : (alias : Option ℕ) → Expr → Projection
@@ -19,11 +19,16 @@ pub data Reading : Type 0 where
   set remove : Reading  -- 8, 9: each item's code is a mark before its expressions
   delete : Reading  -- 10
 
+-- the sort keys: nothing in the kinds 3 and 4; in 12 and 13 a count, perhaps 0, and so many
+pub data Keys : Type 0 where
+  unsorted : Keys
+  sorted : Exprs → Keys
+
 pub data Clause : Type 0 where
   opening : Opening → (start stop : ℕ) → Steps → Clause  -- Match, Create, Merge
   reading : Reading → (start stop : ℕ) → Exprs → Clause  -- Where, Set, Remove, Delete
-  with' : (start stop : ℕ) → List Projection → (filter : Exprs) → Clause  -- 3
-  return : (start stop : ℕ) → List Projection → Clause  -- 4
+  with' : (start stop : ℕ) → List Projection → (filter : Exprs) → Keys → Clause  -- 3, 12
+  return : (start stop : ℕ) → List Projection → Keys → Clause  -- 4, 13
   unwind : (start stop variable : ℕ) → Expr → Clause  -- 5
   call : (start stop : ℕ) → Exprs → List Yield → Clause  -- 11
 
@@ -34,3 +39,8 @@ pub data Arm : Type 0 where
 unfoldable pub exprs : List Projection → Exprs → Exprs
 exprs [] es = es
 exprs (projection a e ∷ ps) es = more e (exprs ps es)
+
+-- the sort expressions
+unfoldable pub keysOf : Keys → Exprs
+keysOf unsorted = done
+keysOf (sorted es) = es

@@ -1,5 +1,5 @@
 -- Small statements, computed: `traps`, document 01's example and its traps; `sight`, what is visible where, and which names are bound twice;
--- `both`, the findings of both walks. The definitions' edits are refused here.
+-- `keys`, what sort keys see; `both` and `sortedKinds`, the findings of both walks. The definitions' edits are refused here.
 use mathlib.Core.Path.{_≡_, refl}
 use mathlib.Core.Bool.{true}
 use mathlib.Core.List.{List, [], _∷_, map}
@@ -9,7 +9,7 @@ use Rattle.words.specs.Fnv.{useId, fnv1Of, fnvFrom, fnvStep}
 use Rattle.heads.specs.declared.Form.the-variants.{Leaf, Prop, ListPredicate}
 use Rattle.heads.specs.declared.Maybe.the-variants as maybe
 use Rattle.expr.specs.Tree.{Expr, var, unresolved, node, predicate, comprehension, done, more, Steps, end, part, elem}
-use Rattle.clauses.specs.Tree.{Clause, projection, yield, match, opening, reading, where', with', return, unwind, call, arm}
+use Rattle.clauses.specs.Tree.{Clause, unsorted, sorted, projection, yield, match, opening, reading, where', with', return, unwind, call, arm}
 use Rattle.tables.specs.Row.{row}
 use Rattle.sheet.specs.Statement.{Statement}
 use Rattle.scope.specs.Graph.{scope, carried}
@@ -62,9 +62,9 @@ lost id x = answer (write id missing) ∷ find (finding 1001 0 0 (suc x) 0 0) �
 -- MATCH (a) OPTIONAL MATCH (a) UNWIND .. AS a: a visible node is not bound anew, an Unwind is, without a warning;
 -- MATCH (a) UNION MATCH (a): the arm begins at scope 0, with the next number
 pub traps : map (log true)
-    (small (opening (match 0) 1 2 nodeA ∷ with' 3 4 (projection none (var 1) ∷ []) done ∷ return 5 6 (projection none nameB ∷ []) ∷ []) []
-    ∷ small (opening (match 0) 1 2 nodeA ∷ with' 3 4 [] done ∷ reading where' 5 6 (more nameA done) ∷ []) []
-    ∷ small (return 1 2 (projection (some 1) (var 1) ∷ []) ∷ reading where' 3 4 (more nameB done) ∷ []) []
+    (small (opening (match 0) 1 2 nodeA ∷ with' 3 4 (projection none (var 1) ∷ []) done unsorted ∷ return 5 6 (projection none nameB ∷ []) unsorted ∷ []) []
+    ∷ small (opening (match 0) 1 2 nodeA ∷ with' 3 4 [] done unsorted ∷ reading where' 5 6 (more nameA done) ∷ []) []
+    ∷ small (return 1 2 (projection (some 1) (var 1) ∷ []) unsorted ∷ reading where' 3 4 (more nameB done) ∷ []) []
     ∷ small (opening (match 0) 1 2 nodeA ∷ opening (match 1) 3 4 nodeA ∷ unwind 5 6 1 (var 1) ∷ []) []
     ∷ small (opening (match 0) 1 2 nodeA ∷ []) (opening (match 0) 3 4 nodeA ∷ [])
     ∷ [])
@@ -85,7 +85,7 @@ pub sight : map (log true)
     ∷ small (reading where' 1 2 (more (predicate nodeA) (more nameA done)) ∷ []) []
     ∷ small (opening (match 0) 1 2 nodeA ∷ []) (reading where' 3 4 (more nameA done) ∷ [])
     ∷ small (call 1 2 done (yield 0 none 1 ∷ yield 0 none 2 ∷ []) ∷ []) []
-    ∷ small (with' 1 2 (projection (some 0) (var 1) ∷ projection (some 0) (var 2) ∷ []) done ∷ reading where' 3 4 (more nameA done) ∷ []) []
+    ∷ small (with' 1 2 (projection (some 0) (var 1) ∷ projection (some 0) (var 2) ∷ []) done unsorted ∷ reading where' 3 4 (more nameA done) ∷ []) []
     ∷ small (opening (match 0) 1 2 (path (path end)) ∷ []) []
     ∷ small (opening (match 0) 1 2 (path end) ∷ opening (match 0) 3 4 (path end) ∷ []) []
     ∷ [])
@@ -99,6 +99,21 @@ pub sight : map (log true)
     ∷ []
 unfolding small nodeA nodeB nameA nameB logs walk useId fnv1Of fnvFrom fnvStep
 sight = refl
+
+-- Sort keys (document 02, CR 1). MATCH (a) WITH nothing ORDER BY a WHERE a: the key sees the list before the WITH, the Where doesn't;
+-- MATCH (a) WITH b AS a ORDER BY a, [(b) | b]: the key sees the new scope first, and opens its scope under it;
+-- RETURN 1 AS b ORDER BY b, [(b) | b], a: the alias is no use, also where a pattern binds its name; other names are
+pub keys : map (log true)
+    (small (opening (match 0) 1 2 nodeA ∷ with' 3 4 [] done (sorted (more nameA done)) ∷ reading where' 5 6 (more nameA done) ∷ []) []
+    ∷ small (opening (match 0) 1 2 nodeA ∷ with' 3 4 (projection (some 0) (var 2) ∷ []) done (sorted (more nameA (more (comprehension 5 6 nodeB (more nameB done)) done))) ∷ []) []
+    ∷ small (return 1 2 (projection (some 1) (node (Leaf 3) done) ∷ []) (sorted (more nameB (more (comprehension 5 6 nodeB (more nameB done)) (more nameA done)))) ∷ []) []
+    ∷ [])
+    ≡ matched (open' (scope 7 (some 1) 3 4) ∷ open' (scope 1 (some 2) 4 4) ∷ answer (write 0xFAF3A281 (found 1 1 0)) ∷ lost 0xFAF3A281 0)
+    ∷ matched (answer (write 2 (found 2 1 0)) ∷ open' (scope 7 (some 1) 3 4) ∷ carry (carried 2 0 2) ∷ open' (scope 1 (some 2) 4 4) ∷ bind (bound 3 0 2 1) ∷ answer (write 0xFAF3A281 (found 2 1 0)) ∷ open' (scope 9 (some 3) 5 6) ∷ bind (bound 4 1 2 1) ∷ answer (write 0xFAF3A282 (found 2 1 0)) ∷ [])
+    ∷ (root ∷ open' (scope 8 (some 0) 1 2) ∷ open' (scope 9 (some 0) 5 6) ∷ bind (bound 2 1 2 1) ∷ lost 0xFAF3A281 0)
+    ∷ []
+unfolding small nodeA nodeB nameA nameB logs walk useId fnv1Of fnvFrom fnvStep
+keys = refl
 
 -- the path p, and the names `id`, x and `*`
 unfoldable pub pathed : List Clause → List Clause → Statement
@@ -120,8 +135,19 @@ property x = node (Prop x) (more (var 1) done)
 -- follows the iterable's; "arms get no kind check"
 pub both : findings true
     (pathed
-    (return 1 2 (projection none (property 1) ∷ projection none (property 2) ∷ projection none (node (ListPredicate 1) (more (var 1) (more (node (Leaf 3) done) done))) ∷ []) ∷ [])
-    (return 3 4 (projection none (unresolved 2) ∷ projection none (unresolved 3) ∷ projection none (property 2) ∷ []) ∷ []))
+    (return 1 2 (projection none (property 1) ∷ projection none (property 2) ∷ projection none (node (ListPredicate 1) (more (var 1) (more (node (Leaf 3) done) done))) ∷ []) unsorted ∷ [])
+    (return 3 4 (projection none (unresolved 2) ∷ projection none (unresolved 3) ∷ projection none (property 2) ∷ []) unsorted ∷ []))
     ≡ finding 1001 0 0 3 0 0 ∷ finding 2007 0 0 1 2 3 ∷ finding 5011 0 0 0 0 10 ∷ finding 2011 0 0 0 0 2 ∷ []
 unfolding pathed logs walk kindWalk lists useId fnv1Of fnvFrom fnvStep
 both = refl
+
+-- WITH p.x ORDER BY p, any(y IN p WHERE 1) RETURN nothing ORDER BY p.x UNION RETURN nothing ORDER BY p.x: sort keys are general, after the clause's other expressions
+pub sortedKinds : findings true
+    (pathed
+    (with' 1 2 (projection none (property 2) ∷ []) done (sorted (more (var 1) (more (node (ListPredicate 1) (more (var 1) (more (node (Leaf 3) done) done))) done)))
+    ∷ return 3 4 [] (sorted (more (property 2) done))
+    ∷ [])
+    (return 5 6 [] (sorted (more (property 2) done)) ∷ []))
+    ≡ finding 2007 0 0 1 2 3 ∷ finding 5011 0 0 0 0 10 ∷ finding 2011 0 0 0 0 2 ∷ finding 2007 0 0 1 2 3 ∷ []
+unfolding pathed logs walk kindWalk lists useId fnv1Of fnvFrom fnvStep
+sortedKinds = refl

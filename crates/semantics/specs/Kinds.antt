@@ -10,7 +10,7 @@ use Rattle.heads.specs.declared.Form.the-variants.{Leaf, Var, Unresolved, Prop,
 use Rattle.heads.specs.declared.Maybe.{Maybe}
 use Rattle.heads.specs.declared.Maybe.the-variants as maybe
 use Rattle.expr.specs.Tree.{Expr, var, unresolved, node, predicate, comprehension, Exprs, done, more, mark, Steps, end, part, elem}
-use Rattle.clauses.specs.Tree.{Clause, opening, reading, with', return, unwind, call, exprs}
+use Rattle.clauses.specs.Tree.{Clause, opening, reading, with', return, unwind, call, exprs, keysOf}
 use Rattle.tables.specs.Row.{pathKind, valueKind, Row, row}
 use Rattle.semantics.specs.Log.{e2007, e2008, e2011, e5010, e5011, Finding, finding}
 use Rattle.semantics.specs.World.{World}
@@ -157,12 +157,12 @@ module _ (w : World) where
     kindsS (part p s) = misplaced 1 pathKind 0 0 (rowFor p) ++ kindsS s
     kindsS (elem k a b v es s) = misplaced (suc k) k a b (rowFor v) ++ (kindsEs es plain ++ kindsS s)
 
-  -- a clause's expressions and patterns, in order
+  -- a clause's expressions and patterns, in order: "sort expressions as general, after the clause's other expressions" (document 02, CR 1)
   unfoldable pub kindsC : Clause → List Finding
   kindsC (opening o a b s) = kindsS s
   kindsC (reading r a b es) = kindsEs es plain
-  kindsC (with' a b ps f) = kindsEs (exprs ps f) plain
-  kindsC (return a b ps) = kindsEs (exprs ps done) plain
+  kindsC (with' a b ps f ks) = kindsEs (exprs ps f) plain ++ kindsEs (keysOf ks) plain
+  kindsC (return a b ps ks) = kindsEs (exprs ps done) plain ++ kindsEs (keysOf ks) plain
   kindsC (unwind a b v e) = kindsE e general
   kindsC (call a b es ys) = kindsEs es plain
 
@@ -173,5 +173,5 @@ module _ (w : World) where
 
 -- `unfolding kindWalk` opens all of the walk.
 unfoldable pub kindWalk : Unit {0}
-unfolding passes isArithmetic typeOf settings atType atRow misplaced rowFor kindsE kindsC kinds exprs
+unfolding passes isArithmetic typeOf settings atType atRow misplaced rowFor kindsE kindsC kinds exprs keysOf
 kindWalk = tt

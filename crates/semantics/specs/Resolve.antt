@@ -1,4 +1,5 @@
--- The resolve walk (document 01, "Walking clauses (000)") as steps of a state. The sentences in quotes are document 01's.
+-- The resolve walk (document 01, "Walking clauses (000)") as steps of a state. The sentences in quotes are document 01's, and
+-- document 02's where it is named.
 use Prim.Native.Nat.{ℕ, suc}
 use mathlib.Core.Bool.{Bool, true, false, cond, not, _&&_, _||_}
 use mathlib.Core.List.{List, [], _∷_, _++_, reverse}
@@ -6,11 +7,11 @@ use mathlib.Core.Option.{Option, none, some}
 use lib.Dec.{eqb}
 use Rattle.scope.specs.Graph.{rootScope, unwindScope, callScope, withBarrier, returnScope, comprehensionScope, scope, carried}
 use Rattle.expr.specs.Tree.{Expr, var, unresolved, node, predicate, comprehension, Exprs, done, more, mark, Steps, end, part, elem}
-use Rattle.clauses.specs.Tree.{Projection, projection, Yield, yield, Clause, opening, reading, with', return, unwind, call, Arm, arm, exprs}
+use Rattle.clauses.specs.Tree.{Projection, projection, Yield, yield, Clause, opening, reading, with', return, unwind, call, Arm, arm, exprs, keysOf}
 use Rattle.tables.specs.Row.{pathKind, valueKind, Row, row}
 use Rattle.sheet.specs.Statement.{Statement}
 use Rattle.semantics.specs.Log.{e1001, e1002, finding, found, missing, bound, write, Event, open', bind, carry, answer, find}
-use Rattle.semantics.specs.World.{World, worldOf, variable, opens, Direct, aVar, aName, other, direct, yieldName, nameOf, kindOf, worlds}
+use Rattle.semantics.specs.World.{World, hush, worldOf, variable, opens, Direct, aVar, aName, other, direct, yieldName, nameOf, kindOf, worlds}
 
 -- A visible name, its variable, and the scope that binds it; and a pair that a WITH carries.
 pub data Seen : Type 0 where
@@ -76,6 +77,11 @@ module _ (w : World) where
   useName x (some v) s = say (answer (write (w .id x) (found v (kindOf w v) 0))) s
   useName x none s = sayIf (not (w .isStar x)) (find (finding e1001 0 0 (suc x) 0 0)) (say (answer (write (w .id x) missing)) s)
 
+  -- "a name equal to an alias of the same clause is no use .. and gives no finding and no record" (document 02, CR 1)
+  unfoldable pub visit : Bool → ℕ → Option ℕ → State → State
+  visit true x o s = s
+  visit false x o s = useName x o s
+
   -- "E1002, only with warnings on, arises from a path or a yield whose name its own scope already binds"
   unfoldable pub bindAnew : ℕ → ℕ → ℕ → ℕ → ℕ → State → State
   bindAnew a b x v k s = sayIf (w .warns && binds (s .cur) x (s .visible)) (find (finding e1002 a b (suc x) 0 0)) (bindName x v k s)
@@ -98,7 +104,7 @@ module _ (w : World) where
   unfoldable mutual
     pub resolve : Expr → State → State
     resolve (var v) s = useVar v (w .row v) s
-    resolve (unresolved x) s = useName x (lookup x (s .visible)) s
+    resolve (unresolved x) s = visit (w .hushed x) x (lookup x (s .visible)) s
     resolve (node f es) s = resolves es s
     resolve (predicate p) s = s
     resolve (comprehension a b p es) s = leave s (resolves es (bindPattern p (enter comprehensionScope a b s)))
@@ -147,15 +153,35 @@ module _ (w : World) where
   yields a b [] s = s
   yields a b (yield x y v ∷ ys) s = yields a b ys (bindAnew a b (yieldName x y) v valueKind s)
 
+-- the aliases of projections
+unfoldable pub aliasIn : Option ℕ → List ℕ
+aliasIn none = []
+aliasIn (some x) = x ∷ []
+
+unfoldable pub aliases : List Projection → List ℕ
+aliases [] = []
+aliases (projection a e ∷ ps) = aliasIn a ++ aliases ps
+
+module _ (w : World) where
+  -- A WITH's sort keys, "each .. resolved after the new scope is bound: a name is sought there, then in the list before the WITH", vis; "the
+  -- list after the WITH is the carried pairs alone" (document 02, CR 1)
+  unfoldable pub sortBy : Exprs → List Seen → State → State
+  sortBy ks vis s = leave s (resolves w ks (standing (s .visible ++ vis) (s .cur) s))
+
   -- "Match, Create, Merge, Unwind, Call and Return open a child; Return's expressions look from outside it. WITH resolves projections and
-  -- filter outside". "Where, Set, Remove and Delete open nothing. Unwind's list, Call's arguments .. are not resolved."
+  -- filter outside". "Where, Set, Remove and Delete open nothing. Unwind's list, Call's arguments .. are not resolved." A RETURN's sort keys
+  -- "are sought as its projections are" (document 02, CR 1).
   unfoldable pub clause : Clause → State → State
-  clause (opening o a b p) s = bindPattern p (enter (opens o) a b s)
-  clause (reading r a b es) s = resolves es s
-  clause (with' a b ps f) s = fresh b (carriedBy ps (s .visible)) (barrier a b (carriedBy ps (s .visible)) (resolves (exprs ps f) s))
-  clause (return a b ps) s = standing (s .visible) (suc (s .last)) (resolves (exprs ps done) (leave s (enter returnScope a b s)))
+  clause (opening o a b p) s = bindPattern w p (enter (opens o) a b s)
+  clause (reading r a b es) s = resolves w es s
+  clause (with' a b ps f ks) s =
+      let cs = carriedBy w ps (s .visible) in
+      sortBy (keysOf ks) (s .visible) (fresh w b cs (barrier w a b cs (resolves w (exprs ps f) s)))
+  clause (return a b ps ks) s =
+      standing (s .visible) (suc (s .last))
+      (resolves (hush (aliases ps) w) (keysOf ks) (resolves w (exprs ps done) (leave s (enter returnScope a b s))))
   clause (unwind a b v e) s = bindName (nameOf w v) v valueKind (enter unwindScope a b s)
-  clause (call a b es ys) s = yields a b ys (enter callScope a b s)
+  clause (call a b es ys) s = yields w a b ys (enter callScope a b s)
 
   unfoldable pub clauses : List Clause → State → State
   clauses [] s = s
@@ -179,5 +205,5 @@ log warns s = reverse (run warns s .log)
 
 -- `unfolding walk` opens all of the walk.
 unfoldable pub walk : Unit {0}
-unfolding worlds lookup binds ifRow ifSome sayIf useVar useName bindAnew bindNew bindPath bindElem resolve carries carriedBy carryAll bindAll barrier fresh yields clause clauses arms start run log exprs
+unfolding worlds lookup binds ifRow ifSome sayIf useVar useName visit bindAnew bindNew bindPath bindElem resolve carries carriedBy carryAll bindAll barrier fresh yields aliasIn aliases sortBy clause clauses arms start run log exprs keysOf
 walk = tt

@@ -6,6 +6,7 @@ use mathlib.Core.Option.{Option, none, some}
 use lib.Dec.{eqb}
 use lib.ListN.{getD}
 use Rattle.words.specs.Fnv.{useId}
+use Rattle.heads.specs.Answer.{isIn}
 use Rattle.scope.specs.Graph.{matchScope, createScope, mergeScope}
 use Rattle.heads.specs.declared.Maybe.{Maybe}
 use Rattle.heads.specs.declared.Maybe.the-variants as maybe
@@ -14,13 +15,19 @@ use Rattle.clauses.specs.Tree.{Opening, match, create, merge}
 use Rattle.tables.specs.Row.{valueKind, Row, row}
 use Rattle.sheet.specs.Statement.{Statement}
 
--- Of a name, by its index: its use id, whether it is `*`, whether it is `id`. Of a variable: its row of the binding table, if it has one.
+-- Of a name, by its index: its use id, whether it is `*`, whether it is `id`, whether it is no use here (document 02, CR 1: an alias of a
+-- RETURN, in its sort keys). Of a variable: its row of the binding table, if it has one.
 pub record World : Type 0 where
   pub id : ℕ → ℕ
   pub isStar : ℕ → Bool
   pub isId : ℕ → Bool
+  pub hushed : ℕ → Bool
   pub row : ℕ → Option Row
   pub warns : Bool  -- the warning choice
+
+-- the same, where just these names are no use
+abbrev pub hush : List ℕ → World → World
+hush xs w = record { id = w .id; isStar = w .isStar; isId = w .isId; hushed = λ x. isIn x xs; row = w .row; warns = w .warns }
 
 -- the table's row for a variable
 unfoldable pub rowOf : ℕ → List Row → Option Row
@@ -58,6 +65,7 @@ worldOf warns s =
       id = λ x. useId (bytesOf s x);
       isStar = λ x. starName (bytesOf s x);
       isId = λ x. idName (bytesOf s x);
+      hushed = λ x. false;
       row = λ v. rowOf v (s .bindings);
       warns = warns;
     }
@@ -99,5 +107,5 @@ module _ (w : World) where
 
 -- `unfolding worlds` opens the above.
 unfoldable pub worlds : Unit {0}
-unfolding rowOf rowName rowKind starName idName bytesOf worldOf variable opens direct yieldName nameOf kindOf
+unfolding isIn rowOf rowName rowKind starName idName bytesOf worldOf variable opens direct yieldName nameOf kindOf
 worlds = tt
