@@ -1,5 +1,6 @@
 -- Clauses and arms: reading and both walks in one is reading, and then the two walks (`apart-clause`, `apart-arm`, and for rows of them
--- `apart-clauses`, `apart-arms`).
+-- `apart-clauses`, `apart-arms`). `projections-law` is for whatever is kept of projections, `keys-law` for sort keys: a WITH's see what was
+-- visible before it (`with-step`), a RETURN's are hushed (`return-step`), which says nothing of kinds (`kinds-hush`).
 use Prim.Native.Nat.{ℕ, zero, suc}
 use mathlib.Core.Path.{_≡_, refl, ap, ap₂, sym, _∙_}
 use mathlib.Core.Bool.{Bool, true, false, cond, _&&_}
@@ -87,19 +88,19 @@ module _ (xs : List ℕ) (w : World) where
     kinds-hushE : (e : Expr) (c : Setting) → kindsE (hush xs w) e c ≡ kindsE w e c
     kinds-hushE (var v) c = refl
     kinds-hushE (unresolved x) c = refl
-    kinds-hushE (node f es) c = rw (kinds-hush es (settings (w .isId) f c)) refl
-    kinds-hushE (predicate st) c = rw (kinds-hushS st) refl
-    kinds-hushE (comprehension a b st es) c = rw (kinds-hushS st, kinds-hush es plain) refl
+    kinds-hushE (node f es) c = rw (kinds-hush es (settings (w .isId) f c))
+    kinds-hushE (predicate st) c = rw (kinds-hushS st)
+    kinds-hushE (comprehension a b st es) c = rw (kinds-hushS st, kinds-hush es plain)
 
     kinds-hush : (es : Exprs) (p : Settings) → kindsEs (hush xs w) es p ≡ kindsEs w es p
     kinds-hush done p = refl
-    kinds-hush (more e es) (both c d) = rw (kinds-hushE e c, kinds-hush es (both d d)) refl
+    kinds-hush (more e es) (both c d) = rw (kinds-hushE e c, kinds-hush es (both d d))
     kinds-hush (mark k es) p = kinds-hush es p
 
     kinds-hushS : (st : Steps) → kindsS (hush xs w) st ≡ kindsS w st
     kinds-hushS end = refl
-    kinds-hushS (part p st) = rw (kinds-hushS st) refl
-    kinds-hushS (elem k a b v es st) = rw (kinds-hush es plain, kinds-hushS st) refl
+    kinds-hushS (part p st) = rw (kinds-hushS st)
+    kinds-hushS (elem k a b v es st) = rw (kinds-hush es plain, kinds-hushS st)
 
 -- what is kept of projections: the pairs that a WITH carries, the aliases of a RETURN
 abbrev keptBy : {A : Type 0} → (Option ℕ → Direct → List Seen → List A) → List Projection → List Seen → List A
@@ -138,10 +139,16 @@ module _ (w : World) (t : Tables) (free : (v : ℕ) → t .known v ≡ true) (m 
       go (ok n r1) = row-law n s r1
       go (no c) = refl
 
-  keys-law : (sorts : Bool) (s : Both) (r : List ℕ) → after (λ ks. acts w m plain (keysOf ks)) (readKeys t sorts) s r ≡ keyRow w t m sorts s r
+  -- what is made of the sort keys of a clause is made of what they leave
+  keys-law : {C : Type 0} (sorts : Bool) (clauseOf : Keys → C) (walk : C → Both) (f : Both → Both) (s : Both) → ((ks : Keys) → walk (clauseOf ks) ≡ f (acts w m plain (keysOf ks) s)) → (r : List ℕ) →
+      bind (bind (readKeys t sorts r) (λ ks r2. ok (clauseOf ks) r2)) (λ c r2. ok (walk c) r2) ≡ bind (keyRow w t m sorts s r) (λ u r2. ok (f u) r2)
   unfolding noKeys someKeys keysOf resolve kindsE bindersE
-  keys-law false s r = ap (λ (u : Both). ok u r) (move-none w m s)
-  keys-law true s r = map-map (countedExprs t r) sorted (λ ks. acts w m plain (keysOf ks) s) ∙ counted-law s r
+  keys-law false clauseOf walk f s h r = ap (λ (u : Both). ok u r) (h unsorted ∙ ap f (move-none w m s))
+  keys-law true clauseOf walk f s h r = rw (← (counted-law s r)) (go (countedExprs t r))
+    where
+      go : (g : Got Exprs) → bind (bind (bind g (λ es r2. ok (sorted es) r2)) (λ ks r2. ok (clauseOf ks) r2)) (λ c r2. ok (walk c) r2) ≡ bind (bind g (λ es r2. ok (acts w m plain es s) r2)) (λ u r2. ok (f u) r2)
+      go (ok es r2) = ap (λ (u : Both). ok u r2) (h (sorted es))
+      go (no c) = refl
 
 -- the expressions of projections and others after them, by both walks
 module _ (w : World) where
@@ -315,11 +322,7 @@ module _ (w : World) where
 
           keys : (ps : List Projection) (es : Exprs) (r : List ℕ) → bind (bind (readKeys t sorts r) (λ ks r2. ok (with' a b ps es ks) r2)) (λ c r2. ok (walks m c s) r2) ≡ sortGo w t m a b sorts (filtered ps es s) (rooted ps es s) r
           keys ps es r =
-              let y = beside m (filtered ps es s) (rooted ps es s) in
-              map-map (readKeys t sorts r) (λ ks. with' a b ps es ks) (λ c. walks m c s)
-              ∙ each (readKeys t sorts r) _ _ (λ ks. with-step ps es ks s)
-              ∙ sym (map-map (readKeys t sorts r) (λ ks. acts w m plain (keysOf ks) y) (left m (rooted ps es s)))
-              ∙ ap (λ (g : Got Both). bind g (λ z r2. ok (left m (rooted ps es s) z) r2)) (keys-law w t free m sorts y r)
+              keys-law w t free m sorts (λ ks. with' a b ps es ks) (λ c. walks m c s) (left m (rooted ps es s)) (beside m (filtered ps es s) (rooted ps es s)) (λ ks. with-step ps es ks s) r
               ∙ sort-law sorts (filtered ps es s) (rooted ps es s) r
 
           filter : (ps : List Projection) (g : Got ℕ) → bind (bind g (λ n r2. bind (times n (clauseExpr t) noMore r2) (λ es r3. bind (readKeys t sorts r3) (λ ks r4. ok (with' a b ps es ks) r4)))) (λ c r3. ok (walks m c s) r3)
@@ -358,6 +361,10 @@ module _ (w : World) where
           bound : (s .known && allKnown (hasRow w) (flatMap bindersP ps ++ binders (keysOf ks))) ≡ (s .known && allKnown (hasRow w) (binders (exprs ps done)) && allKnown (hasRow w) (binders (keysOf ks)))
           bound = rw (binders-exprs ps) (known-two (hasRow w) (s .known) (flatMap bindersP ps) (binders (keysOf ks)))
 
+      hushed-law : (sorts : Bool) (xs : List ℕ) (s : Both) (r : List ℕ) → keyRow (hush xs w) t m sorts s r ≡ keysGo w t m a b sorts xs s r
+      hushed-law false xs s r = refl
+      hushed-law true xs s r = refl
+
       return-law : (sorts : Bool) (s : Both) (r : List ℕ) → after (walks m) (readReturn t a b (readKeys t sorts)) s r ≡ returnGo w t m a b sorts s r
       unfolding readReturn counted returnGo
       return-law sorts s r = go (anyWord r)
@@ -365,20 +372,10 @@ module _ (w : World) where
           K : Both → List ℕ → List ℕ → Got Both
           K x xs r2 = bind (keysGo w t m a b sorts xs x r2) (λ u r3. ok (returned m s u) r3)
 
-          hushed : (xs : List ℕ) (x : Both) (r : List ℕ) → keyRow (hush xs w) t m sorts x r ≡ keysGo w t m a b sorts xs x r
-          hushed xs x r = go sorts
-            where
-              go : (q : Bool) → keyRow (hush xs w) t m q x r ≡ keysGo w t m a b q xs x r
-              go true = refl
-              go false = refl
-
           keys : (ps : List Projection) (r : List ℕ) → bind (bind (readKeys t sorts r) (λ ks r2. ok (return a b ps ks) r2)) (λ c r2. ok (walks m c s) r2) ≡ K (acts w m plain (exprs ps done) (outside s)) (aliases ps) r
           keys ps r =
-              let x = acts w m plain (exprs ps done) (outside s) in
-              map-map (readKeys t sorts r) (λ ks. return a b ps ks) (λ c. walks m c s)
-              ∙ each (readKeys t sorts r) _ _ (λ ks. return-step ps ks s)
-              ∙ sym (map-map (readKeys t sorts r) (λ ks. acts (hush (aliases ps) w) m plain (keysOf ks) x) (returned m s))
-              ∙ ap (λ (g : Got Both). bind g (λ u r2. ok (returned m s u) r2)) (keys-law (hush (aliases ps) w) t free m sorts x r ∙ hushed (aliases ps) x r)
+              keys-law (hush (aliases ps) w) t free m sorts (λ ks. return a b ps ks) (λ c. walks m c s) (returned m s) (acts w m plain (exprs ps done) (outside s)) (λ ks. return-step ps ks s) r
+              ∙ ap (λ (g : Got Both). bind g (λ u r2. ok (returned m s u) r2)) (hushed-law sorts (aliases ps) (acts w m plain (exprs ps done) (outside s)) r)
 
           go : (g : Got ℕ) → bind (bind (bind g (λ n r1. many (readProjection t) n r1)) (λ ps r2. bind (readKeys t sorts r2) (λ ks r3. ok (return a b ps ks) r3))) (λ c r2. ok (walks m c s) r2) ≡ bind g (λ n r1. bind (projectionsGo w t aliased m n [] (outside s) r1) (λ x r2. K (x .0) (x .1) r2))
           go (ok n r1) =
