@@ -24,7 +24,7 @@ use Rattle.tables.specs.Row.{valueKind}
 use Rattle.semantics.specs.World.{World, hush, opens, Direct, direct, yieldName, nameOf}
 use Rattle.semantics.specs.Resolve.{State, Seen, Pair, enter, leave, standing, bindName, bindAnew, resolve, resolves, bindPattern, carries, carriedBy, barrier, fresh, yields, aliasIn, aliases, sortBy, clause, clauses, arms}
 use Rattle.semantics.specs.Kinds.{Setting, general, Pair as Settings, both, plain, settings, rowFor, kindsE, kindsEs, kindsS, kindsC, kinds}
-use Rattle.theorems.proofs.Keeps.{keeps, all-keep}
+use Rattle.theorems.proofs.Keeps.{keeps}
 use Rattle.fused.specs.Fused.{Both, Mode, unresolving, Go, when, told, step, hasRow, noting, rounds, rowGo, left, markGo}
 use Rattle.fused.specs.Clauses.{directForm, directOf, returned, beside, aliased, inArms, within, projectionsGo, countedRow, yielded, yieldGo, openingGo, rootedBy, sortGo, withGo, keysGo, returnGo, unwindGo, callGo, markedGo, bodyGo, clauseGo, armGo}
 use Rattle.fused.proofs.Apart.{told-append, when-two, step-two, step-none, known-two, move, move-two, move-none, after, map-map, each, act, acts, lays, kids-law, marks-law, pattern-law, apart}
@@ -273,18 +273,15 @@ module _ (w : World) where
       abbrev rooted : List Projection → Exprs → Both → Both
       rooted ps es s = rootedBy w t m a b (carriedBy w ps (s .names .visible)) (filtered ps es s)
 
-      with-step : (ps : List Projection) (es : Exprs) (ks : Keys) (s : Both) → walks m (with' a b ps es ks) s ≡ left m (rooted ps es s) (acts w m plain (keysOf ks) (beside m (filtered ps es s) (rooted ps es s)))
+      with-step : (ps : List Projection) (es : Exprs) (ks : Keys) (s : Both) → walks m (with' a b ps es ks) s ≡ left m (rooted ps es s) (acts w m plain (keysOf ks) (beside m s (rooted ps es s)))
       unfolding clause kindsC bindersC
       with-step ps es ks s = λ i. record { names = named (m .resolves) i; kinds = found (m .checks) i; known = bound i }
         where
           root : State → State
           root y = let qs = carriedBy w ps (s .names .visible) in fresh w b qs (barrier w a b qs y)
 
-          named : (q : Bool) → when q (clause w (with' a b ps es ks)) (s .names) ≡ (let u = when q (resolves w es) (when q (resolves w (exprs ps done)) (s .names)) in let v = when q root u in when q (leave v) (when q (resolves w (keysOf ks)) (when q (standing (v .visible ++ u .visible) (v .cur)) v)))
-          named true =
-              unfold sortBy in
-              ap (λ (vis : List Seen). sortBy w (keysOf ks) vis (root (resolves w (exprs ps es) (s .names)))) (sym (all-keep w (exprs ps es) (s .names) .visible))
-              ∙ ap (λ (y : State). sortBy w (keysOf ks) (y .visible) (root y)) (resolves-exprs ps es (s .names))
+          named : (q : Bool) → when q (clause w (with' a b ps es ks)) (s .names) ≡ (let u = when q (resolves w es) (when q (resolves w (exprs ps done)) (s .names)) in let v = when q root u in when q (leave v) (when q (resolves w (keysOf ks)) (when q (standing (v .visible ++ s .names .visible) (v .cur)) v)))
+          named true = unfold sortBy in ap (λ (y : State). sortBy w (keysOf ks) (s .names .visible) (root y)) (resolves-exprs ps es (s .names))
           named false = refl
 
           found : (q : Bool) → when q (told (kindsEs w (exprs ps es) plain ++ kindsEs w (keysOf ks) plain)) (s .kinds) ≡ when q (told (kindsEs w (keysOf ks) plain)) (when q (told []) (when q (told (kindsEs w es plain)) (when q (told (kindsEs w (exprs ps done) plain)) (s .kinds))))
@@ -318,20 +315,20 @@ module _ (w : World) where
         where
           -- the filter, the new Root, the sort keys
           K : Both → List Pair → List ℕ → Got Both
-          K x qs r2 = bind (flag r2) (λ g r3. bind (rowGo (within w t m) g plain x r3) (λ u r4. sortGo w t m a b sorts u (rootedBy w t m a b qs u) r4))
+          K x qs r2 = bind (flag r2) (λ g r3. bind (rowGo (within w t m) g plain x r3) (λ u r4. sortGo w t m a b sorts s (rootedBy w t m a b qs u) r4))
 
-          keys : (ps : List Projection) (es : Exprs) (r : List ℕ) → bind (bind (readKeys t sorts r) (λ ks r2. ok (with' a b ps es ks) r2)) (λ c r2. ok (walks m c s) r2) ≡ sortGo w t m a b sorts (filtered ps es s) (rooted ps es s) r
+          keys : (ps : List Projection) (es : Exprs) (r : List ℕ) → bind (bind (readKeys t sorts r) (λ ks r2. ok (with' a b ps es ks) r2)) (λ c r2. ok (walks m c s) r2) ≡ sortGo w t m a b sorts s (rooted ps es s) r
           keys ps es r =
-              keys-law w t free m sorts (λ ks. with' a b ps es ks) (λ c. walks m c s) (left m (rooted ps es s)) (beside m (filtered ps es s) (rooted ps es s)) (λ ks. with-step ps es ks s) r
-              ∙ sort-law sorts (filtered ps es s) (rooted ps es s) r
+              keys-law w t free m sorts (λ ks. with' a b ps es ks) (λ c. walks m c s) (left m (rooted ps es s)) (beside m s (rooted ps es s)) (λ ks. with-step ps es ks s) r
+              ∙ sort-law sorts s (rooted ps es s) r
 
           filter : (ps : List Projection) (g : Got ℕ) → bind (bind g (λ n r2. bind (times n (clauseExpr t) noMore r2) (λ es r3. bind (readKeys t sorts r3) (λ ks r4. ok (with' a b ps es ks) r4)))) (λ c r3. ok (walks m c s) r3)
-              ≡ bind g (λ n r3. bind (rowGo (within w t m) n plain (acts w m plain (exprs ps done) s) r3) (λ u r4. sortGo w t m a b sorts u (rootedBy w t m a b (carriedBy w ps (s .names .visible)) u) r4))
+              ≡ bind g (λ n r3. bind (rowGo (within w t m) n plain (acts w m plain (exprs ps done) s) r3) (λ u r4. sortGo w t m a b sorts s (rootedBy w t m a b (carriedBy w ps (s .names .visible)) u) r4))
           filter ps (ok n r2) =
               rw (← (row-law w t free m n (acts w m plain (exprs ps done) s) r2))
               (bind-bind (times n (clauseExpr t) noMore r2) (λ es r3. bind (readKeys t sorts r3) (λ ks r4. ok (with' a b ps es ks) r4)) (λ c r3. ok (walks m c s) r3)
               ∙ bind-each (times n (clauseExpr t) noMore r2) _ _ (keys ps)
-              ∙ sym (bind-bind (times n (clauseExpr t) noMore r2) (λ es r3. ok (filtered ps es s) r3) (λ u r4. sortGo w t m a b sorts u (rootedBy w t m a b (carriedBy w ps (s .names .visible)) u) r4)))
+              ∙ sym (bind-bind (times n (clauseExpr t) noMore r2) (λ es r3. ok (filtered ps es s) r3) (λ u r4. sortGo w t m a b sorts s (rootedBy w t m a b (carriedBy w ps (s .names .visible)) u) r4)))
           filter ps (no c) = refl
 
           go : (g : Got ℕ) → bind (bind (bind g (λ n r1. many (readProjection t) n r1)) (λ ps r2. bind (flag r2) (λ n r3. bind (times n (clauseExpr t) noMore r3) (λ es r4. bind (readKeys t sorts r4) (λ ks r5. ok (with' a b ps es ks) r5))))) (λ c r2. ok (walks m c s) r2)
