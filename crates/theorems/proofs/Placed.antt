@@ -1,7 +1,8 @@
 -- Where the WITH, its sort keys and its part stand in the five lists: the numbers and pairs that Apart names are the lists' own.
 -- `split`: the log is what is said up to the barrier's names (`preLog`), then what the new Root, the keys and the rest say. `root-at`: the
 -- barrier has the next number and is current; `pre-opened`: the new Root's number is the count of scopes before; `root-said`: what the new
--- Root says, so that it answers nothing (`root-quiet`); `tail-in`: from it on all binds in scopes above the barrier. `scopes-from`,
+-- Root says, so that it answers nothing (`root-quiet`); `root-after`, `keys-after`: it and the keys from where nothing was said yet; `tail-in`:
+-- from the new Root on all binds in scopes above the barrier. `scopes-from`,
 -- `bindings-pieces`, `bindings-from`, `answer-from`, `pairs-listed`: the pieces in each list. `carry-log`: what a barrier says;
 -- `inside-carries`: a log carries at its own barriers (`CarriedIn`); `clauses-append`, `arms-append`: a run in two pieces; `start-W`: where a
 -- statement begins; `silent-W`: where nothing was said.
@@ -157,11 +158,11 @@ module _ (warns : Bool) (s : Statement) where
   tailLog p = rootLog warns s p ++ (keysLog warns s p ++ restLog warns s p)
 
   -- Each piece from where nothing was said yet.
-  root-after : (p : Site) → rooted warns s p ≡ after (atBarrier warns s p .log) (fresh w (cutOf p .stop) (pairs warns s p) (silent (atBarrier warns s p)))
+  pub root-after : (p : Site) → rooted warns s p ≡ after (atBarrier warns s p .log) (fresh w (cutOf p .stop) (pairs warns s p) (silent (atBarrier warns s p)))
   unfolding rooted
   root-after p = fresh-after w (atBarrier warns s p .log) (cutOf p .stop) (pairs warns s p) (silent (atBarrier warns s p))
 
-  keys-after : (p : Site) → ordered warns s p ≡ after (rooted warns s p .log) (sortBy w (keysOf (cutOf p .keys)) (before warns s p .visible) (silent (rooted warns s p)))
+  pub keys-after : (p : Site) → ordered warns s p ≡ after (rooted warns s p .log) (sortBy w (keysOf (cutOf p .keys)) (before warns s p .visible) (silent (rooted warns s p)))
   unfolding ordered
   keys-after p = sort-after w (rooted warns s p .log) (keysOf (cutOf p .keys)) (before warns s p .visible) (silent (rooted warns s p))
 
