@@ -2,21 +2,22 @@
 -- So clauses that differ in no word but a span's are the same without their spans.
 use Prim.Native.Nat.{ℕ}
 use native.Mathlib.Omega.{arith}
-use mathlib.Core.Path.{_≡_, refl, _∙_}
-use mathlib.Core.List.{List, [], _∷_, _++_, flatMap, map}
+use mathlib.Core.Path.{_≡_, refl, sym, _∙_, ap}
+use mathlib.Core.List.{List, [], _∷_, _++_, flatMap, map, append-nil}
 use lib.ListN.{length-map}
 use Rattle.heads.specs.Got.{Got, ok, no, wordIn}
 use Rattle.heads.specs.Head.{Tables}
-use Rattle.expr.specs.Tree.{Exprs, Steps}
+use Rattle.expr.specs.Tree.{Exprs, Steps, kidCount, markCount}
+use Rattle.expr.specs.Write.{writes}
 use Rattle.expr.specs.Erase.{erases, eraseS}
-use Rattle.expr.specs.Well.{WellPattern}
+use Rattle.expr.specs.Well.{WellPattern, Wells}
 use Rattle.expr.proofs.Erased.{erase-kids, erase-marks, erase-elems, erase-parts, erase-well, erase-wells, erase-wellS}
-use Rattle.clauses.specs.Tree.{Projection, projection, Reading, where', set, remove, delete, Clause, opening, reading, with', return, unwind, call, Arm, arm}
-use Rattle.clauses.specs.Read.{maxDepth, readClause, readArm}
+use Rattle.clauses.specs.Tree.{Projection, projection, Reading, where', set, remove, delete, Keys, unsorted, sorted, Clause, opening, reading, with', return, unwind, call, Arm, arm, keysOf}
+use Rattle.clauses.specs.Read.{maxDepth, countedExprs, readClause, readArm}
 use Rattle.clauses.specs.Write.{writeClause, writeArm}
-use Rattle.clauses.specs.Well.{Each, WellProjection, WellReading, WellMany, WellClause, WellArm}
-use Rattle.clauses.specs.Erase.{eraseProjection, eraseC, eraseA}
-use Rattle.clauses.proofs.ReadsBackClause.{same-many, clause-back, arm-back}
+use Rattle.clauses.specs.Well.{Each, WellProjection, WellReading, WellMany, WellKeys, WellClause, WellArm}
+use Rattle.clauses.specs.Erase.{eraseProjection, eraseKeys, eraseC, eraseA}
+use Rattle.clauses.proofs.ReadsBackClause.{same-many, exprs-back, clause-back, arm-back}
 
 module _ {A : Type 0} (Well : A → Type 0) (erase : A → A) (keeps : (x : A) → Well x → Well (erase x)) where
   pub erase-each : (xs : List A) → Each Well xs → Each Well (map erase xs)
@@ -52,13 +53,37 @@ module _ (w : Tables) where
   unfolding WellPattern
   erase-pattern s h = (rw (erase-elems s, erase-parts s) (h .0), erase-wellS w s maxDepth (h .1))
 
+  erase-keys : (ks : Keys) → WellKeys w ks → WellKeys w (eraseKeys ks)
+  unfolding eraseKeys WellKeys
+  erase-keys unsorted h = tt
+  erase-keys (sorted es) h = erase-reading delete es h
+
+  -- sort keys are a counted row, an empty one where the clause has none
+  well-keys : (ks : Keys) → WellKeys w ks → WellReading w delete (keysOf ks)
+  unfolding WellKeys WellReading keysOf kidCount markCount Wells
+  well-keys unsorted h = (refl, omega arith, tt)
+  well-keys (sorted es) h = h
+
+  -- the same words are of the same row
+  same-exprs : (es fs : Exprs) → WellReading w delete es → WellReading w delete fs → kidCount es ∷ writes es ≡ kidCount fs ∷ writes fs → es ≡ fs
+  same-exprs es fs h i p =
+      let x : countedExprs w (kidCount es ∷ writes es) ≡ ok es [] = ap (λ (r : List ℕ). countedExprs w (kidCount es ∷ r)) (sym (append-nil (writes es))) ∙ exprs-back w es [] h in
+      let y : countedExprs w (kidCount fs ∷ writes fs) ≡ ok fs [] = ap (λ (r : List ℕ). countedExprs w (kidCount fs ∷ r)) (sym (append-nil (writes fs))) ∙ exprs-back w fs [] i in
+      let z : ok es [] ≡ ok fs [] = sym x ∙ ap (countedExprs w) p ∙ y in
+      cc
+
+  pub erase-keys-words : (ks js : Keys) → WellKeys w ks → WellKeys w js →
+      kidCount (erases (keysOf ks)) ∷ writes (erases (keysOf ks)) ≡ kidCount (erases (keysOf js)) ∷ writes (erases (keysOf js)) → erases (keysOf ks) ≡ erases (keysOf js)
+  erase-keys-words ks js h i =
+      same-exprs (erases (keysOf ks)) (erases (keysOf js)) (erase-reading delete (keysOf ks) (well-keys ks h)) (erase-reading delete (keysOf js) (well-keys js i))
+
   pub erase-clause-well : (c : Clause) → WellClause w c → WellClause w (eraseC c)
   unfolding eraseC WellClause
   erase-clause-well (opening o a b s) h = (omega arith, h .1, erase-pattern s (h .2))
   erase-clause-well (reading r a b es) h = (omega arith, erase-reading r es (h .1))
-  erase-clause-well (with' a b ps f) h =
-      (omega arith, erase-many (WellProjection w) eraseProjection erase-projection ps (h .1), rw (erase-kids f) (h .2), erase-marks f ∙ h .3, erase-wells w 0 f maxDepth (h .4))
-  erase-clause-well (return a b ps) h = (omega arith, erase-many (WellProjection w) eraseProjection erase-projection ps (h .1))
+  erase-clause-well (with' a b ps f ks) h =
+      (omega arith, erase-many (WellProjection w) eraseProjection erase-projection ps (h .1), rw (erase-kids f) (h .2), erase-marks f ∙ h .3, erase-wells w 0 f maxDepth (h .4), erase-keys ks (h .5))
+  erase-clause-well (return a b ps ks) h = (omega arith, erase-many (WellProjection w) eraseProjection erase-projection ps (h .1), erase-keys ks (h .2))
   erase-clause-well (unwind a b v e) h = (omega arith, h .1, h .2, erase-well w e maxDepth (h .3))
   erase-clause-well (call a b es ys) h = (omega arith, erase-reading delete es (h .1), h .2)
 

@@ -10,7 +10,7 @@ bindersP (projection a e) = bindersE e
 unfoldable pub bindersC : Clause → List ℕ
 bindersC (opening o a b s) = bindersS s
 bindersC (reading r a b es) = binders es
-bindersC (with' a b ps f ks) = flatMap bindersP ps ++ (binders f ++ binders (keysOf ks))
+bindersC (with' a b ps f ks) = flatMap bindersP ps ++ binders f ++ binders (keysOf ks)
 bindersC (return a b ps ks) = flatMap bindersP ps ++ binders (keysOf ks)
 bindersC (unwind a b v e) = v ∷ bindersE e
 bindersC (call a b es ys) = binders es

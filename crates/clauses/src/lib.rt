@@ -13,7 +13,7 @@ ghost use lib.ListN.{length, drop};
 ghost use Rattle.words.specs.Words.{words};
 ghost use Rattle.heads.specs.Got.{bare, many, counted};
 ghost use Rattle.heads.specs.Answer.{Reads, tables};
-ghost use Rattle.clauses.specs.Read.{readProjection, readYield, countedExprs, countedMarks, readMatch, readWith, readUnwind, readCall, readBody, readClause, readArm};
+ghost use Rattle.clauses.specs.Read.{readProjection, readYield, countedExprs, countedMarks, noKeys, someKeys, readMatch, readWith, readReturn, readUnwind, readCall, readBody, readClause, readArm};
 
 // The deepest expression that is read.
 pub const MAX_DEPTH: u32 = 48;
@@ -142,7 +142,7 @@ pub fn read_match(s: &[u8], names: u32, rows: usize, k: usize, at: usize) -> Rea
 // With: projections, a flag, a filter if it is 1.
 pub fn read_with(s: &[u8], names: u32, rows: usize, k: usize, at: usize) -> Read
     requires { ⌜ at ≤ length (words (now s)) ⌝ }
-    ensures { λ r. ⌜ Reads (words (now (s .entry))) at (bare (readWith (tables (words (now (s .entry))) names rows k) 0 0 (drop at (words (now (s .entry)))))) r ⌝ }
+    ensures { λ r. ⌜ Reads (words (now (s .entry))) at (bare (readWith (tables (words (now (s .entry))) names rows k) 0 0 (noKeys (tables (words (now (s .entry))) names rows k)) (drop at (words (now (s .entry)))))) r ⌝ }
 {
     let a = counted_projections(s, names, rows, k, at);
     let Read::Next(p) = a else {
@@ -152,6 +152,30 @@ pub fn read_with(s: &[u8], names: u32, rows: usize, k: usize, at: usize) -> Read
         return Read::Refused(5);
     };
     read_kids(s, names, rows, k, p + 1, MAX_DEPTH, g as usize)
+}
+
+// With, sorted: the same, a count, and as many sort keys.
+pub fn read_sorted_with(s: &[u8], names: u32, rows: usize, k: usize, at: usize) -> Read
+    requires { ⌜ at ≤ length (words (now s)) ⌝ }
+    ensures { λ r. ⌜ Reads (words (now (s .entry))) at (bare (readWith (tables (words (now (s .entry))) names rows k) 0 0 (someKeys (tables (words (now (s .entry))) names rows k)) (drop at (words (now (s .entry)))))) r ⌝ }
+{
+    let a = read_with(s, names, rows, k, at);
+    let Read::Next(p) = a else {
+        return a;
+    };
+    counted_exprs(s, names, rows, k, p)
+}
+
+// Return, sorted: projections, a count, and as many sort keys.
+pub fn read_sorted_return(s: &[u8], names: u32, rows: usize, k: usize, at: usize) -> Read
+    requires { ⌜ at ≤ length (words (now s)) ⌝ }
+    ensures { λ r. ⌜ Reads (words (now (s .entry))) at (bare (readReturn (tables (words (now (s .entry))) names rows k) 0 0 (someKeys (tables (words (now (s .entry))) names rows k)) (drop at (words (now (s .entry)))))) r ⌝ }
+{
+    let a = counted_projections(s, names, rows, k, at);
+    let Read::Next(p) = a else {
+        return a;
+    };
+    counted_exprs(s, names, rows, k, p)
 }
 
 // Unwind: a variable that is bound, an expression.
@@ -197,6 +221,8 @@ pub fn read_body(s: &[u8], names: u32, rows: usize, k: usize, at: usize, kind: u
         9 => counted_marks(s, names, rows, k, at, 2),
         10 => counted_exprs(s, names, rows, k, at),
         11 => read_call(s, names, rows, k, at),
+        12 => read_sorted_with(s, names, rows, k, at),
+        13 => read_sorted_return(s, names, rows, k, at),
         _ => Read::Refused(5),
     }
 }

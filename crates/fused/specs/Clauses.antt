@@ -1,7 +1,8 @@
 -- Clauses and arms, read and walked in one.
 use Prim.Native.Nat.{ℕ, zero, suc}
-use mathlib.Core.Bool.{false}
+use mathlib.Core.Bool.{Bool, true, false}
 use mathlib.Core.List.{List, [], _∷_, _++_}
+use mathlib.Core.Option.{Option}
 use Rattle.scope.specs.Graph.{unwindScope, callScope, returnScope}
 use Rattle.heads.specs.Got.{Got, ok, no, bind, look, wordIn, anyWord, flag}
 use Rattle.heads.specs.Form.{readForm}
@@ -11,10 +12,10 @@ use Rattle.heads.specs.declared.Form.the-variants.{Leaf, Var, Unresolved, Prop,
 use Rattle.clauses.specs.Tree.{Yield, yield, Opening, match, create, merge}
 use Rattle.clauses.specs.Read.{maxDepth, aliasOf, readYield}
 use Rattle.tables.specs.Row.{valueKind}
-use Rattle.semantics.specs.World.{World, opens, Direct, aVar, aName, other, yieldName, nameOf}
-use Rattle.semantics.specs.Resolve.{Pair, enter, leave, standing, bindName, bindAnew, carries, barrier, fresh}
+use Rattle.semantics.specs.World.{World, hush, opens, Direct, aVar, aName, other, yieldName, nameOf}
+use Rattle.semantics.specs.Resolve.{Seen, Pair, enter, leave, standing, bindName, bindAnew, carries, barrier, fresh, aliasIn}
 use Rattle.semantics.specs.Kinds.{Setting, general, plain}
-use Rattle.fused.specs.Fused.{Both, Mode, unresolving, Go, when, step, noting, rounds, rowGo, markGo, patternGo, exprGo}
+use Rattle.fused.specs.Fused.{Both, Mode, unresolving, Go, when, step, noting, rounds, rowGo, left, markGo, patternGo, exprGo}
 
 -- the two forms of an expression that a WITH may carry, by its head
 abbrev pub directForm : Form → Direct
@@ -43,6 +44,15 @@ directOf (no c) = other
 abbrev pub returned : Mode → Both → Both → Both
 returned m s u = record { names = when (m .resolves) (standing (s .names .visible) (suc (s .names .last))) (u .names); kinds = u .kinds; known = u .known }
 
+-- in the new Root of a WITH, v, what was visible before it, at u, is seen too
+abbrev pub beside : Mode → Both → Both → Both
+beside m u v =
+    record { names = when (m .resolves) (standing (v .names .visible ++ u .names .visible) (v .names .cur)) (v .names); kinds = v .kinds; known = v .known }
+
+-- the alias of a projection, whatever its expression
+abbrev pub aliased : Option ℕ → Direct → List Seen → List ℕ
+aliased a d vis = aliasIn a
+
 -- an arm is walked by names alone, from scope 0, with nothing visible
 abbrev pub inArms : Mode → Mode
 inArms m = record { resolves = m .resolves; checks = false }
@@ -51,16 +61,22 @@ module _ (w : World) (t : Tables) where
   abbrev pub within : Mode → Setting → Go
   within = exprGo w t maxDepth
 
-  -- projections, each an alias and an expression, and what a WITH carries of them after the pairs there are
-  unfoldable pub projectionsGo : Mode → ℕ → List Pair → Both → List ℕ → Got (Both × List Pair)
-  projectionsGo m zero ps s r = ok (s, ps) r
-  projectionsGo m (suc n) ps s r =
+  -- projections, each an alias and an expression, and what is kept of each behind what there is: the pairs that a WITH carries, or the
+  -- aliases of a RETURN
+  unfoldable pub projectionsGo : {A : Type 0} → (keep : Option ℕ → Direct → List Seen → List A) → Mode → ℕ → List A → Both → List ℕ → Got (Both × List A)
+  projectionsGo keep m zero qs s r = ok (s, qs) r
+  projectionsGo keep m (suc n) qs s r =
       bind (wordIn 0 (suc (t .names)) r)
       (λ a r1. bind (within m general s r1)
-      (λ u r2. projectionsGo m n (ps ++ carries w (aliasOf a) (directOf (readForm (t .names) r1)) (u .names .visible)) u r2))
+      (λ u r2. projectionsGo keep m n (qs ++ keep (aliasOf a) (directOf (readForm (t .names) r1)) (u .names .visible)) u r2))
 
   abbrev pub countedRow : Mode → Go
   countedRow m s r = bind (anyWord r) (λ n r2. rowGo (within m) n plain s r2)
+
+module _ (w : World) (t : Tables) where
+  -- a count and as many expressions, where these names are no use
+  abbrev pub hushedRow : List ℕ → Mode → Go
+  hushedRow xs = countedRow (hush xs w) t
 
   abbrev pub yielded : Mode → ℕ → ℕ → Yield → Both → Both
   yielded m a b (yield x alias v) = step m (bindAnew w a b (yieldName x alias) v valueKind) []
@@ -71,46 +87,61 @@ module _ (w : World) (t : Tables) where
   -- what follows the kind and the span of a clause
   module _ (m : Mode) (a b : ℕ) where
     unfoldable pub openingGo : Opening → Go
-    openingGo o s r = patternGo w within m (step m (enter (opens o) a b) [] s) r
+    openingGo o s r = patternGo w (within w t) m (step m (enter (opens o) a b) [] s) r
 
-    unfoldable pub withGo : Go
-    withGo s r =
-        bind (anyWord r)
-        (λ n r1. bind (projectionsGo m n [] s r1)
-        (λ x r2. bind (flag r2)
-        (λ g r3. bind (rowGo (within m) g plain (x .0) r3) (λ u r4. ok (step m (λ y. fresh w b (x .1) (barrier w a b (x .1) y)) [] u) r4))))
+    -- a WITH's new Root, where the pairs are bound; its sort keys, if it has them, see what was visible before it too
+    abbrev pub rootedBy : List Pair → Both → Both
+    rootedBy ps = step m (λ y. fresh w b ps (barrier w a b ps y)) []
 
-    unfoldable pub returnGo : Go
-    returnGo s r =
+    abbrev pub sortGo : Bool → Both → Both → List ℕ → Got Both
+    sortGo false u v r = ok v r
+    sortGo true u v r = bind (countedRow w t m (beside m u v) r) (λ z r2. ok (left m v z) r2)
+
+    unfoldable pub withGo : Bool → Go
+    withGo sorts s r =
         bind (anyWord r)
-        (λ n r1. bind (projectionsGo m n [] (step m (λ y. leave y (enter returnScope a b y)) [] s) r1) (λ x r2. ok (returned m s (x .0)) r2))
+        (λ n r1. bind (projectionsGo w t (carries w) m n [] s r1)
+        (λ x r2. bind (flag r2) (λ g r3. bind (rowGo (within w t m) g plain (x .0) r3) (λ u r4. sortGo sorts u (rootedBy (x .1) u) r4))))
+
+    -- a RETURN's sort keys, if it has them, where its aliases are no use
+    abbrev pub keysGo : Bool → List ℕ → Go
+    keysGo false xs s r = ok s r
+    keysGo true xs s r = hushedRow xs m s r
+
+    unfoldable pub returnGo : Bool → Go
+    returnGo sorts s r =
+        bind (anyWord r)
+        (λ n r1. bind (projectionsGo w t aliased m n [] (step m (λ y. leave y (enter returnScope a b y)) [] s) r1)
+        (λ x r2. bind (keysGo sorts (x .1) (x .0) r2) (λ u r3. ok (returned m s u) r3)))
 
     unfoldable pub unwindGo : Go
     unwindGo s r =
         bind (anyWord r)
-        (λ v r1. within (unresolving m) general (noting w (v ∷ []) (step m (λ y. bindName (nameOf w v) v valueKind (enter unwindScope a b y)) [] s)) r1)
+        (λ v r1. within w t (unresolving m) general (noting w (v ∷ []) (step m (λ y. bindName (nameOf w v) v valueKind (enter unwindScope a b y)) [] s)) r1)
 
     unfoldable pub callGo : Go
     callGo s r =
-        bind (countedRow (unresolving m) (step m (enter callScope a b) [] s) r) (λ u r1. bind (anyWord r1) (λ n r2. rounds n (yieldGo m a b) u r2))
+        bind (countedRow w t (unresolving m) (step m (enter callScope a b) [] s) r) (λ u r1. bind (anyWord r1) (λ n r2. rounds n (yieldGo m a b) u r2))
 
     unfoldable pub markedGo : ℕ → Go
-    markedGo kind s r = bind (anyWord r) (λ n r1. rounds n (markGo w within m kind) s r1)
+    markedGo kind s r = bind (anyWord r) (λ n r1. rounds n (markGo w (within w t) m kind) s r1)
 
     unfoldable pub bodyGo : ℕ → Go
     bodyGo kind s r =
         look kind
         ((1, bind (flag r) (λ o r1. openingGo (match o) s r1))
-        ∷ (2, rowGo (within m) 1 plain s r)
-        ∷ (3, withGo s r)
-        ∷ (4, returnGo s r)
+        ∷ (2, rowGo (within w t m) 1 plain s r)
+        ∷ (3, withGo false s r)
+        ∷ (4, returnGo false s r)
         ∷ (5, unwindGo s r)
         ∷ (6, openingGo create s r)
         ∷ (7, openingGo merge s r)
         ∷ (8, markedGo 1 s r)
         ∷ (9, markedGo 2 s r)
-        ∷ (10, countedRow m s r)
+        ∷ (10, countedRow w t m s r)
         ∷ (11, callGo s r)
+        ∷ (12, withGo true s r)
+        ∷ (13, returnGo true s r)
         ∷ [])
         (no 5)
 

@@ -16,7 +16,7 @@ use Rattle.expr.specs.Binders.{binder, allKnown}
 use Rattle.tables.specs.Row.{pathKind}
 use Rattle.semantics.specs.Log.{Finding}
 use Rattle.semantics.specs.World.{World, variable}
-use Rattle.semantics.specs.Resolve.{State, lookup, enter, leave, useVar, useName, bindPath, bindElem}
+use Rattle.semantics.specs.Resolve.{State, lookup, enter, leave, useVar, visit, bindPath, bindElem}
 use Rattle.semantics.specs.Kinds.{Setting, Pair, both, plain, patternType, typeOf, settings, atType, atRow, misplaced, rowFor}
 
 -- Where both walks stand: the name walk's state, what the kind walk found, newest first, and whether every variable bound so far has a
@@ -97,9 +97,9 @@ module _ (w : World) where
   abbrev pub noting : List ℕ → Both → Both
   noting vs s = record { names = s .names; kinds = s .kinds; known = s .known && allKnown hasRow vs }
 
-  -- a name, sought in the visible list
+  -- a name, sought in the visible list if it is a use here
   abbrev pub nameUse : ℕ → State → State
-  nameUse x s = useName w x (lookup x (s .visible)) s
+  nameUse x s = visit w (w .hushed x) x (lookup x (s .visible)) s
 
   -- what a head does before its parts: a use, the scope of a comprehension, the finding of its own level
   abbrev pub headOf : Mode → Form → Setting → Both → Both

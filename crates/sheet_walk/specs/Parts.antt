@@ -30,11 +30,11 @@ use Rattle.sheet_walk.specs.declared.Ran.the-variants as ran
 
 -- ---- the tables
 
--- a shift: its slots, and a binding for each five of the words, are within ten words more than these
-pub record Shift (words r : ℕ) : Type 0 where
+-- a shift for n bindings: four of the five words of each, and eight more, pay for its slots
+pub record Shift (n r : ℕ) : Type 0 where
   pub low : 21 ≤ r
   pub high : r ≤ 31
-  pub room : (n : ℕ) → n * 5 ≤ words → slots r + n ≤ words + 10
+  pub room : slots r ≤ n * 4 + 8
 
 -- zeros in tab, and room for the slots and the bindings of w words
 pub record Clear (w : ℕ) (tab : List ℕ) : Type 0 where

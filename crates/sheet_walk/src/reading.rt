@@ -5,8 +5,8 @@ use rows::index_rows;
 use rows::mult_of;
 use sheet::Places;
 use steps::BINDINGS;
-use steps::CHAINS;
 use steps::IDENT;
+use steps::MARKS;
 use steps::MULT;
 use steps::NAMES;
 use steps::ROWS;
@@ -28,14 +28,14 @@ ghost use Rattle.sheet.specs.Answer.{InPlaces, Tabled};
 ghost use Rattle.sheet.specs.Read.{locate, accepted};
 ghost use Rattle.sheet_walk.specs.Parts.{Shift, Clear, RowedIf, HungUp, Settles, ReadsTables};
 
-// The shift of a hash for the bindings before a word: 8, 64 or 256 slots.
-fn shift_for(words: usize) -> u32
-    ensures { λ r. ⌜ Shift words r ⌝ }
+// The shift of a hash for n bindings: 8, 64 or 256 slots.
+fn shift_for(n: u32) -> u32
+    ensures { λ r. ⌜ Shift n r ⌝ }
 {
-    if words <= 80 {
+    if n < 14 {
         return 29;
     }
-    if words <= 512 {
+    if n < 62 {
         return 26;
     }
     24

@@ -28,7 +28,7 @@ use Rattle.steps.specs.declared.row.Row.the-variants as row'
 
 -- the tables are in order: the rows stand in the words, with names that `vis` has a place for and kinds up to Value, and hang in chains
 pub record Fine (ws tab : List ℕ) : Type 0 where
-  pub long : 16 ≤ length tab
+  pub long : 16 + slotsIn tab ≤ length tab
   pub short : length ws ≤ 2048
   pub some : 0 < slotsIn tab
   pub places : namesIn tab ≤ slotsIn tab

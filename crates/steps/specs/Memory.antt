@@ -4,7 +4,7 @@ use Prim.Native.Nat.{ℕ, zero, suc, _+_, _-_, _*_, _/_, _%_}
 use mathlib.Core.Bool.{Bool, true, false, cond, _&&_, _||_}
 use mathlib.Core.List.{List, [], _∷_}
 use mathlib.Core.Option.{Option, none, some}
-use lib.Dec.{eqb}
+use lib.Dec.{eqb, ltb}
 use lib.ListN.{length, getD, drop}
 use Rattle.heads.specs.Got.{look}
 use Rattle.heads.specs.Head.{Tables}
@@ -48,7 +48,7 @@ levelOf m d = getD m (8 + d) 0
 
 -- tab: how many names there are, for how many `vis` has a place, the index + 1 of `*` and of `id` or 0, the warning choice, the
 -- first word and the number of the bindings, the multiplier and the shift of their chains, and whether every event is wanted or findings
--- alone; from 16 on the chains
+-- alone; from 16 on a mark for each place of a name, 1 where the name is no use; then the chains
 abbrev pub namesIn : List ℕ → ℕ
 namesIn tab = getD tab 0 0
 
@@ -79,8 +79,11 @@ shiftIn tab = getD tab 8 0
 abbrev pub wantsIn : List ℕ → Bool
 wantsIn tab = eqb (getD tab 9 0) 1
 
+abbrev pub hushedIn : List ℕ → ℕ → Bool
+hushedIn tab x = ltb x (slotsIn tab) && eqb (getD tab (16 + x) 0) 1
+
 abbrev pub chainsIn : List ℕ → List ℕ
-chainsIn tab = drop 16 tab
+chainsIn tab = drop (16 + slotsIn tab) tab
 
 abbrev pub tablesIn : List ℕ → Tables
 tablesIn tab = anyBinder (namesIn tab)
@@ -92,6 +95,7 @@ worldAt ws tab id =
       id = id;
       isStar = λ x. eqb (suc x) (starIn tab);
       isId = λ x. eqb (suc x) (identIn tab);
+      hushed = λ x. hushedIn tab x;
       row = λ v. rowTold ws (rowsIn tab) (seek (idAt ws (rowsIn tab)) v (bindingsIn tab));
       warns = warnsIn tab;
     }

@@ -1,6 +1,7 @@
 // What the head of an expression does before its parts and after them, and the settings of its parts.
 use crate::CHECKS;
 use crate::IDENT;
+use crate::MARKS;
 use crate::RESOLVES;
 use crate::Row;
 use crate::SLOTS;
@@ -111,11 +112,14 @@ pub fn record_name(s: &[u8], tab: &[u32], m: &mut [u32], vis: &[u32], found: &mu
     }
 }
 
-// A use of a name.
+// A use of a name, if it is one here.
 pub fn use_name(s: &[u8], tab: &[u32], m: &mut [u32], vis: &[u32], found: &mut [u32], x: u32)
     requires { ⌜ (x < slotsIn (now tab)) × Ready 2 (words (now s)) (now tab) (now m) (now vis) (now found) ⌝ }
     ensures { λ r. ⌜ Steps 2 (words (now (s .entry))) (now (tab .entry)) (now (m .entry)) (now (vis .entry)) (now (found .entry)) (now (m .exit)) (now (vis .entry)) (now (found .exit)) (λ id. onNames (nameUse (worldAt (words (now (s .entry))) (now (tab .entry)) id) x)) ⌝ }
 {
+    if tab[MARKS + x as usize] == 1 {
+        return;
+    }
     record_name(s, tab, m, vis, found, x);
     if vis[x as usize] == 0 {
         if x + 1 != tab[STAR] {

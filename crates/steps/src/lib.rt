@@ -67,7 +67,8 @@ pub const SHIFT: usize = 8;
 
 pub const WANTS: usize = 9;
 
-pub const CHAINS: usize = 16;
+// From here on a mark for each name's place, then the chains.
+pub const MARKS: usize = 16;
 
 // What a mode holds besides the settings.
 pub const RESOLVES: u32 = 64;

@@ -1,9 +1,10 @@
 // The row of a variable, by the chains in tab.
 use crate::BINDINGS;
-use crate::CHAINS;
+use crate::MARKS;
 use crate::MULT;
 use crate::ROWS;
 use crate::SHIFT;
+use crate::SLOTS;
 use rows::find_row;
 use words::word;
 ghost use mathlib.Core.Path.{_≡_};
@@ -24,9 +25,10 @@ pub fn row_of(s: &[u8], tab: &[u32], v: u32) -> Row
     ensures { λ r. ⌜ r ≡ shown (worldAt (words (now (s .entry))) (now (tab .entry)) (λ x. x) .row v) ⌝ }
 {
     let rows = tab[ROWS] as usize;
+    let chains = MARKS + tab[SLOTS] as usize;
     let i = find_row(
         s,
-        &tab[CHAINS..],
+        &tab[chains..],
         rows,
         tab[MULT],
         tab[SHIFT],

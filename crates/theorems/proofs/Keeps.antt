@@ -32,7 +32,7 @@ module _ (w : World) where
   name-keeps x (some v) s = record { visible = refl; cur = refl }
   name-keeps x none s = let k = sayIf-keeps (not (w .isStar x)) _ _ in record { visible = k .visible; cur = k .cur }
 
-  visit-keeps : (hushed : Bool) (x : ℕ) (o : Option ℕ) (s : State) → Keeps s (visit w hushed x o s)
+  visit-keeps : (b : Bool) (x : ℕ) (o : Option ℕ) (s : State) → Keeps s (visit w b x o s)
   unfolding visit
   visit-keeps true x o s = record { visible = refl; cur = refl }
   visit-keeps false x o s = name-keeps x o s

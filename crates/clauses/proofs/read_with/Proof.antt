@@ -8,16 +8,16 @@ use Rattle.heads.specs.Answer.{tables}
 use Rattle.heads.proofs.Chain.{step, last, fact, begin-bare, fits}
 use Rattle.heads.proofs.Opened.{past-bare, stop-bare, past-word, stop-word, last-bare}
 use Rattle.expr.specs.Read.{times, noMore}
-use Rattle.clauses.specs.Tree.{with'}
-use Rattle.clauses.specs.Read.{clauseExpr, readProjection, readWith}
+use Rattle.clauses.specs.Tree.{unsorted, with'}
+use Rattle.clauses.specs.Read.{clauseExpr, readProjection, noKeys, readWith}
 use Rattle.clauses.proofs.read_with.Statement.{statement}
 use Rattle.clauses.proofs.read_with.Tie as tie
 
 pub read-with-spec : {M : Type 1} → statement M
-unfolding readWith
+unfolding readWith noKeys
 read-with-spec =
     let begun = fact (λ (k : tie.Start). let a = k .args in let w = tables (words (a .s .now)) (a .names) (a .rows) (a .k) in
-    begin-bare (readWith w 0 0) (step (counted (readProjection w)) λ ps. step flag λ g. step (times g (clauseExpr w) noMore) λ es. last (ok (with' 0 0 ps es))) (λ r. refl) (a .s .now) (a .at) (k .pre) (k .good .0 .0)) in
+    begin-bare (readWith w 0 0 (noKeys w)) (step (counted (readProjection w)) λ ps. step flag λ g. step (times g (clauseExpr w) noMore) λ es. last (ok (with' 0 0 ps es unsorted))) (λ r. refl) (a .s .now) (a .at) (k .pre) (k .good .0 .0)) in
     let one = fact (λ (k : tie.After-known-told). past-bare (begun (k .before .before .before .before .before)) (k .before .a .given .1) (k .before .before .before .counted-projections .ensures) .1) in
     let two = fact (λ (k : tie.After-known-told2). past-word (one (k .before .before .before .before)) (k .before .g .given .1) (k .before .before .before .word-in .ensures)) in
     tie.close
