@@ -4,6 +4,7 @@ pub mod Adds
 pub mod Keeps
 pub mod Within
 pub mod Moved
+pub mod Scopes
 pub mod Entries
 pub mod Placed
 pub mod InLists
