@@ -19,5 +19,6 @@ pub mod Looks
 pub mod Shows
 pub mod Barriers
 pub mod Inners
+pub mod Mets
 pub mod Agrees
 pub mod Forgets

@@ -3,7 +3,7 @@
 -- step of the walk keeps it: `enter-A`, `path-A`, `elem-A`, `resolves-A`, `pattern-A`, `root-at-A`, `clause-A`, `clauses-A`, and `left-A`,
 -- `arm-start-A` where a RETURN or an arm looks from elsewhere; `root-A` and `arm-A` say it where head and arms begin. `settle`: what the log
 -- shows between clauses the lists show in the end, since all that is said later stands in scopes above.
-use Prim.Native.Nat.{ℕ, zero, suc, _+_, _≤_, _<_}
+use Prim.Native.Nat.{ℕ, zero, suc, _≤_, _<_}
 use native.Mathlib.Nat.{le-refl}
 use native.Mathlib.Omega.{arith}
 use mathlib.Core.Path.{_≡_, refl, sym, _∙_, ap, ap₂, subst}
