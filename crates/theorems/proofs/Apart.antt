@@ -1,7 +1,7 @@
 -- "Before and after a WITH" (`apart`): both statements are compared with one canonical run, the part without spans after a barrier that is
 -- scope 1, so no number is ever moved down. Moved gives the run, Placed its place in the lists. The sort keys see another list in each
 -- statement: of them the canonical run has the scopes alone, which Scopes gives.
-use Prim.Native.Nat.{ℕ, zero, suc, _+_, _-_}
+use Prim.Native.Nat.{ℕ, zero, suc}
 use native.Mathlib.Omega.{arith}
 use mathlib.Core.Path.{_≡_, refl, sym, _∙_, ap, ap₂, subst}
 use mathlib.Core.Bool.{Bool, false, true≢false, false≢true}

@@ -12,6 +12,7 @@ pub mod Bare
 pub mod Apart
 pub mod ApartSheets
 pub mod Agreeing
+pub mod Keyed
 pub mod Codes
 pub mod Uses
 pub mod Sizes

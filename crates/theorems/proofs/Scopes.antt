@@ -4,10 +4,10 @@
 use Prim.Native.Nat.{ℕ, suc, _+_}
 use native.Mathlib.Omega.{arith}
 use mathlib.Core.Path.{_≡_, refl, sym, _∙_, ap, ap₂}
-use mathlib.Core.Bool.{Bool, true, false, not, _&&_}
+use mathlib.Core.Bool.{Bool, true, false, not}
 use mathlib.Core.List.{List, [], _∷_, map, reverse, reverseAux}
 use mathlib.Core.Option.{Option, none, some}
-use Rattle.scope.specs.Graph.{comprehensionScope, Scope, scope}
+use Rattle.scope.specs.Graph.{comprehensionScope, scope}
 use Rattle.expr.specs.Tree.{Expr, var, unresolved, node, predicate, comprehension, Exprs, done, more, mark, Steps, end, part, elem}
 use Rattle.expr.specs.Erase.{eraseE, erases, eraseS}
 use Rattle.tables.specs.Row.{pathKind, Row, row}
