@@ -47,9 +47,9 @@ unfolding small nodeA nodeB nameB eraseE eraseC eraseA logs walk lists sites
 agreeing-keys = record { stands₁ = refl; stands₂ = refl; sort = refl; names = refl; table = refl; carried = refl; keys = refl; clauses = refl; arms = refl }
 
 pub left-out : (keysLog true (statement nodeB) (site nodeB)
-        ≡ open' (scope 9 (some 4) 3 4) ∷ answer (write 0xFAF3A282 (found 2 1 0)) ∷ answer (write 0xFAF3A282 (found 2 1 0)) ∷ [])
+    ≡ open' (scope 9 (some 4) 3 4) ∷ answer (write 0xFAF3A282 (found 2 1 0)) ∷ answer (write 0xFAF3A282 (found 2 1 0)) ∷ [])
     × (keysLog true (statement nodeA) (site nodeA)
-        ≡ open' (scope 9 (some 4) 3 4) ∷ bind (bound 5 1 2 1) ∷ answer (write 0xFAF3A282 (found 2 1 0)) ∷ answer (write 0xFAF3A282 missing) ∷ find (finding 1001 0 0 2 0 0) ∷ [])
+    ≡ open' (scope 9 (some 4) 3 4) ∷ bind (bound 5 1 2 1) ∷ answer (write 0xFAF3A282 (found 2 1 0)) ∷ answer (write 0xFAF3A282 missing) ∷ find (finding 1001 0 0 2 0 0) ∷ [])
 unfolding small nodeA nodeB nameB logs walk sites useId fnv1Of fnvFrom fnvStep
 left-out = (refl, refl)
 

@@ -141,7 +141,6 @@ module _ (warns : Bool) (st : Statement) where
     yields-M a b [] s h = h
     yields-M a b (yield x y v ∷ ys) s h = yields-M a b ys (bindAnew w a b (yieldName x y) v valueKind s) (anew-M a b (yieldName x y) v valueKind s h)
 
-
   -- A scope of another kind; a comprehension's.
   enter-M : (k a b : ℕ) (s : State) → eqb k comprehensionScope ≡ false → Met (s .log) → Met (enter k a b s .log)
   unfolding Met Here
