@@ -10,12 +10,12 @@ use mathlib.Core.List.{List, [], _∷_, _++_, reverse, reverse-cons, reverse-app
 use mathlib.Core.Option.{Option, none, some}
 use lib.Dec.{eqb}
 use Rattle.scope.specs.Graph.{returnScope, withBarrier, callScope, unwindScope, rootScope, comprehensionScope, scope, carried}
+use Rattle.heads.specs.Answer.{isIn}
 use Rattle.expr.specs.Tree.{Expr, var, unresolved, node, predicate, comprehension, Exprs, done, more, mark, Steps, end, part, elem}
 use Rattle.clauses.specs.Tree.{Yield, yield, Opening, match, create, merge, Clause, opening, reading, with', return, unwind, call, Arm, arm, exprs, keysOf}
 use Rattle.tables.specs.Row.{valueKind, pathKind, Row, row}
 use Rattle.sheet.specs.Statement.{Statement}
 use Rattle.semantics.specs.Log.{Finding, Event, open', bind, carry, answer, find, opened}
-use Rattle.heads.specs.Answer.{isIn}
 use Rattle.semantics.specs.World.{World, hush, variable, opens, yieldName, nameOf, kindOf, worldOf}
 use Rattle.semantics.specs.Resolve.{Seen, Pair, pair, State, lookup, say, sayIf, enter, bindName, leave, standing, useVar, useName, visit, bindAnew, bindNew, bindPath, bindElem, resolve, resolves, bindPattern, carriedBy, carryAll, bindAll, barrier, fresh, yields, aliases, sortBy, clause, clauses, arms, start, run, log}
 use Rattle.semantics.specs.Lists.{scopes, bindings, carriedList}

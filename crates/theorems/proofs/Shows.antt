@@ -28,7 +28,7 @@ use Rattle.theorems.proofs.Keeps.{Keeps, all-keep}
 use Rattle.theorems.proofs.Within.{Within, nil, cons, inside, within-reverse, Well, standing-W, enter-W, carry-W, bind-W, find-W, anew-W, path-W, elem-W, carryAll-W, resolves-W, clauses-W, arms-W}
 use Rattle.theorems.specs.Site.{silent}
 use Rattle.theorems.specs.Agree.{seenAs, look, inLists}
-use Rattle.theorems.proofs.Placed.{start-W}
+use Rattle.theorems.proofs.Placed.{start-W, silent-W}
 use Rattle.theorems.proofs.Looks.{newest, carries-append, newest-append, answer-same, look-stays, look-by, look-open}
 use Rattle.theorems.proofs.Tests.{holds, eqb-same, eqb-comm}
 
@@ -130,10 +130,9 @@ module _ (w : World) where
   pub resolves-A : {but : List Pair} {beyond : List Seen} {s : State} (es : Exprs) → Shows but beyond s → Shows but beyond (resolves w es s)
   resolves-A {s = s} es h =
       let n = s .last in
-      let g : Well n (suc n) (silent s) = record { within = nil; count = unfold logs in omega arith; low = omega arith } in
       let r = resolves-W w 0 0 es (h .fine) in
       stays (resolves w es (silent s) .log) h (all-keep w es s) (ap (λ (t : State). t .log) (resolves-after w (s .log) es (silent s)))
-      (resolves-W w n (suc n) es g .fine .within) (r .later) (r .fine)
+      (resolves-W w n (suc n) es (silent-W n s refl) .fine .within) (r .later) (r .fine)
 
   bind-A : {but : List Pair} {beyond : List Seen} {s : State} (x v k : ℕ) → 0 < s .cur → Shows (pair x v ∷ but) beyond s → Shows but beyond (bindName x v k s)
   unfolding named seenAs
@@ -269,10 +268,9 @@ module _ (w : World) where
   away-A v es vis c {s} h =
       let n = s .last in
       let t = standing vis c s in
-      let q : Well n (suc n) (silent t) = record { within = nil; count = unfold logs in omega arith; low = omega arith } in
       let r = resolves-W v 0 0 es (standing-W w 0 0 vis c (h .fine)) in
       stays (resolves v es (silent t) .log) h (record { visible = refl; cur = refl }) (ap (λ (u : State). u .log) (resolves-after v (s .log) es (silent t)))
-      (resolves-W v n (suc n) es q .fine .within) (r .later) (standing-W w 0 0 _ _ (r .fine))
+      (resolves-W v n (suc n) es (silent-W n t refl) .fine .within) (r .later) (standing-W w 0 0 _ _ (r .fine))
 
   pub clause-A : (t : Clause) {s : State} → Shows [] [] s → Shows [] [] (clause w t s)
   unfolding clause sortBy
@@ -300,9 +298,8 @@ module _ (w : World) where
   arm-start-A cs s h =
       let t = standing [] 0 s in
       let n = s .last in
-      let q : Well n (suc n) (silent t) = record { within = nil; count = unfold logs in omega arith; low = omega arith } in
       let p = clauses-after w (s .log) cs (silent t) in
-      let g = clauses-W w n (suc n) cs q in
+      let g = clauses-W w n (suc n) cs (silent-W n t refl) in
       stays (clauses w cs (silent t) .log) h (record { visible = refl; cur = refl }) (ap (λ (x : State). x .log) p) (g .within) (omega (arith, g .low, ap (λ (x : State). x .last) p))
       (standing-W w 0 0 [] 0 (clauses-W w 0 0 cs (h .fine)))
 
@@ -319,10 +316,9 @@ module _ (warns : Bool) (s : Statement) where
   unfolding start
   arm-A earlier =
       let f = arms-W w 0 0 earlier (clauses-W w 0 0 (s .head) (start-W warns s)) in
-      let q : Well 0 1 (silent (start s)) = record { within = nil; count = unfold logs in refl; low = le-refl _ } in
       stays (arms w earlier (clauses w (s .head) (silent (start s))) .log) root-A (record { visible = refl; cur = refl })
       (ap (λ (t : State). t .log) (ap (arms w earlier) (clauses-after w (start s .log) (s .head) (silent (start s))) ∙ arms-after w (start s .log) earlier _))
-      (arms-W w 0 1 earlier (clauses-W w 0 1 (s .head) q) .within) (omega arith) (standing-W w 0 0 [] 0 f)
+      (arms-W w 0 1 earlier (clauses-W w 0 1 (s .head) (silent-W 0 (start s) refl)) .within) (omega arith) (standing-W w 0 0 [] 0 f)
 
   -- What the log shows between clauses, the lists show in the end.
   pub settle : {t : State} → Shows [] [] t → (after : List Clause) (later : List Arm) (x : ℕ) → run warns s ≡ arms w later (clauses w after t) → inLists warns s (t .cur) x ≡ seenAs x (t .visible)
@@ -330,11 +326,10 @@ module _ (warns : Bool) (s : Statement) where
   settle {t} h after later x e =
       let n = t .last in
       let u = arms w later (clauses w after (silent t)) in
-      let g : Well n (suc n) (silent t) = record { within = nil; count = unfold logs in omega arith; low = omega arith } in
       let m : run warns s .log ≡ u .log ++ t .log
       = ap (λ (r : State). r .log) (e ∙ ap (arms w later) (clauses-after w (t .log) after (silent t)) ∙ arms-after w (t .log) later (clauses w after (silent t))) in
       in-log ∙ ap (λ y. look (reverse y) (t .cur) x) m ∙ ap (λ y. look y (t .cur) x) (reverse-append (u .log) (t .log))
-      ∙ look-stays (reverse (t .log)) (t .cur) x (within-reverse (arms-W w n (suc n) later (clauses-W w n (suc n) after g) .within) nil) (h .low) (omega (arith, count (h .fine), h .low))
+      ∙ look-stays (reverse (t .log)) (t .cur) x (within-reverse (arms-W w n (suc n) later (clauses-W w n (suc n) after (silent-W n t refl)) .within) nil) (h .low) (omega (arith, count (h .fine), h .low))
       ∙ shown h x
     where
       in-log : inLists warns s (t .cur) x ≡ look (reverse (run warns s .log)) (t .cur) x
