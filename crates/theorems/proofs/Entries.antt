@@ -4,7 +4,7 @@
 -- pieces, and from the second's scopes up, besides the third's, it has those of the second and the fourth; `puts-up`: renumbering goes
 -- through. `lastWrite` is the last answer written for a use id: `answer-only`, what the
 -- recorded list has for it; `answer-pieces`, that of the second piece if it writes one; `notes-append`, records in two pieces.
-use Prim.Native.Nat.{ℕ, zero, suc, _+_, _≤_, _<_}
+use Prim.Native.Nat.{ℕ, suc, _+_, _≤_, _<_}
 use native.Mathlib.Omega.{arith}
 use mathlib.Core.Path.{_≡_, refl, sym, _∙_, ap, ap₂, subst}
 use mathlib.Core.Bool.{Bool, true, false, cond, _&&_}
@@ -14,7 +14,7 @@ use lib.Dec.{T, eqb, leb, ltb, eqb→eq, leb→le, le→leb, ltb→lt, lt→ltb}
 use Rattle.scope.specs.Graph.{carried, Entry, entry}
 use Rattle.semantics.specs.Log.{Answer, Bound, bound, Write, write, Event, open', bind, carry, answer, find, bindsIn, logs}
 use Rattle.semantics.specs.Lists.{put, puts, note, notes, answerFor}
-use Rattle.theorems.proofs.Moved.{numberBound, up}
+use Rattle.theorems.proofs.Moved.{numberBound, up, eqb-up}
 use Rattle.theorems.proofs.Within.{Within, nil, cons, inside}
 use Rattle.theorems.specs.Compare.{numberEntry, from, besides}
 use Rattle.theorems.proofs.Tests.{bool-ext, holds, eq→eqb, ne→eqb}
@@ -218,16 +218,6 @@ module _ (r n : ℕ) {hi : ℕ} {os bs cs ds : List Bound} (a : Inside 0 r os) (
       ∙ sym (puts-pieces b (inside-wide {hi′ = hi} (omega arith) (omega arith) d))
 
 -- Numbers moved up.
-up-inj : (m s t : ℕ) → up m s ≡ up m t → s ≡ t
-unfolding up
-up-inj m zero zero p = refl
-up-inj m zero (suc t) p = absurd (omega arith)
-up-inj m (suc s) zero p = absurd (omega arith)
-up-inj m (suc s) (suc t) p = omega arith
-
-eqb-up : (m s t : ℕ) → eqb (up m s) (up m t) ≡ eqb s t
-eqb-up m s t = bool-ext (eqb (up m s) (up m t)) (eqb s t) (λ h. eq→eqb s t (up-inj m s t (eqb→eq (up m s) (up m t) h))) (λ h. eq→eqb (up m s) (up m t) (ap (up m) (eqb→eq s t h)))
-
 put-up : (m : ℕ) (b : Bound) (es : List Entry) → put (numberBound (up m) b) (map (numberEntry (up m)) es) ≡ map (numberEntry (up m)) (put b es)
 unfolding put numberBound numberEntry
 put-up m (bound s x v k) [] = refl

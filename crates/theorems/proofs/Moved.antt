@@ -1,14 +1,15 @@
 -- One part, walked from two states, the second time without its spans. `R m s c`: s is c but for spans, its scope numbers moved up by m
 -- (`up`: 0 stays 0). Each step keeps it, `R m s c → R m (step s) (step c)`: `resolve-R`, `resolves-R`, `pattern-R`, `fresh-R`, `sort-R`,
--- `clause-R`, `clauses-R`, `arms-R`. `blank` takes spans away from an event, `number` renumbers its scopes, `numberBound` and `numberCarried` those of
--- an entry; `exprs-erase`, `keys-erase`: projections and sort keys without spans have the expressions without spans.
+-- `clause-R`, `clauses-R`, `arms-R`. `blank` takes spans away from an event, `number` renumbers its scopes, `numberBound` and
+-- `numberCarried` those of an entry; `eqb-up`: moved numbers are equal where the numbers are; `exprs-erase`, `keys-erase`: projections and
+-- sort keys without spans have the expressions without spans.
 use Prim.Native.Nat.{ℕ, zero, suc, _+_}
 use native.Mathlib.Omega.{arith}
-use mathlib.Core.Path.{_≡_, refl, sym, _∙_, ap, ap₂, subst}
+use mathlib.Core.Path.{_≡_, refl, sym, _∙_, ap, ap₂}
 use mathlib.Core.Bool.{Bool, true, false, cond, not, _&&_, _||_}
 use mathlib.Core.List.{List, [], _∷_, _++_, map, map-append}
 use mathlib.Core.Option.{Option, none, some}
-use lib.Dec.{T, eqb, eqb→eq, eqb-refl}
+use lib.Dec.{eqb, eqb→eq}
 use Rattle.scope.specs.Graph.{comprehensionScope, returnScope, withBarrier, callScope, unwindScope, rootScope, scope, Carried, carried}
 use Rattle.expr.specs.Tree.{Expr, var, unresolved, node, predicate, comprehension, Exprs, done, more, mark, Steps, end, part, elem}
 use Rattle.clauses.specs.Tree.{Projection, projection, Yield, yield, Keys, unsorted, sorted, Clause, opening, reading, with', return, unwind, call, Arm, arm, exprs, keysOf}
@@ -19,6 +20,7 @@ use Rattle.semantics.specs.Log.{e1002, finding, Bound, bound, Event, open', bin
 use Rattle.semantics.specs.World.{World, hush, variable, opens, Direct, aVar, aName, other, direct, yieldName, nameOf, kindOf}
 use Rattle.semantics.specs.Resolve.{Seen, seen, Pair, pair, State, lookup, binds, say, sayIf, enter, bindName, leave, standing, useVar, useName, visit, bindAnew, bindNew, bindPath, bindElem, resolve, resolves, bindPattern, carries, carriedBy, carryAll, bindAll, barrier, fresh, yields, aliasIn, aliases, sortBy, clause, clauses, arms}
 use Rattle.theorems.specs.Compare.{blankScope, blankFinding, numberScope}
+use Rattle.theorems.proofs.Tests.{bool-ext, eq→eqb}
 
 -- Spans away.
 unfoldable pub blank : Event → Event
@@ -81,12 +83,6 @@ direct-erase (node f es) = refl
 direct-erase (predicate s) = refl
 direct-erase (comprehension a b s es) = refl
 
-bool-ext : (a b : Bool) → (T a → T b) → (T b → T a) → a ≡ b
-bool-ext true true f g = refl
-bool-ext true false f g = absurd (f tt)
-bool-ext false true f g = absurd (g tt)
-bool-ext false false f g = refl
-
 up-inj : (m s t : ℕ) → up m s ≡ up m t → s ≡ t
 unfolding up
 up-inj m zero zero p = refl
@@ -94,10 +90,8 @@ up-inj m zero (suc t) p = absurd (omega arith)
 up-inj m (suc s) zero p = absurd (omega arith)
 up-inj m (suc s) (suc t) p = omega arith
 
-eqb-up : (m s t : ℕ) → eqb (up m s) (up m t) ≡ eqb s t
-eqb-up m s t = bool-ext (eqb (up m s) (up m t)) (eqb s t)
-    (λ h. subst (λ x. T (eqb s x)) (up-inj m s t (eqb→eq (up m s) (up m t) h)) (eqb-refl s))
-    (λ h. subst (λ x. T (eqb (up m s) (up m x))) (eqb→eq s t h) (eqb-refl (up m s)))
+pub eqb-up : (m s t : ℕ) → eqb (up m s) (up m t) ≡ eqb s t
+eqb-up m s t = bool-ext (eqb (up m s) (up m t)) (eqb s t) (λ h. eq→eqb s t (up-inj m s t (eqb→eq (up m s) (up m t) h))) (λ h. eq→eqb (up m s) (up m t) (ap (up m) (eqb→eq s t h)))
 
 module _ (w : World) (m : ℕ) where
   -- the moved visible list has the same names, variables and own names

@@ -1,11 +1,11 @@
--- Where the WITH, its sort keys and its part stand in the five lists: the numbers and pairs that Apart names are the lists' own.
--- `split`: the log is what is said up to the barrier's names (`preLog`), then what the new Root, the keys and the rest say. `root-at`: the
--- barrier has the next number and is current; `pre-opened`: the new Root's number is the count of scopes before; `root-said`: what the new
--- Root says, so that it answers nothing (`root-quiet`); `root-after`, `keys-after`: it and the keys from where nothing was said yet; `tail-in`:
--- from the new Root on all binds in scopes above the barrier. `scopes-from`,
--- `bindings-pieces`, `bindings-from`, `answer-from`, `pairs-listed`: the pieces in each list. `carry-log`: what a barrier says;
--- `inside-carries`: a log carries at its own barriers (`CarriedIn`); `clauses-append`, `arms-append`: a run in two pieces; `start-W`: where a
--- statement begins; `silent-W`: where nothing was said.
+-- Where the WITH, its sort keys and its part stand in the five lists: the numbers and pairs that Apart names are the lists' own. `split`:
+-- the log is what is said up to the barrier's names (`preLog`), then what the new Root, the keys and the rest say. `root-at`: the barrier
+-- has the next number and is current; `pre-opened`: the new Root's number is the count of scopes before; `root-said`: what the new Root
+-- says, so that it answers nothing (`root-quiet`); `root-after`, `keys-after`: it and the keys from where nothing was said yet; `tail-in`:
+-- from the new Root on all binds in scopes above the barrier. `scopes-from`, `bindings-pieces`, `bindings-from`, `answer-from`,
+-- `pairs-listed`: the pieces in each list. `carry-log`: what a barrier says; `inside-carries`: a log carries at its own barriers
+-- (`CarriedIn`); `clauses-append`, `arms-append`: a run in two pieces; `start-W`: where a statement begins; `silent-W`: where nothing was
+-- said.
 use Prim.Native.Nat.{ℕ, suc, _+_, _≤_, _<_}
 use native.Mathlib.Nat.{le-refl}
 use native.Mathlib.Omega.{arith}

@@ -1,6 +1,6 @@
 -- E1001 and the unresolved record arise at the uses whose name is not visible, and nowhere else: `arises` at one use, also where others are
--- hushed (`arises-hushed`), `of-uses` over a statement. One induction (`sees`) serves every view of the log that passes over all else (`Quiet`). `lacking` and `lookup-none`: the
--- test, and lookup, of a name that is not visible.
+-- hushed (`arises-hushed`), `of-uses` over a statement. One induction (`sees`) serves every view of the log that passes over all else
+-- (`Quiet`). `lacking` and `lookup-none`: the test, and lookup, of a name that is not visible.
 use Prim.Native.Nat.{ℕ, suc}
 use mathlib.Core.Path.{_≡_, refl, sym, _∙_, ap, ap₂, subst}
 use mathlib.Core.Logic.{_↔_, _⊎_, inl, inr}

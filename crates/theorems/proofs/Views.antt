@@ -1,6 +1,7 @@
 -- The views of a log in pieces, and of a log changed event by event. `pick-append`: a view of `l ++ m` is that of l and then that of m;
--- `scopes-append`, `binds-append`, `answers-append`, `carried-append`, `opened-append` say it of each view. `pick-map`: an event's view goes with the event;
--- `pick-same`: a view that doesn't see the change. `opened-reverse`: as many scopes are opened whichever way a log is read; `map-reverse`: a list changed entry by entry, turned round.
+-- `scopes-append`, `binds-append`, `answers-append`, `carried-append`, `opened-append` say it of each view. `pick-map`: an event's view
+-- goes with the event; `pick-same`: a view that doesn't see the change. `opened-reverse`: as many scopes are opened whichever way a log is
+-- read; `map-reverse`: a list changed entry by entry, turned round.
 use Prim.Native.Nat.{_+_}
 use native.Mathlib.Omega.{arith}
 use mathlib.Core.Path.{_≡_, refl, sym, ap₂}

@@ -1,10 +1,10 @@
--- A walk binds only in scopes, and carries only at barriers, that it opens itself, and it numbers scopes as it opens them.
--- `Within lo hi l`: all that l binds and carries stands in scopes above lo, up to hi (`within-wide`: or a lower and a higher one;
--- `within-join`: of two logs, one above the other; `within-reverse`: read in either direction). `Well lo z s`: so the log of s, up to its last scope; with z scopes before it, the count is the last number.
--- `Runs s t`: from s to t the current scope stays, the last number doesn't fall, and t is well. For each step `-W` says that a state stays
--- well: `standing-W`, `enter-W`, `answer-W`, `find-W`, `carry-W`, `bind-W`, `anew-W`, `new-W`, `path-W`, `elem-W`; the walks `resolve-W`,
--- `resolves-W`, `pattern-W`; and the clauses' steps `carryAll-W`, `bindAll-W`, `yields-W`, `barrier-W`, `fresh-W`,
--- `sort-W`, `clause-W`, `clauses-W`, `arms-W`.
+-- A walk binds only in scopes, and carries only at barriers, that it opens itself, and it numbers scopes as it opens them. `Within lo hi
+-- l`: all that l binds and carries stands in scopes above lo, up to hi (`within-wide`: or a lower and a higher one; `within-join`: of two
+-- logs, one above the other; `within-reverse`: read in either direction). `Well lo z s`: so the log of s, up to its last scope; with z
+-- scopes before it, the count is the last number. `Runs s t`: from s to t the current scope stays, the last number doesn't fall, and t is
+-- well. For each step `-W` says that a state stays well: `standing-W`, `enter-W`, `answer-W`, `find-W`, `carry-W`, `bind-W`, `anew-W`,
+-- `new-W`, `path-W`, `elem-W`; the walks `resolve-W`, `resolves-W`, `pattern-W`; and the clauses' steps `carryAll-W`, `bindAll-W`,
+-- `yields-W`, `barrier-W`, `fresh-W`, `sort-W`, `clause-W`, `clauses-W`, `arms-W`.
 use Prim.Native.Nat.{ℕ, suc, _+_, _≤_, _<_}
 use native.Mathlib.Nat.{le-refl, le-trans}
 use native.Mathlib.Omega.{arith}
