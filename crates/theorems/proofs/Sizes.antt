@@ -1,9 +1,7 @@
 -- Both walks together say at most as much as there are words: a word or more pays for each event of the log and for each finding of the
 -- kinds walk, and sort keys pay by their own. `few-E`, `few-Es`, `few-S` say it of trees (the two walks may have Worlds of their own);
--- `few-C` of one clause, from any state, so that a log of one cla
-use has room in
--- that clause's words; `few-Cs` of clauses, `few-As` of arms (which get no kind check), `few` of a statement, `few-words` of an accepted
--- sheet, and `fits` of its lists.
+-- `few-C` of one clause, from any state, so that a log of one clause has room in that clause's words; `few-Cs` of clauses, `few-As` of arms
+-- (which get no kind check), `few` of a statement, `few-words` of an accepted sheet, and `fits` of its lists.
 use Prim.Native.Nat.{ℕ, suc, _+_, _-_, _*_, _≤_}
 use native.Mathlib.Omega.{arith}
 use mathlib.Core.Path.{_≡_, refl, _∙_, ap}
