@@ -12,7 +12,8 @@ use Rattle.steps.specs.Memory.{topOf, slotsIn}
 use Rattle.steps.specs.Hold.{Ready}
 use Rattle.steps.proofs.Held.{lower}
 use Rattle.walk.specs.Goes.{Goer}
-use Rattle.clause_walk.specs.Passes.{Passes, bodyAt}
+use Rattle.clause_parts.specs.Passes.{Passes}
+use Rattle.clause_walk.specs.Clauses.{bodyAt}
 
 pub more : {i j : ℕ} {ws tab m vis found held m' vis' found' held' : List ℕ} {G : Goer} (r : ℕ) → i ≤ j → Passes i ws tab m vis found held m' vis' found' held' G r → Passes j ws tab m vis found held m' vis' found' held' G r
 more zero l x =

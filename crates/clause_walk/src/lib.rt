@@ -1,79 +1,32 @@
 // Clauses and arms, read and walked in one over any words: the refusal, or where both walks stand then. `head` is what a clause begins with:
 // its kind, its start, its end. `held` has the pairs that a WITH is to carry, two words each, while its projections are walked.
-mod with;
-
+use clause_parts::DEPTH;
+use clause_parts::Head;
+use clause_parts::next_word;
+use clause_parts::walk_counted;
 use heads::Word;
-use heads::word_in;
-use steps::AT;
-use steps::CUR;
+use return_walk::walk_return;
 use steps::NAMES;
 use steps::Row;
-use steps::TOP;
 use steps::bind_anew;
 use steps::bind_name;
 use steps::enter;
 use steps::leave;
 use steps::note;
 use walk::walk_expr;
-use walk::walk_many;
 use walk::walk_marks;
 use walk::walk_pattern;
 use walk::walk_row;
-use with::walk_with;
+use with_walk::walk_with;
 ghost use mathlib.Core.Path.{_≡_};
-ghost use mathlib.Core.Bool.{Bool, true};
-ghost use mathlib.Core.List.{List, []};
-ghost use Prim.Native.Nat.{ℕ, _+_, _*_, _≤_};
-ghost use lib.ListN.{length};
+ghost use mathlib.Core.Bool.{true};
+ghost use mathlib.Core.List.{[]};
+ghost use Prim.Native.Nat.{_+_, _*_};
 ghost use Rattle.words.specs.Words.{words};
-ghost use Rattle.steps.specs.Memory.{atOf, modeOf};
+ghost use Rattle.steps.specs.Memory.{modeOf};
 ghost use Rattle.steps.specs.Hold.{Ready, Steps};
-ghost use Rattle.walk.specs.Goes.{Walked};
-ghost use Rattle.clause_walk.specs.Passes.{Next, Held, Passes, outputAt, outputsAt, countedAt, markedAt, scopeAt, matchAt, yieldAt, returnedAt, returnAt, unwindAt, unwoundAt, yieldsAt, callAt, bodyAt, clauseAt, clausesAt, armAt, armsAt};
-
-// The most levels of an expression.
-pub const DEPTH: u32 = 48;
-
-// What a clause begins with.
-pub struct Head {
-    pub kind: u32,
-    pub start: u32,
-    pub end: u32,
-}
-
-// The next word, if it is there and in range; the walk then stands behind it.
-fn next_word(s: &[u8], m: &mut [u32], lo: u32, hi: u64) -> Word
-    requires { ⌜ (length (now m) ≡ 64) × ((atOf (now m) ≤ length (words (now s))) × (length (words (now s)) ≤ 2048)) ⌝ }
-    ensures { λ r. ⌜ Next (words (now (s .entry))) lo hi (now (m .entry)) (now (m .exit)) r ⌝ }
-{
-    let at = m[AT];
-    let r = word_in(s, at as usize, lo, hi);
-    match r {
-        Word::Is(_) => {
-            m[AT] = at + 1;
-            r
-        }
-        Word::No => r,
-    }
-}
-
-// A count, and as many expressions.
-fn walk_counted(
-    s: &[u8],
-    tab: &[u32],
-    m: &mut [u32],
-    vis: &mut [u32],
-    found: &mut [u32],
-    mode: u32,
-) -> u32
-    requires { ⌜ (Ready 0 (words (now s)) (now tab) (now m) (now vis) (now found)) ⌝ }
-    ensures { λ r. ⌜ Passes 0 (words (now (s .entry))) (now (tab .entry)) (now (m .entry)) (now (vis .entry)) (now (found .entry)) [] (now (m .exit)) (now (vis .exit)) (now (found .exit)) [] (countedAt (words (now (s .entry))) (now (tab .entry)) mode) r ⌝ }
-{
-    let Word::Is(n) = next_word(s, m, 0, 4294967296) else {
-        return 5;
-    };
-    walk_many(s, tab, m, vis, found, DEPTH, n as usize, mode / 64 * 64)
-}
+ghost use Rattle.clause_parts.specs.Passes.{Held, Passes};
+ghost use Rattle.clause_walk.specs.Clauses.{markedAt, scopeAt, matchAt, yieldAt, unwindAt, unwoundAt, yieldsAt, callAt, bodyAt, clauseAt, clausesAt, armAt, armsAt};
 
 // A count, and as many marks of the kind.
 fn walk_marked(
@@ -110,92 +63,6 @@ fn walk_opening(
 {
     enter(s, tab, m, vis, found, kind, head.start, head.end);
     walk_pattern(s, tab, m, vis, found, DEPTH, mode)
-}
-
-// A projection of a RETURN.
-fn walk_output(
-    s: &[u8],
-    tab: &[u32],
-    m: &mut [u32],
-    vis: &mut [u32],
-    found: &mut [u32],
-    mode: u32,
-) -> u32
-    requires { ⌜ (Ready 0 (words (now s)) (now tab) (now m) (now vis) (now found)) ⌝ }
-    ensures { λ r. ⌜ Walked 48 (words (now (s .entry))) (now (tab .entry)) (now (m .entry)) (now (vis .entry)) (now (found .entry)) (now (m .exit)) (now (vis .exit)) (now (found .exit)) (outputAt (words (now (s .entry))) (now (tab .entry)) mode) r ⌝ }
-{
-    let Word::Is(_) = next_word(s, m, 0, tab[NAMES] as u64 + 1) else {
-        return 5;
-    };
-    walk_expr(s, tab, m, vis, found, DEPTH, mode / 64 * 64)
-}
-
-// n projections of a RETURN.
-fn walk_outputs(
-    s: &[u8],
-    tab: &[u32],
-    m: &mut [u32],
-    vis: &mut [u32],
-    found: &mut [u32],
-    n: u32,
-    mode: u32,
-) -> u32
-    requires { ⌜ (Ready 0 (words (now s)) (now tab) (now m) (now vis) (now found)) ⌝ }
-    ensures { λ r. ⌜ Walked 48 (words (now (s .entry))) (now (tab .entry)) (now (m .entry)) (now (vis .entry)) (now (found .entry)) (now (m .exit)) (now (vis .exit)) (now (found .exit)) (outputsAt (words (now (s .entry))) (now (tab .entry)) mode n) r ⌝ }
-{
-    let mut left = n;
-    while 0 < left {
-        let r = walk_output(s, tab, m, vis, found, mode);
-        if r != 0 {
-            return r;
-        }
-        left -= 1;
-    }
-    0
-}
-
-// A count, and as many projections of a RETURN.
-fn walk_returned(
-    s: &[u8],
-    tab: &[u32],
-    m: &mut [u32],
-    vis: &mut [u32],
-    found: &mut [u32],
-    mode: u32,
-) -> u32
-    requires { ⌜ (Ready 0 (words (now s)) (now tab) (now m) (now vis) (now found)) ⌝ }
-    ensures { λ r. ⌜ Walked 48 (words (now (s .entry))) (now (tab .entry)) (now (m .entry)) (now (vis .entry)) (now (found .entry)) (now (m .exit)) (now (vis .exit)) (now (found .exit)) (returnedAt (words (now (s .entry))) (now (tab .entry)) mode) r ⌝ }
-{
-    let Word::Is(n) = next_word(s, m, 0, 4294967296) else {
-        return 5;
-    };
-    walk_outputs(s, tab, m, vis, found, n, mode)
-}
-
-// Return: its expressions look from outside its scope, which is current after it.
-fn walk_return(
-    s: &[u8],
-    tab: &[u32],
-    m: &mut [u32],
-    vis: &mut [u32],
-    found: &mut [u32],
-    head: Head,
-    mode: u32,
-) -> u32
-    requires { ⌜ (modeOf mode .resolves ≡ true) × (Ready 3 (words (now s)) (now tab) (now m) (now vis) (now found)) ⌝ }
-    ensures { λ r. ⌜ Passes 3 (words (now (s .entry))) (now (tab .entry)) (now (m .entry)) (now (vis .entry)) (now (found .entry)) [] (now (m .exit)) (now (vis .exit)) (now (found .exit)) [] (returnAt (words (now (s .entry))) (now (tab .entry)) mode (head .start) (head .end)) r ⌝ }
-{
-    let top = m[TOP];
-    let cur = m[CUR];
-    enter(s, tab, m, vis, found, 8, head.start, head.end);
-    let scope = m[CUR];
-    leave(tab, m, vis, top, cur);
-    let r = walk_returned(s, tab, m, vis, found, mode);
-    if r != 0 {
-        return r;
-    }
-    leave(tab, m, vis, top, scope);
-    0
 }
 
 // The variable of an Unwind is bound in a scope of its own.

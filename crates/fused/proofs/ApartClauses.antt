@@ -1,9 +1,11 @@
 -- Clauses and arms: reading and both walks in one is reading, and then the two walks (`apart-clause`, `apart-arm`, and for rows of them
--- `apart-clauses`, `apart-arms`).
+-- `apart-clauses`, `apart-arms`). `projections-law` is for whatever is kept of projections, `keys-law` for sort keys: a WITH's see what was
+-- visible before it (`with-step`), a RETURN's are hushed (`return-step`), which says nothing of kinds (`kinds-hush`).
 use Prim.Native.Nat.{ℕ, zero, suc}
 use mathlib.Core.Path.{_≡_, refl, ap, ap₂, sym, _∙_}
 use mathlib.Core.Bool.{Bool, true, false, cond, _&&_}
 use mathlib.Core.List.{List, [], _∷_, _++_, flatMap, append-assoc, append-nil}
+use mathlib.Core.Option.{Option}
 use lib.Dec.{eqb}
 use Rattle.scope.specs.Graph.{unwindScope, callScope, returnScope}
 use Rattle.heads.specs.Got.{Got, ok, no, bind, wordIn, anyWord, flag, many, counted}
@@ -12,19 +14,19 @@ use Rattle.heads.specs.Head.{Tables}
 use Rattle.heads.specs.declared.Form.{Form}
 use Rattle.heads.specs.declared.Form.the-variants.{Leaf, Var, Unresolved, Prop, Two, Slice, Many, BinOp, UnaryOp, Case, IsNull, PatternPredicate, ListComprehension, PatternComprehension, ListPredicate, MapProjection}
 use Rattle.heads.proofs.Shapes.{bind-each, bind-bind}
-use Rattle.expr.specs.Tree.{Expr, Exprs, done, Steps, tree}
+use Rattle.expr.specs.Tree.{Expr, var, unresolved, node, predicate, comprehension, Exprs, done, more, mark, Steps, end, part, elem, tree}
 use Rattle.expr.specs.Binders.{bindersE, binders, bindersS, allKnown}
 use Rattle.expr.specs.Read.{noMore, times, marks, pattern, maybePattern, afterForm, readExpr}
-use Rattle.clauses.specs.Tree.{Projection, projection, Yield, yield, Opening, match, create, merge, Reading, where', set, remove, delete, Clause, opening, reading, with', return, unwind, call, Arm, arm, exprs}
-use Rattle.clauses.specs.Read.{maxDepth, aliasOf, clauseExpr, readProjection, readYield, countedExprs, countedMarks, readMatch, readOpening, readWhere, readWith, readReturn, readUnwind, readMarked, readDelete, readCall, readBody, readClause, readArm}
+use Rattle.clauses.specs.Tree.{Projection, projection, Yield, yield, Opening, match, create, merge, Reading, where', set, remove, delete, Keys, unsorted, sorted, Clause, opening, reading, with', return, unwind, call, Arm, arm, exprs, keysOf}
+use Rattle.clauses.specs.Read.{maxDepth, aliasOf, clauseExpr, readProjection, readYield, countedExprs, countedMarks, noKeys, someKeys, readMatch, readOpening, readWhere, readWith, readReturn, readUnwind, readMarked, readDelete, readCall, readBody, readClause, readArm}
 use Rattle.clauses.specs.Binders.{bindersP, bindersC, bindersA}
 use Rattle.tables.specs.Row.{valueKind}
-use Rattle.semantics.specs.World.{World, opens, Direct, direct, yieldName, nameOf}
-use Rattle.semantics.specs.Resolve.{State, Pair, enter, leave, standing, bindName, bindAnew, resolve, resolves, bindPattern, carries, carriedBy, barrier, fresh, yields, clause, clauses, arms}
-use Rattle.semantics.specs.Kinds.{Setting, general, plain, kindsE, kindsEs, kindsS, kindsC, kinds}
+use Rattle.semantics.specs.World.{World, hush, opens, Direct, direct, yieldName, nameOf}
+use Rattle.semantics.specs.Resolve.{State, Seen, Pair, enter, leave, standing, bindName, bindAnew, resolve, resolves, bindPattern, carries, carriedBy, barrier, fresh, yields, aliasIn, aliases, sortBy, clause, clauses, arms}
+use Rattle.semantics.specs.Kinds.{Setting, general, Pair as Settings, both, plain, settings, rowFor, kindsE, kindsEs, kindsS, kindsC, kinds}
 use Rattle.theorems.proofs.Keeps.{keeps}
-use Rattle.fused.specs.Fused.{Both, Mode, unresolving, Go, when, told, step, hasRow, noting, rounds, rowGo, markGo}
-use Rattle.fused.specs.Clauses.{directForm, directOf, returned, inArms, within, projectionsGo, countedRow, yielded, yieldGo, openingGo, withGo, returnGo, unwindGo, callGo, markedGo, bodyGo, clauseGo, armGo}
+use Rattle.fused.specs.Fused.{Both, Mode, unresolving, Go, when, told, step, hasRow, noting, rounds, rowGo, left, markGo}
+use Rattle.fused.specs.Clauses.{directForm, directOf, returned, beside, aliased, inArms, within, projectionsGo, countedRow, yielded, yieldGo, openingGo, rootedBy, sortGo, withGo, keysGo, returnGo, unwindGo, callGo, markedGo, bodyGo, clauseGo, armGo}
 use Rattle.fused.proofs.Apart.{told-append, when-two, step-two, step-none, known-two, move, move-two, move-none, after, map-map, each, act, acts, lays, kids-law, marks-law, pattern-law, apart}
 
 -- things in a row, each read and walked
@@ -78,6 +80,76 @@ direct-read {C} t d r F = head (readForm (t .names) r)
     head (ok f r1) = rest f (λ st r2. times (kidsOf f) (readExpr t d) (marks 0 (itemsOf f) (readExpr t d)) r2) (maybePattern (hasPattern f) t (readExpr t d) r1)
     head (no c) = refl
 
+-- names that are no use say nothing of kinds
+module _ (xs : List ℕ) (w : World) where
+  mutual
+    unfolding kindsE rowFor
+
+    kinds-hushE : (e : Expr) (c : Setting) → kindsE (hush xs w) e c ≡ kindsE w e c
+    kinds-hushE (var v) c = refl
+    kinds-hushE (unresolved x) c = refl
+    kinds-hushE (node f es) c = rw (kinds-hush es (settings (w .isId) f c))
+    kinds-hushE (predicate st) c = rw (kinds-hushS st)
+    kinds-hushE (comprehension a b st es) c = rw (kinds-hushS st, kinds-hush es plain)
+
+    kinds-hush : (es : Exprs) (p : Settings) → kindsEs (hush xs w) es p ≡ kindsEs w es p
+    kinds-hush done p = refl
+    kinds-hush (more e es) (both c d) = rw (kinds-hushE e c, kinds-hush es (both d d))
+    kinds-hush (mark k es) p = kinds-hush es p
+
+    kinds-hushS : (st : Steps) → kindsS (hush xs w) st ≡ kindsS w st
+    kinds-hushS end = refl
+    kinds-hushS (part p st) = rw (kinds-hushS st)
+    kinds-hushS (elem k a b v es st) = rw (kinds-hush es plain, kinds-hushS st)
+
+-- what is kept of projections: the pairs that a WITH carries, the aliases of a RETURN
+abbrev keptBy : {A : Type 0} → (Option ℕ → Direct → List Seen → List A) → List Projection → List Seen → List A
+keptBy keep [] vis = []
+keptBy keep (projection a e ∷ ps) vis = keep a (direct e) vis ++ keptBy keep ps vis
+
+carries-kept : (w : World) (ps : List Projection) (vis : List Seen) → carriedBy w ps vis ≡ keptBy (carries w) ps vis
+unfolding carriedBy
+carries-kept w [] vis = refl
+carries-kept w (projection a e ∷ ps) vis = ap (λ (qs : List Pair). carries w a (direct e) vis ++ qs) (carries-kept w ps vis)
+
+aliases-kept : (ps : List Projection) (vis : List Seen) → aliases ps ≡ keptBy aliased ps vis
+unfolding aliases
+aliases-kept [] vis = refl
+aliases-kept (projection a e ∷ ps) vis = ap (λ (xs : List ℕ). aliasIn a ++ xs) (aliases-kept ps vis)
+
+-- sort keys, if there are any: read, and read and walked in one
+abbrev readKeys : Tables → Bool → List ℕ → Got Keys
+readKeys t false = noKeys t
+readKeys t true = someKeys t
+
+abbrev keyRow : World → Tables → Mode → Bool → Go
+keyRow w t m false s r = ok s r
+keyRow w t m true s r = countedRow w t m s r
+
+-- expressions in a row, counted, and as sort keys
+module _ (w : World) (t : Tables) (free : (v : ℕ) → t .known v ≡ true) (m : Mode) where
+  row-law : (n : ℕ) (s : Both) (r : List ℕ) → after (acts w m plain) (times n (clauseExpr t) noMore) s r ≡ rowGo (within w t m) n plain s r
+  row-law n s r = kids-law w t free (within w t) (clauseExpr t) (apart w t free maxDepth) m n plain s r
+
+  counted-law : (s : Both) (r : List ℕ) → after (acts w m plain) (countedExprs t) s r ≡ countedRow w t m s r
+  unfolding countedExprs
+  counted-law s r = go (anyWord r)
+    where
+      go : (g : Got ℕ) → bind (bind g (λ n r1. times n (clauseExpr t) noMore r1)) (λ es r2. ok (acts w m plain es s) r2) ≡ bind g (λ n r1. rowGo (within w t m) n plain s r1)
+      go (ok n r1) = row-law n s r1
+      go (no c) = refl
+
+  -- what is made of the sort keys of a clause is made of what they leave
+  keys-law : {C : Type 0} (sorts : Bool) (clauseOf : Keys → C) (walk : C → Both) (f : Both → Both) (s : Both) → ((ks : Keys) → walk (clauseOf ks) ≡ f (acts w m plain (keysOf ks) s)) → (r : List ℕ) →
+      bind (bind (readKeys t sorts r) (λ ks r2. ok (clauseOf ks) r2)) (λ c r2. ok (walk c) r2) ≡ bind (keyRow w t m sorts s r) (λ u r2. ok (f u) r2)
+  unfolding noKeys someKeys keysOf resolve kindsE bindersE
+  keys-law false clauseOf walk f s h r = ap (λ (u : Both). ok u r) (h unsorted ∙ ap f (move-none w m s))
+  keys-law true clauseOf walk f s h r = rw (← (counted-law s r)) (go (countedExprs t r))
+    where
+      go : (g : Got Exprs) → bind (bind (bind g (λ es r2. ok (sorted es) r2)) (λ ks r2. ok (clauseOf ks) r2)) (λ c r2. ok (walk c) r2) ≡ bind (bind g (λ es r2. ok (acts w m plain es s) r2)) (λ u r2. ok (f u) r2)
+      go (ok es r2) = ap (λ (u : Both). ok u r2) (h (sorted es))
+      go (no c) = refl
+
 -- the expressions of projections and others after them, by both walks
 module _ (w : World) where
   resolves-exprs : (ps : List Projection) (es : Exprs) (s : State) → resolves w (exprs ps es) s ≡ resolves w es (resolves w (exprs ps done) s)
@@ -118,45 +190,43 @@ module _ (w : World) where
   walksArms m xs = move w (inArms m) (arms w xs) [] (flatMap bindersA xs)
 
   module _ (t : Tables) (free : (v : ℕ) → t .known v ≡ true) where
-    row-law : (m : Mode) (n : ℕ) (s : Both) (r : List ℕ) → after (acts w m plain) (times n (clauseExpr t) noMore) s r ≡ rowGo (within w t m) n plain s r
-    row-law m n s r = kids-law w t free (within w t) (clauseExpr t) (apart w t free maxDepth) m n plain s r
+    -- projections, and what is done with what they leave and what is kept of them
+    module _ {A : Type 0} (keep : Option ℕ → Direct → List Seen → List A) (m : Mode) where
+      abbrev Projected : ℕ → Type 0
+      Projected n =
+          (qs : List A) (K : Both → List A → List ℕ → Got Both) (s : Both) (r : List ℕ)
+          → bind (many (readProjection t) n r) (λ ps r2. K (acts w m plain (exprs ps done) s) (qs ++ keptBy keep ps (s .names .visible)) r2) ≡ bind (projectionsGo w t keep m n qs s r) (λ x r2. K (x .0) (x .1) r2)
 
-    -- projections, and what is done with what they leave and carry
-    abbrev Projected : Type 0 → Mode → ℕ → Type 0
-    Projected C m n =
-        (qs : List Pair) (K : Both → List Pair → List ℕ → Got C) (s : Both) (r : List ℕ)
-        → bind (many (readProjection t) n r) (λ ps r2. K (acts w m plain (exprs ps done) s) (qs ++ carriedBy w ps (s .names .visible)) r2) ≡ bind (projectionsGo w t m n qs s r) (λ x r2. K (x .0) (x .1) r2)
+      projections-law : (n : ℕ) → Projected n
+      unfolding many projectionsGo exprs resolve kindsE bindersE readProjection
+      projections-law zero qs K s r = ap₂ (λ (x : Both) (y : List A). K x y r) (move-none w m s) (append-nil qs)
+      projections-law (suc n) qs K s r = word (projections-law n) (wordIn 0 (suc (t .names)) r)
+        where
+          -- what follows an alias and an expression
+          M : ℕ → Expr → Direct → List ℕ → Got Both
+          M a e d r2 = bind (projectionsGo w t keep m n (qs ++ keep (aliasOf a) d (act w m general e s .names .visible)) (act w m general e s) r2) (λ x r3. K (x .0) (x .1) r3)
 
-    projections-law : {C : Type 0} (m : Mode) (n : ℕ) → Projected C m n
-    unfolding many projectionsGo carriedBy exprs resolve kindsE bindersE readProjection
-    projections-law m zero qs K s r = ap₂ (λ (x : Both) (y : List Pair). K x y r) (move-none w m s) (append-nil qs)
-    projections-law {C} m (suc n) qs K s r = word (projections-law m n) (wordIn 0 (suc (t .names)) r)
-      where
-        -- what follows an alias and an expression
-        M : ℕ → Expr → Direct → List ℕ → Got C
-        M a e d r2 = bind (projectionsGo w t m n (qs ++ carries w (aliasOf a) d (act w m general e s .names .visible)) (act w m general e s) r2) (λ x r3. K (x .0) (x .1) r3)
+          F : List Projection → List ℕ → Got Both
+          F ps r2 = K (acts w m plain (exprs ps done) s) (qs ++ keptBy keep ps (s .names .visible)) r2
 
-        F : List Projection → List ℕ → Got C
-        F ps r2 = K (acts w m plain (exprs ps done) s) (qs ++ carriedBy w ps (s .names .visible)) r2
+          later : (a : ℕ) (e : Expr) (ps : List Projection) → qs ++ keptBy keep (projection (aliasOf a) e ∷ ps) (s .names .visible) ≡ (qs ++ keep (aliasOf a) (direct e) (act w m general e s .names .visible)) ++ keptBy keep ps (act w m general e s .names .visible)
+          later a e ps = rw (kept m general e s) (sym (append-assoc qs (keep (aliasOf a) (direct e) (s .names .visible)) (keptBy keep ps (s .names .visible))))
 
-        later : (a : ℕ) (e : Expr) (ps : List Projection) → qs ++ carriedBy w (projection (aliasOf a) e ∷ ps) (s .names .visible) ≡ (qs ++ carries w (aliasOf a) (direct e) (act w m general e s .names .visible)) ++ carriedBy w ps (act w m general e s .names .visible)
-        later a e ps = rw (kept m general e s) (sym (append-assoc qs (carries w (aliasOf a) (direct e) (s .names .visible)) (carriedBy w ps (s .names .visible))))
+          one : Projected n → (a : ℕ) (g : Got Expr) → bind (bind (bind g (λ e r2. ok (projection (aliasOf a) e) r2)) (λ x r2. bind (many (readProjection t) n r2) (λ xs r3. ok (x ∷ xs) r3))) F ≡ bind g (λ e r2. M a e (direct e) r2)
+          one ih a (ok e r2) =
+              bind-bind (many (readProjection t) n r2) (λ xs r3. ok (projection (aliasOf a) e ∷ xs) r3) F
+              ∙ bind-each (many (readProjection t) n r2) _ _ (λ ps r3. ap₂ (λ (x : Both) (y : List A). K x y r3) (move-two w m (resolve w e) (resolves w (exprs ps done)) (kindsE w e general) (kindsEs w (exprs ps done) plain) (bindersE e) (binders (exprs ps done)) s) (later a e ps))
+              ∙ ih (qs ++ keep (aliasOf a) (direct e) (act w m general e s .names .visible)) K (act w m general e s) r2
+          one ih a (no c) = refl
 
-        one : Projected C m n → (a : ℕ) (g : Got Expr) → bind (bind (bind g (λ e r2. ok (projection (aliasOf a) e) r2)) (λ x r2. bind (many (readProjection t) n r2) (λ xs r3. ok (x ∷ xs) r3))) F ≡ bind g (λ e r2. M a e (direct e) r2)
-        one ih a (ok e r2) =
-            bind-bind (many (readProjection t) n r2) (λ xs r3. ok (projection (aliasOf a) e ∷ xs) r3) F
-            ∙ bind-each (many (readProjection t) n r2) _ _ (λ ps r3. ap₂ (λ (x : Both) (y : List Pair). K x y r3) (move-two w m (resolve w e) (resolves w (exprs ps done)) (kindsE w e general) (kindsEs w (exprs ps done) plain) (bindersE e) (binders (exprs ps done)) s) (later a e ps))
-            ∙ ih (qs ++ carries w (aliasOf a) (direct e) (act w m general e s .names .visible)) K (act w m general e s) r2
-        one ih a (no c) = refl
+          back : (a : ℕ) (d : Direct) (g : Got Expr) → bind g (λ e r2. M a e d r2) ≡ bind (bind (bind g (λ e r2. ok (act w m general e s) r2)) (λ u r2. projectionsGo w t keep m n (qs ++ keep (aliasOf a) d (u .names .visible)) u r2)) (λ x r3. K (x .0) (x .1) r3)
+          back a d (ok e r2) = refl
+          back a d (no c) = refl
 
-        back : (a : ℕ) (d : Direct) (g : Got Expr) → bind g (λ e r2. M a e d r2) ≡ bind (bind (bind g (λ e r2. ok (act w m general e s) r2)) (λ u r2. projectionsGo w t m n (qs ++ carries w (aliasOf a) d (u .names .visible)) u r2)) (λ x r3. K (x .0) (x .1) r3)
-        back a d (ok e r2) = refl
-        back a d (no c) = refl
-
-        word : Projected C m n → (g : Got ℕ) → bind (bind (bind g (λ a r1. bind (clauseExpr t r1) (λ e r2. ok (projection (aliasOf a) e) r2))) (λ x r2. bind (many (readProjection t) n r2) (λ xs r3. ok (x ∷ xs) r3))) F
-            ≡ bind (bind g (λ a r1. bind (within w t m general s r1) (λ u r2. projectionsGo w t m n (qs ++ carries w (aliasOf a) (directOf (readForm (t .names) r1)) (u .names .visible)) u r2))) (λ x r3. K (x .0) (x .1) r3)
-        word ih (ok a r1) = rw (apart w t free maxDepth m general s r1) (one ih a (clauseExpr t r1) ∙ direct-read t 47 r1 (M a) ∙ back a (directOf (readForm (t .names) r1)) (clauseExpr t r1))
-        word ih (no c) = refl
+          word : Projected n → (g : Got ℕ) → bind (bind (bind g (λ a r1. bind (clauseExpr t r1) (λ e r2. ok (projection (aliasOf a) e) r2))) (λ x r2. bind (many (readProjection t) n r2) (λ xs r3. ok (x ∷ xs) r3))) F
+              ≡ bind (bind g (λ a r1. bind (within w t m general s r1) (λ u r2. projectionsGo w t keep m n (qs ++ keep (aliasOf a) (directOf (readForm (t .names) r1)) (u .names .visible)) u r2))) (λ x r3. K (x .0) (x .1) r3)
+          word ih (ok a r1) = rw (apart w t free maxDepth m general s r1) (one ih a (clauseExpr t r1) ∙ direct-read t 47 r1 (M a) ∙ back a (directOf (readForm (t .names) r1)) (clauseExpr t r1))
+          word ih (no c) = refl
 
     module _ (m : Mode) (a b : ℕ) where
       opening-law : (o : Opening) (s : Both) (r : List ℕ) → after (walks m) (readOpening t a b o) s r ≡ openingGo w t m a b o s r
@@ -182,7 +252,7 @@ module _ (w : World) where
 
       where-law : (s : Both) (r : List ℕ) → after (walks m) (readWhere t a b) s r ≡ rowGo (within w t m) 1 plain s r
       unfolding readWhere
-      where-law s r = reads-law where' (times 1 (clauseExpr t) noMore r) s ∙ row-law m 1 s r
+      where-law s r = reads-law where' (times 1 (clauseExpr t) noMore r) s ∙ row-law w t free m 1 s r
 
       marked-law : (which : Reading) (kind : ℕ) (s : Both) (r : List ℕ) → after (walks m) (readMarked t a b which kind) s r ≡ markedGo w t m a b kind s r
       unfolding readMarked countedMarks markedGo
@@ -192,88 +262,123 @@ module _ (w : World) where
           go (ok n r1) = marks-law w t free (within w t) (clauseExpr t) (apart w t free maxDepth) m kind n s r1
           go (no c) = refl
 
-      counted-law : (m : Mode) (s : Both) (r : List ℕ) → after (acts w m plain) (countedExprs t) s r ≡ countedRow w t m s r
-      unfolding countedExprs
-      counted-law m s r = go (anyWord r)
-        where
-          go : (g : Got ℕ) → bind (bind g (λ n r1. times n (clauseExpr t) noMore r1)) (λ es r2. ok (acts w m plain es s) r2) ≡ bind g (λ n r1. rowGo (within w t m) n plain s r1)
-          go (ok n r1) = row-law m n s r1
-          go (no c) = refl
-
       delete-law : (s : Both) (r : List ℕ) → after (walks m) (readDelete t a b) s r ≡ countedRow w t m s r
       unfolding readDelete
-      delete-law s r = reads-law delete (countedExprs t r) s ∙ counted-law m s r
+      delete-law s r = reads-law delete (countedExprs t r) s ∙ counted-law w t free m s r
 
-      -- WITH: its projections, its filter, and what it carries
-      with-step : (ps : List Projection) (es : Exprs) (s : Both) → let qs = carriedBy w ps (s .names .visible) in
-          walks m (with' a b ps es) s ≡ step m (λ y. fresh w b qs (barrier w a b qs y)) [] (acts w m plain es (acts w m plain (exprs ps done) s))
+      -- WITH: its projections and its filter, then its new Root, and its sort keys, which see what was visible before it too
+      abbrev filtered : List Projection → Exprs → Both → Both
+      filtered ps es s = acts w m plain es (acts w m plain (exprs ps done) s)
+
+      abbrev rooted : List Projection → Exprs → Both → Both
+      rooted ps es s = rootedBy w t m a b (carriedBy w ps (s .names .visible)) (filtered ps es s)
+
+      with-step : (ps : List Projection) (es : Exprs) (ks : Keys) (s : Both) → walks m (with' a b ps es ks) s ≡ left m (rooted ps es s) (acts w m plain (keysOf ks) (beside m s (rooted ps es s)))
       unfolding clause kindsC bindersC
-      with-step ps es s = λ i. record { names = named (m .resolves) i; kinds = found (m .checks) i; known = bound i }
+      with-step ps es ks s = λ i. record { names = named (m .resolves) i; kinds = found (m .checks) i; known = bound i }
         where
-          qs : List Pair
-          qs = carriedBy w ps (s .names .visible)
+          root : State → State
+          root y = let qs = carriedBy w ps (s .names .visible) in fresh w b qs (barrier w a b qs y)
 
-          named : (q : Bool) → when q (clause w (with' a b ps es)) (s .names) ≡ when q (λ y. fresh w b qs (barrier w a b qs y)) (when q (resolves w es) (when q (resolves w (exprs ps done)) (s .names)))
-          named true = ap (λ (y : State). fresh w b qs (barrier w a b qs y)) (resolves-exprs ps es (s .names))
+          named : (q : Bool) → when q (clause w (with' a b ps es ks)) (s .names) ≡ (let u = when q (resolves w es) (when q (resolves w (exprs ps done)) (s .names)) in let v = when q root u in when q (leave v) (when q (resolves w (keysOf ks)) (when q (standing (v .visible ++ s .names .visible) (v .cur)) v)))
+          named true = unfold sortBy in ap (λ (y : State). sortBy w (keysOf ks) (s .names .visible) (root y)) (resolves-exprs ps es (s .names))
           named false = refl
 
-          found : (q : Bool) → when q (told (kindsEs w (exprs ps es) plain)) (s .kinds) ≡ when q (told []) (when q (told (kindsEs w es plain)) (when q (told (kindsEs w (exprs ps done) plain)) (s .kinds)))
-          found true = unfold told in rw (kinds-exprs ps es) (told-append (kindsEs w (exprs ps done) plain) (kindsEs w es plain) (s .kinds))
+          found : (q : Bool) → when q (told (kindsEs w (exprs ps es) plain ++ kindsEs w (keysOf ks) plain)) (s .kinds) ≡ when q (told (kindsEs w (keysOf ks) plain)) (when q (told []) (when q (told (kindsEs w es plain)) (when q (told (kindsEs w (exprs ps done) plain)) (s .kinds))))
+          found true =
+              unfold told in rw (kinds-exprs ps es)
+              (told-append (kindsEs w (exprs ps done) plain ++ kindsEs w es plain) (kindsEs w (keysOf ks) plain) (s .kinds)
+              ∙ ap (told (kindsEs w (keysOf ks) plain)) (told-append (kindsEs w (exprs ps done) plain) (kindsEs w es plain) (s .kinds)))
           found false = refl
 
-          bound : (s .known && allKnown (hasRow w) (flatMap bindersP ps ++ binders es)) ≡ (s .known && allKnown (hasRow w) (binders (exprs ps done)) && allKnown (hasRow w) (binders es))
-          bound = rw (binders-exprs ps) (known-two (hasRow w) (s .known) (flatMap bindersP ps) (binders es))
+          bound : (s .known && allKnown (hasRow w) (flatMap bindersP ps ++ binders es ++ binders (keysOf ks))) ≡ (s .known && allKnown (hasRow w) (binders (exprs ps done)) && allKnown (hasRow w) (binders es) && allKnown (hasRow w) (binders (keysOf ks)))
+          bound =
+              rw (binders-exprs ps)
+              (known-two (hasRow w) (s .known) (flatMap bindersP ps ++ binders es) (binders (keysOf ks))
+              ∙ ap (λ (q : Bool). q && allKnown (hasRow w) (binders (keysOf ks))) (known-two (hasRow w) (s .known) (flatMap bindersP ps) (binders es)))
 
-      with-law : (s : Both) (r : List ℕ) → after (walks m) (readWith t a b) s r ≡ withGo w t m a b s r
-      unfolding readWith counted withGo
-      with-law s r = go (anyWord r)
+      -- without sort keys the new Root stays as it is
+      beside-left : (u v : Both) → left m v (beside m u v) ≡ v
+      beside-left u v = λ i. record { names = go (m .resolves) i; kinds = v .kinds; known = v .known }
         where
-          -- the filter, and the step
-          K : Both → List Pair → List ℕ → Got Both
-          K u qs r2 = bind (flag r2) (λ g r3. bind (rowGo (within w t m) g plain u r3) (λ v r4. ok (step m (λ y. fresh w b qs (barrier w a b qs y)) [] v) r4))
+          go : (q : Bool) → when q (leave (v .names)) (when q (standing (v .names .visible ++ u .names .visible) (v .names .cur)) (v .names)) ≡ v .names
+          go true = refl
+          go false = refl
 
-          filter : (ps : List Projection) (g : Got ℕ) → bind (bind g (λ n r2. bind (times n (clauseExpr t) noMore r2) (λ es r3. ok (with' a b ps es) r3))) (λ c r3. ok (walks m c s) r3)
-              ≡ bind g (λ n r3. bind (rowGo (within w t m) n plain (acts w m plain (exprs ps done) s) r3) (λ v r4. ok (step m (λ y. fresh w b (carriedBy w ps (s .names .visible)) (barrier w a b (carriedBy w ps (s .names .visible)) y)) [] v) r4))
+      sort-law : (sorts : Bool) (u v : Both) (r : List ℕ) → bind (keyRow w t m sorts (beside m u v) r) (λ z r2. ok (left m v z) r2) ≡ sortGo w t m a b sorts u v r
+      sort-law false u v r = ap (λ (x : Both). ok x r) (beside-left u v)
+      sort-law true u v r = refl
+
+      with-law : (sorts : Bool) (s : Both) (r : List ℕ) → after (walks m) (readWith t a b (readKeys t sorts)) s r ≡ withGo w t m a b sorts s r
+      unfolding readWith counted withGo
+      with-law sorts s r = go (anyWord r)
+        where
+          -- the filter, the new Root, the sort keys
+          K : Both → List Pair → List ℕ → Got Both
+          K x qs r2 = bind (flag r2) (λ g r3. bind (rowGo (within w t m) g plain x r3) (λ u r4. sortGo w t m a b sorts s (rootedBy w t m a b qs u) r4))
+
+          keys : (ps : List Projection) (es : Exprs) (r : List ℕ) → bind (bind (readKeys t sorts r) (λ ks r2. ok (with' a b ps es ks) r2)) (λ c r2. ok (walks m c s) r2) ≡ sortGo w t m a b sorts s (rooted ps es s) r
+          keys ps es r =
+              keys-law w t free m sorts (λ ks. with' a b ps es ks) (λ c. walks m c s) (left m (rooted ps es s)) (beside m s (rooted ps es s)) (λ ks. with-step ps es ks s) r
+              ∙ sort-law sorts s (rooted ps es s) r
+
+          filter : (ps : List Projection) (g : Got ℕ) → bind (bind g (λ n r2. bind (times n (clauseExpr t) noMore r2) (λ es r3. bind (readKeys t sorts r3) (λ ks r4. ok (with' a b ps es ks) r4)))) (λ c r3. ok (walks m c s) r3)
+              ≡ bind g (λ n r3. bind (rowGo (within w t m) n plain (acts w m plain (exprs ps done) s) r3) (λ u r4. sortGo w t m a b sorts s (rootedBy w t m a b (carriedBy w ps (s .names .visible)) u) r4))
           filter ps (ok n r2) =
-              rw (← (row-law m n (acts w m plain (exprs ps done) s) r2))
-              (map-map (times n (clauseExpr t) noMore r2) (λ es. with' a b ps es) (λ c. walks m c s)
-              ∙ each (times n (clauseExpr t) noMore r2) _ _ (λ es. with-step ps es s)
-              ∙ sym (map-map (times n (clauseExpr t) noMore r2) (λ es. acts w m plain es (acts w m plain (exprs ps done) s)) (λ v. step m (λ y. fresh w b (carriedBy w ps (s .names .visible)) (barrier w a b (carriedBy w ps (s .names .visible)) y)) [] v)))
+              rw (← (row-law w t free m n (acts w m plain (exprs ps done) s) r2))
+              (bind-bind (times n (clauseExpr t) noMore r2) (λ es r3. bind (readKeys t sorts r3) (λ ks r4. ok (with' a b ps es ks) r4)) (λ c r3. ok (walks m c s) r3)
+              ∙ bind-each (times n (clauseExpr t) noMore r2) _ _ (keys ps)
+              ∙ sym (bind-bind (times n (clauseExpr t) noMore r2) (λ es r3. ok (filtered ps es s) r3) (λ u r4. sortGo w t m a b sorts s (rootedBy w t m a b (carriedBy w ps (s .names .visible)) u) r4)))
           filter ps (no c) = refl
 
-          go : (g : Got ℕ) → bind (bind (bind g (λ n r1. many (readProjection t) n r1)) (λ ps r2. bind (flag r2) (λ n r3. bind (times n (clauseExpr t) noMore r3) (λ es r4. ok (with' a b ps es) r4)))) (λ c r2. ok (walks m c s) r2)
-              ≡ bind g (λ n r1. bind (projectionsGo w t m n [] s r1) (λ x r2. K (x .0) (x .1) r2))
+          go : (g : Got ℕ) → bind (bind (bind g (λ n r1. many (readProjection t) n r1)) (λ ps r2. bind (flag r2) (λ n r3. bind (times n (clauseExpr t) noMore r3) (λ es r4. bind (readKeys t sorts r4) (λ ks r5. ok (with' a b ps es ks) r5))))) (λ c r2. ok (walks m c s) r2)
+              ≡ bind g (λ n r1. bind (projectionsGo w t (carries w) m n [] s r1) (λ x r2. K (x .0) (x .1) r2))
           go (ok n r1) =
-              bind-bind (many (readProjection t) n r1) (λ ps r2. bind (flag r2) (λ n r3. bind (times n (clauseExpr t) noMore r3) (λ es r4. ok (with' a b ps es) r4))) (λ c r2. ok (walks m c s) r2)
-              ∙ bind-each (many (readProjection t) n r1) _ _ (λ ps r2. filter ps (flag r2))
-              ∙ projections-law m n [] K s r1
+              bind-bind (many (readProjection t) n r1) (λ ps r2. bind (flag r2) (λ n r3. bind (times n (clauseExpr t) noMore r3) (λ es r4. bind (readKeys t sorts r4) (λ ks r5. ok (with' a b ps es ks) r5)))) (λ c r2. ok (walks m c s) r2)
+              ∙ bind-each (many (readProjection t) n r1) _ _ (λ ps r2. filter ps (flag r2) ∙ ap (λ (qs : List Pair). K (acts w m plain (exprs ps done) s) qs r2) (carries-kept w ps (s .names .visible)))
+              ∙ projections-law (carries w) m n [] K s r1
           go (no c) = refl
 
-      -- Return looks from outside its scope
-      return-step : (ps : List Projection) (s : Both) → walks m (return a b ps) s ≡ returned m s (acts w m plain (exprs ps done) (step m (λ y. leave y (enter returnScope a b y)) [] s))
+      -- Return looks from outside its scope, and so do its sort keys
+      abbrev outside : Both → Both
+      outside = step m (λ y. leave y (enter returnScope a b y)) []
+
+      return-step : (ps : List Projection) (ks : Keys) (s : Both) → walks m (return a b ps ks) s ≡ returned m s (acts (hush (aliases ps) w) m plain (keysOf ks) (acts w m plain (exprs ps done) (outside s)))
       unfolding clause kindsC bindersC
-      return-step ps s = λ i. record { names = named (m .resolves) i; kinds = found (m .checks) i; known = s .known && allKnown (hasRow w) (sym (binders-exprs ps) i) }
+      return-step ps ks s = λ i. record { names = named (m .resolves) i; kinds = found (m .checks) i; known = bound i }
         where
-          named : (q : Bool) → when q (clause w (return a b ps)) (s .names) ≡ when q (standing (s .names .visible) (suc (s .names .last))) (when q (resolves w (exprs ps done)) (when q (λ y. leave y (enter returnScope a b y)) (s .names)))
+          named : (q : Bool) → when q (clause w (return a b ps ks)) (s .names) ≡ when q (standing (s .names .visible) (suc (s .names .last))) (when q (resolves (hush (aliases ps) w) (keysOf ks)) (when q (resolves w (exprs ps done)) (when q (λ y. leave y (enter returnScope a b y)) (s .names))))
           named true = refl
           named false = refl
 
-          found : (q : Bool) → when q (told (kindsEs w (exprs ps done) plain)) (s .kinds) ≡ when q (told (kindsEs w (exprs ps done) plain)) (when q (told []) (s .kinds))
-          found true = unfold told in refl
+          found : (q : Bool) → when q (told (kindsEs w (exprs ps done) plain ++ kindsEs w (keysOf ks) plain)) (s .kinds) ≡ when q (told (kindsEs (hush (aliases ps) w) (keysOf ks) plain)) (when q (told (kindsEs w (exprs ps done) plain)) (when q (told []) (s .kinds)))
+          found true = unfold told in rw (kinds-hush (aliases ps) w (keysOf ks) plain) (told-append (kindsEs w (exprs ps done) plain) (kindsEs w (keysOf ks) plain) (s .kinds))
           found false = refl
 
-      return-law : (s : Both) (r : List ℕ) → after (walks m) (readReturn t a b) s r ≡ returnGo w t m a b s r
-      unfolding readReturn counted returnGo
-      return-law s r = go (anyWord r)
-        where
-          s1 : Both
-          s1 = step m (λ y. leave y (enter returnScope a b y)) [] s
+          bound : (s .known && allKnown (hasRow w) (flatMap bindersP ps ++ binders (keysOf ks))) ≡ (s .known && allKnown (hasRow w) (binders (exprs ps done)) && allKnown (hasRow w) (binders (keysOf ks)))
+          bound = rw (binders-exprs ps) (known-two (hasRow w) (s .known) (flatMap bindersP ps) (binders (keysOf ks)))
 
-          go : (g : Got ℕ) → bind (bind (bind g (λ n r1. many (readProjection t) n r1)) (λ ps r2. ok (return a b ps) r2)) (λ c r2. ok (walks m c s) r2) ≡ bind g (λ n r1. bind (projectionsGo w t m n [] s1 r1) (λ x r2. ok (returned m s (x .0)) r2))
+      hushed-law : (sorts : Bool) (xs : List ℕ) (s : Both) (r : List ℕ) → keyRow (hush xs w) t m sorts s r ≡ keysGo w t m a b sorts xs s r
+      hushed-law false xs s r = refl
+      hushed-law true xs s r = refl
+
+      return-law : (sorts : Bool) (s : Both) (r : List ℕ) → after (walks m) (readReturn t a b (readKeys t sorts)) s r ≡ returnGo w t m a b sorts s r
+      unfolding readReturn counted returnGo
+      return-law sorts s r = go (anyWord r)
+        where
+          K : Both → List ℕ → List ℕ → Got Both
+          K x xs r2 = bind (keysGo w t m a b sorts xs x r2) (λ u r3. ok (returned m s u) r3)
+
+          keys : (ps : List Projection) (r : List ℕ) → bind (bind (readKeys t sorts r) (λ ks r2. ok (return a b ps ks) r2)) (λ c r2. ok (walks m c s) r2) ≡ K (acts w m plain (exprs ps done) (outside s)) (aliases ps) r
+          keys ps r =
+              keys-law (hush (aliases ps) w) t free m sorts (λ ks. return a b ps ks) (λ c. walks m c s) (returned m s) (acts w m plain (exprs ps done) (outside s)) (λ ks. return-step ps ks s) r
+              ∙ ap (λ (g : Got Both). bind g (λ u r2. ok (returned m s u) r2)) (hushed-law sorts (aliases ps) (acts w m plain (exprs ps done) (outside s)) r)
+
+          go : (g : Got ℕ) → bind (bind (bind g (λ n r1. many (readProjection t) n r1)) (λ ps r2. bind (readKeys t sorts r2) (λ ks r3. ok (return a b ps ks) r3))) (λ c r2. ok (walks m c s) r2) ≡ bind g (λ n r1. bind (projectionsGo w t aliased m n [] (outside s) r1) (λ x r2. K (x .0) (x .1) r2))
           go (ok n r1) =
-              map-map (many (readProjection t) n r1) (λ ps. return a b ps) (λ c. walks m c s)
-              ∙ each (many (readProjection t) n r1) _ _ (λ ps. return-step ps s)
-              ∙ projections-law m n [] (λ u qs r2. ok (returned m s u) r2) s1 r1
+              bind-bind (many (readProjection t) n r1) (λ ps r2. bind (readKeys t sorts r2) (λ ks r3. ok (return a b ps ks) r3)) (λ c r2. ok (walks m c s) r2)
+              ∙ bind-each (many (readProjection t) n r1) _ _ (λ ps r2. keys ps r2 ∙ ap (λ (xs : List ℕ). K (acts w m plain (exprs ps done) (outside s)) xs r2) (aliases-kept ps (outside s .names .visible)))
+              ∙ projections-law aliased m n [] K (outside s) r1
           go (no c) = refl
 
       -- "Unwind's list, Call's arguments .. are not resolved"
@@ -323,7 +428,7 @@ module _ (w : World) where
 
       call-law : (s : Both) (r : List ℕ) → after (walks m) (readCall t a b) s r ≡ callGo w t m a b s r
       unfolding readCall counted callGo
-      call-law s r = rw (← (counted-law (unresolving m) s1 r)) (go (countedExprs t r))
+      call-law s r = rw (← (counted-law w t free (unresolving m) s1 r)) (go (countedExprs t r))
         where
           s1 : Both
           s1 = step m (enter callScope a b) [] s
@@ -351,14 +456,16 @@ module _ (w : World) where
       body-law kind s r =
           entry (eqb kind 1) _ _ _ _ s (match-law s r)
           (entry (eqb kind 2) _ _ _ _ s (where-law s r)
-          (entry (eqb kind 3) _ _ _ _ s (with-law s r)
-          (entry (eqb kind 4) _ _ _ _ s (return-law s r)
+          (entry (eqb kind 3) _ _ _ _ s (with-law false s r)
+          (entry (eqb kind 4) _ _ _ _ s (return-law false s r)
           (entry (eqb kind 5) _ _ _ _ s (unwind-law s r)
           (entry (eqb kind 6) _ _ _ _ s (opening-law create s r)
           (entry (eqb kind 7) _ _ _ _ s (opening-law merge s r)
           (entry (eqb kind 8) _ _ _ _ s (marked-law set 1 s r)
           (entry (eqb kind 9) _ _ _ _ s (marked-law remove 2 s r)
-          (entry (eqb kind 10) _ _ _ _ s (delete-law s r) (entry (eqb kind 11) _ _ _ _ s (call-law s r) refl))))))))))
+          (entry (eqb kind 10) _ _ _ _ s (delete-law s r)
+          (entry (eqb kind 11) _ _ _ _ s (call-law s r)
+          (entry (eqb kind 12) _ _ _ _ s (with-law true s r) (entry (eqb kind 13) _ _ _ _ s (return-law true s r) refl))))))))))))
 
     -- A clause: read as the definition reads it, where any variable may be bound, and then walked by both.
     pub apart-clause : (m : Mode) (s : Both) (r : List ℕ) → clauseGo w t m s r ≡ after (walks m) (readClause t) s r

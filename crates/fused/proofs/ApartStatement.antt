@@ -22,8 +22,8 @@ use Rattle.fused.specs.Sheet.{sheetGo}
 use Rattle.fused.proofs.ApartSheet.{leaves, apart-sheet}
 
 -- two Worlds that say the same of every name and variable
-pub world-same : (w v : World) → ((x : ℕ) → w .id x ≡ v .id x) → ((x : ℕ) → w .isStar x ≡ v .isStar x) → ((x : ℕ) → w .isId x ≡ v .isId x) → ((x : ℕ) → w .row x ≡ v .row x) → w .warns ≡ v .warns → w ≡ v
-world-same w v ids stars isIds rows warns = λ i. record { id = λ x. ids x i; isStar = λ x. stars x i; isId = λ x. isIds x i; row = λ x. rows x i; warns = warns i }
+pub world-same : (w v : World) → ((x : ℕ) → w .id x ≡ v .id x) → ((x : ℕ) → w .isStar x ≡ v .isStar x) → ((x : ℕ) → w .isId x ≡ v .isId x) → ((x : ℕ) → w .hushed x ≡ v .hushed x) → ((x : ℕ) → w .row x ≡ v .row x) → w .warns ≡ v .warns → w ≡ v
+world-same w v ids stars isIds hushed rows warns = λ i. record { id = λ x. ids x i; isStar = λ x. stars x i; isId = λ x. isIds x i; hushed = λ x. hushed x i; row = λ x. rows x i; warns = warns i }
 
 -- the statement of a sheet, by its parts; the World is known before head and arms are read
 abbrev pub stated : List (List ℕ) → List Row → Places → List Clause × List Arm → Statement

@@ -44,10 +44,10 @@ directOf (no c) = other
 abbrev pub returned : Mode → Both → Both → Both
 returned m s u = record { names = when (m .resolves) (standing (s .names .visible) (suc (s .names .last))) (u .names); kinds = u .kinds; known = u .known }
 
--- in the new Root of a WITH, v, what was visible before it, at u, is seen too
+-- in the new Root of a WITH, v, what was visible before it, at s, is seen too
 abbrev pub beside : Mode → Both → Both → Both
-beside m u v =
-    record { names = when (m .resolves) (standing (v .names .visible ++ u .names .visible) (v .names .cur)) (v .names); kinds = v .kinds; known = v .known }
+beside m s v =
+    record { names = when (m .resolves) (standing (v .names .visible ++ s .names .visible) (v .names .cur)) (v .names); kinds = v .kinds; known = v .known }
 
 -- the alias of a projection, whatever its expression
 abbrev pub aliased : Option ℕ → Direct → List Seen → List ℕ
@@ -94,14 +94,14 @@ module _ (w : World) (t : Tables) where
     rootedBy ps = step m (λ y. fresh w b ps (barrier w a b ps y)) []
 
     abbrev pub sortGo : Bool → Both → Both → List ℕ → Got Both
-    sortGo false u v r = ok v r
-    sortGo true u v r = bind (countedRow w t m (beside m u v) r) (λ z r2. ok (left m v z) r2)
+    sortGo false s v r = ok v r
+    sortGo true s v r = bind (countedRow w t m (beside m s v) r) (λ z r2. ok (left m v z) r2)
 
     unfoldable pub withGo : Bool → Go
     withGo sorts s r =
         bind (anyWord r)
         (λ n r1. bind (projectionsGo w t (carries w) m n [] s r1)
-        (λ x r2. bind (flag r2) (λ g r3. bind (rowGo (within w t m) g plain (x .0) r3) (λ u r4. sortGo sorts u (rootedBy (x .1) u) r4))))
+        (λ x r2. bind (flag r2) (λ g r3. bind (rowGo (within w t m) g plain (x .0) r3) (λ u r4. sortGo sorts s (rootedBy (x .1) u) r4))))
 
     -- a RETURN's sort keys, if it has them, where its aliases are no use
     abbrev pub keysGo : Bool → List ℕ → Go

@@ -15,7 +15,8 @@ use Rattle.fused.specs.Sheet.{headGo, armsGo}
 use Rattle.steps.specs.Memory.{atOf}
 use Rattle.steps.specs.Hold.{Fit, Ready}
 use Rattle.walk.specs.Goes.{Goer}
-use Rattle.clause_walk.specs.Passes.{Passes, PassesAs, clausesAt, armsAt}
+use Rattle.clause_parts.specs.Passes.{Passes, PassesAs}
+use Rattle.clause_walk.specs.Clauses.{clausesAt, armsAt}
 use Rattle.sheet_walk.specs.Parts.{Set, Wide, Stands, Walker, DoneAs, Walks, headIn, armsIn}
 use Rattle.sheet_walk.proofs.Part.{fine-part, world-part}
 

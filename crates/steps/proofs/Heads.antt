@@ -5,8 +5,8 @@
 -- Steps of which nothing is to be done (`idle-as`), of findings alone (`none-told`, `one-told`, `as-kinds`), and in a mode in which one of
 -- the walks looks or does not (`checked-step`, `unchecked-step`, `resolved-step`, `unresolved-step`).
 -- A use of a variable: `var-said`, `var-unresolved`, `quiet-use`, `rowless-use`, `checked-use`, `unchecked-use`. Of a name: `unwanted-name`,
--- `missing-name`, `found-name`; then E1001, `missed-use`, `star-use`, `seen-use`. A head by its act: `named-act`, `ready-act`, `by-act`; after
--- its parts, `closed-fits`, `closed-frame`, `closed-stays`, `closed-holds`.
+-- `missing-name`, `found-name`; a marked name, `hushed-use`; then E1001, `missed-use`, `star-use`, `seen-use`. A head by its act: `named-act`,
+-- `ready-act`, `by-act`; after its parts, `closed-fits`, `closed-frame`, `closed-stays`, `closed-holds`.
 use Prim.Native.Nat.{ℕ, zero, suc, _+_, _-_, _%_, _/_, _<_, _≤_}
 use native.Mathlib.Numerals.{add-one}
 use native.Mathlib.Omega.{arith}
@@ -17,19 +17,19 @@ use mathlib.Core.Option.{Option, none, some}
 use mathlib.Core.Logic.{_⊎_, inl, inr, ⊎-elim}
 use lib.Dec.{eqb, lit<}
 use lib.ListN.{length, getD}
-use borrow.Author.Tests.{eq-eqb, ne-eqb, eqb-true, eqb-false, le-leb, lt-leb}
+use borrow.Author.Tests.{eq-eqb, ne-eqb, eqb-true, eqb-false, le-leb, lt-leb, lt-ltb}
 use Rattle.heads.specs.declared.Form.{Form}
 use Rattle.heads.specs.declared.Form.the-variants.{Leaf, Var, Unresolved, Prop, Two, Slice, Many, BinOp, UnaryOp, Case, IsNull, PatternPredicate, ListComprehension, PatternComprehension, ListPredicate, MapProjection}
 use Rattle.tables.specs.Row.{Row, row}
 use Rattle.semantics.specs.Log.{Finding, finding, find}
 use Rattle.semantics.specs.World.{World, rowKind, kindOf}
-use Rattle.semantics.specs.Resolve.{State, lookup, say, sayIf, leave, useVar, useName}
+use Rattle.semantics.specs.Resolve.{State, lookup, say, sayIf, leave, useVar, useName, visit}
 use Rattle.semantics.specs.Kinds.{Setting, general, arithmetic, property, boolean, listed, both, passes, atType, atRow}
 use Rattle.fused.specs.Fused.{Both, Mode, when, told, step, same, left, tailOf, nameUse, headOf}
 use Rattle.visible.specs.Visible.{answer, seens, Tabled}
 use Rattle.visible.specs.declared.Found.the-variants as found'
 use Rattle.visible.proofs.Names.{zero-unseen, unseen-zero}
-use Rattle.steps.specs.Memory.{atOf, topOf, curOf, slotsIn, starIn, wantsIn, kept, worldAt, settingOf, firstOf, modeOf, quiet}
+use Rattle.steps.specs.Memory.{atOf, topOf, curOf, slotsIn, starIn, wantsIn, hushedIn, kept, worldAt, settingOf, firstOf, modeOf, quiet}
 use Rattle.steps.specs.Hold.{Fits, Holds, Frame, Steps, Ready, Says, SaysIf, Tells, shown, AtRow, actOf, acts, opensIn, ClosedIf, Closed, costIn, costOf, NamedIn, Named, onNames, onKinds, varRecord, nameRecord, pairOf}
 use Rattle.steps.specs.declared.row.Row.the-variants as row'
 use Rattle.steps.specs.declared.head.Act.{Act}
@@ -339,24 +339,36 @@ module _ {ws tab m vis found : List ℕ} (x : ℕ) where
         go none e = cc e
         go (some u) e = cc e
 
+-- a name is hushed as its mark says, and then nothing is said
+hush : (tab : List ℕ) {x : ℕ} {b : Bool} → x < slotsIn tab → eqb (getD tab (16 + x) 0) 1 ≡ b → hushedIn tab x ≡ b
+hush tab {x} h e = rw (lt-ltb x (slotsIn tab) h) e
+
+pub hushed-use : {j : ℕ} {ws tab m vis found : List ℕ} (x : ℕ) → x < slotsIn tab → getD tab (16 + x) 0 ≡ 1 → Steps j ws tab m vis found m vis found (λ id. onNames (nameUse (worldAt ws tab id) x))
+unfolding visit
+hushed-use {tab = tab} x h e = idle-step _ (λ id s k. rw (hush tab h (eq-eqb (getD tab (16 + x) 0) 1 e)) k)
+
 -- E1001, where the name is not visible and is not `*`
-module _ {ws tab m vis found m1 found1 : List ℕ} (x : ℕ) (t : Tabled (slotsIn tab) (topOf m) vis) (h : x < slotsIn tab) (s : Steps 1 ws tab m vis found m1 vis found1 (RecordsAs ws tab x)) where
+module _ {ws tab m vis found m1 found1 : List ℕ} (x : ℕ) (t : Tabled (slotsIn tab) (topOf m) vis) (h : x < slotsIn tab) (u : getD tab (16 + x) 0 ≡ 1 → ⊥) (s : Steps 1 ws tab m vis found m1 vis found1 (RecordsAs ws tab x)) where
+  use-as : (id : ℕ → ℕ) (b : Both) → onNames (λ y. useName (worldAt ws tab id) x (lookup x (y .visible)) y) b ≡ onNames (nameUse (worldAt ws tab id) x) b
+  unfolding visit
+  use-as id b = rw (hush tab h (ne-eqb (getD tab (16 + x) 0) 1 u))
+
   pub missed-use : {m2 found2 : List ℕ} → getD vis x 0 ≡ 0 → (x + 1 ≡ starIn tab → ⊥) → Steps 1 ws tab m1 vis found1 m2 vis found2 (λ id. onNames (say (find (finding 1001 0 0 (x + 1) 0 0)))) →
       Steps 2 ws tab m vis found m2 vis found2 (λ id. onNames (nameUse (worldAt ws tab id) x))
   unfolding useName sayIf
   missed-use z e y =
       instead _ (then-steps s y)
-      (λ id b k. let q : lookup x (b .names .visible) ≡ none = ap (λ l. lookup x l) (sym (k .visible)) ∙ zero-unseen t h z in rw (q, ne-eqb (suc x) (starIn tab) (λ r. e (omega arith)), add-one x))
+      (λ id b k. (let q : lookup x (b .names .visible) ≡ none = ap (λ l. lookup x l) (sym (k .visible)) ∙ zero-unseen t h z in rw (q, ne-eqb (suc x) (starIn tab) (λ r. e (omega arith)), add-one x)) ∙ use-as id b)
 
   pub star-use : getD vis x 0 ≡ 0 → x + 1 ≡ starIn tab → Steps 2 ws tab m vis found m1 vis found1 (λ id. onNames (nameUse (worldAt ws tab id) x))
   unfolding useName sayIf
   star-use z e =
       instead _ (more-steps (omega arith) s)
-      (λ id b k. let q : lookup x (b .names .visible) ≡ none = ap (λ l. lookup x l) (sym (k .visible)) ∙ zero-unseen t h z in rw (q, eq-eqb (suc x) (starIn tab) (omega arith)))
+      (λ id b k. (let q : lookup x (b .names .visible) ≡ none = ap (λ l. lookup x l) (sym (k .visible)) ∙ zero-unseen t h z in rw (q, eq-eqb (suc x) (starIn tab) (omega arith))) ∙ use-as id b)
 
   pub seen-use : (getD vis x 0 ≡ 0 → ⊥) → Steps 2 ws tab m vis found m1 vis found1 (λ id. onNames (nameUse (worldAt ws tab id) x))
   unfolding useName
-  seen-use e = instead _ (more-steps (omega arith) s) (λ id b k. go id b (lookup x (b .names .visible)) (λ q. e (unseen-zero t h (ap (λ l. lookup x l) (k .visible) ∙ q))))
+  seen-use e = instead _ (more-steps (omega arith) s) (λ id b k. go id b (lookup x (b .names .visible)) (λ q. e (unseen-zero t h (ap (λ l. lookup x l) (k .visible) ∙ q))) ∙ use-as id b)
     where
       go : (id : ℕ → ℕ) (b : Both) (o : Option ℕ) → (o ≡ none → ⊥) → onNames (λ y. nameRecord (worldAt ws tab id) x o y) b ≡ onNames (λ y. useName (worldAt ws tab id) x o y) b
       go id b none n = absurd (n refl)

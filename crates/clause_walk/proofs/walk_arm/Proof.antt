@@ -12,11 +12,11 @@ use Rattle.steps.specs.Hold.{onNames}
 use Rattle.walk.proofs.Stage.{start, ready}
 use Rattle.words.specs.Words.{words}
 use Rattle.clause_walk.proofs.Bodies.{cut-all}
-use Rattle.clause_walk.proofs.Passing.{asked, last-one, past, halted}
-use Rattle.clause_walk.proofs.Rescoped.{cleared}
+use Rattle.clause_parts.proofs.Passing.{asked, last-one, past, halted}
+use Rattle.clause_parts.proofs.Cleared.{cleared}
 use Rattle.clause_walk.proofs.walk_arm.Statement.{statement}
 use Rattle.clause_walk.proofs.walk_arm.Tie as tie
-use Rattle.clause_walk.specs.Passes.{armAt, clausesAt}
+use Rattle.clause_walk.specs.Clauses.{armAt, clausesAt}
 
 pub walk-arm-spec : {M : Type 1} → statement M
 unfolding armGo

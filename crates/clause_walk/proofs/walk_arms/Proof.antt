@@ -3,10 +3,10 @@ use native.Mathlib.Omega.{arith}
 use Rattle.heads.proofs.Chain.{fact}
 use Rattle.walk.proofs.Stage.{ready}
 use Rattle.words.specs.Words.{words}
-use Rattle.clause_walk.proofs.Passing.{Turning, begun, turn, fall, over, still-held}
+use Rattle.clause_parts.proofs.Passing.{Turning, begun, turn, fall, over, still-held}
 use Rattle.clause_walk.proofs.walk_arms.Statement.{statement}
 use Rattle.clause_walk.proofs.walk_arms.Tie as tie
-use Rattle.clause_walk.specs.Passes.{armAt}
+use Rattle.clause_walk.specs.Clauses.{armAt}
 
 abbrev Inv-loop : tie.InvT-loop
 Inv-loop s tab m₀ vis₀ found₀ held₀ n left₀ m vis found held left = Turning (words s) tab m₀ vis₀ found₀ held₀ n (armAt (words s) tab 192) m vis found held left

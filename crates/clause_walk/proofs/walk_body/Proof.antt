@@ -7,7 +7,7 @@ use Rattle.semantics.specs.World.{opens}
 use Rattle.steps.proofs.Held.{ready-less}
 use Rattle.walk.proofs.Modes.{in-pair}
 use Rattle.clause_walk.proofs.Bodies.{more, body-is, body-none}
-use Rattle.clause_walk.proofs.Passing.{forget, lend}
+use Rattle.clause_parts.proofs.Passing.{forget, lend}
 use Rattle.clause_walk.proofs.walk_body.Statement.{statement}
 use Rattle.clause_walk.proofs.walk_body.Tie as tie
 

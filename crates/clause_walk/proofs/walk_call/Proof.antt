@@ -12,11 +12,12 @@ use Rattle.steps.proofs.Held.{ready-less}
 use Rattle.steps.specs.Hold.{onNames}
 use Rattle.walk.proofs.Stage.{did, start, ready}
 use Rattle.words.specs.Words.{words}
-use Rattle.clause_walk.proofs.Passing.{asked, went, fell, last-one, past, halted}
+use Rattle.clause_parts.proofs.Passing.{asked, went, fell, last-one, past, halted}
 use Rattle.clause_walk.proofs.Rescoped.{call-as}
 use Rattle.clause_walk.proofs.walk_call.Statement.{statement}
 use Rattle.clause_walk.proofs.walk_call.Tie as tie
-use Rattle.clause_walk.specs.Passes.{callAt, countedAt, yieldsAt}
+use Rattle.clause_parts.specs.Passes.{countedAt}
+use Rattle.clause_walk.specs.Clauses.{callAt, yieldsAt}
 
 pub walk-call-spec : {M : Type 1} → statement M
 walk-call-spec =

@@ -8,10 +8,10 @@ use Rattle.heads.proofs.Chain.{fact, step, last}
 use Rattle.heads.specs.Got.{wordIn}
 use Rattle.walk.proofs.Stage.{start, ready}
 use Rattle.words.specs.Words.{words}
-use Rattle.clause_walk.proofs.Passing.{asked, last-one, past, halted}
+use Rattle.clause_parts.proofs.Passing.{asked, last-one, past, halted}
 use Rattle.clause_walk.proofs.walk_clause.Statement.{statement}
 use Rattle.clause_walk.proofs.walk_clause.Tie as tie
-use Rattle.clause_walk.specs.Passes.{bodyAt}
+use Rattle.clause_walk.specs.Clauses.{bodyAt}
 
 pub walk-clause-spec : {M : Type 1} → statement M
 unfolding clauseGo

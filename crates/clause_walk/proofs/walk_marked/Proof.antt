@@ -11,7 +11,7 @@ use Rattle.steps.specs.Hold.{Ready}
 use Rattle.steps.specs.Memory.{tablesIn, worldAt, modeOf}
 use Rattle.walk.proofs.Stage.{start, ready}
 use Rattle.words.specs.Words.{words}
-use Rattle.clause_walk.proofs.Passing.{forget, last-one, past, halted}
+use Rattle.clause_parts.proofs.Passing.{forget, last-one, past, halted}
 use Rattle.clause_walk.proofs.walk_marked.Statement.{statement}
 use Rattle.clause_walk.proofs.walk_marked.Tie as tie
 

@@ -7,10 +7,10 @@ use Rattle.heads.proofs.Chain.{fact, step, last}
 use Rattle.heads.specs.Got.{wordIn}
 use Rattle.walk.proofs.Stage.{start, ready}
 use Rattle.words.specs.Words.{words}
-use Rattle.clause_walk.proofs.Passing.{last-one, past, halted}
+use Rattle.clause_parts.proofs.Passing.{last-one, past, halted}
 use Rattle.clause_walk.proofs.walk_match.Statement.{statement}
 use Rattle.clause_walk.proofs.walk_match.Tie as tie
-use Rattle.clause_walk.specs.Passes.{scopeAt}
+use Rattle.clause_walk.specs.Clauses.{scopeAt}
 
 pub walk-match-spec : {M : Type 1} → statement M
 walk-match-spec =

@@ -12,11 +12,11 @@ use Rattle.steps.specs.Hold.{onNames}
 use Rattle.steps.specs.Memory.{tablesIn, worldAt, modeOf}
 use Rattle.walk.proofs.Stage.{did, start, ready}
 use Rattle.words.specs.Words.{words}
-use Rattle.clause_walk.proofs.Passing.{forget, last-one}
-use Rattle.clause_walk.proofs.Rescoped.{names-step}
+use Rattle.clause_parts.proofs.Passing.{forget, last-one}
+use Rattle.clause_parts.proofs.Cleared.{names-step}
 use Rattle.clause_walk.proofs.walk_opening.Statement.{statement}
 use Rattle.clause_walk.proofs.walk_opening.Tie as tie
-use Rattle.clause_walk.specs.Passes.{scopeAt}
+use Rattle.clause_walk.specs.Clauses.{scopeAt}
 
 pub walk-opening-spec : {M : Type 1} → statement M
 walk-opening-spec =

@@ -11,11 +11,11 @@ use Rattle.semantics.specs.Kinds.{general}
 use Rattle.steps.specs.Memory.{tablesIn, worldAt, modeOf}
 use Rattle.walk.proofs.Stage.{did, start, ready}
 use Rattle.words.specs.Words.{words}
-use Rattle.clause_walk.proofs.Passing.{last-one, past, halted}
+use Rattle.clause_parts.proofs.Passing.{last-one, past, halted}
 use Rattle.clause_walk.proofs.Rescoped.{unwind-as, unresolved-expr}
 use Rattle.clause_walk.proofs.walk_unwind.Statement.{statement}
 use Rattle.clause_walk.proofs.walk_unwind.Tie as tie
-use Rattle.clause_walk.specs.Passes.{unwindAt, unwoundAt}
+use Rattle.clause_walk.specs.Clauses.{unwindAt, unwoundAt}
 
 pub walk-unwind-spec : {M : Type 1} → statement M
 walk-unwind-spec =

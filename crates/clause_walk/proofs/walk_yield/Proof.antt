@@ -15,11 +15,11 @@ use Rattle.steps.specs.Memory.{namesIn, worldAt}
 use Rattle.tables.specs.Row.{valueKind}
 use Rattle.walk.proofs.Stage.{did, start, ready}
 use Rattle.words.specs.Words.{words}
-use Rattle.clause_walk.proofs.Passing.{asked, passed, past, halted, in-range}
+use Rattle.clause_parts.proofs.Passing.{asked, passed, past, halted, in-range}
 use Rattle.clause_walk.proofs.Rescoped.{yield-as, alias-none, alias-some, yield-below}
 use Rattle.clause_walk.proofs.walk_yield.Statement.{statement}
 use Rattle.clause_walk.proofs.walk_yield.Tie as tie
-use Rattle.clause_walk.specs.Passes.{yieldAt}
+use Rattle.clause_walk.specs.Clauses.{yieldAt}
 
 pub walk-yield-spec : {M : Type 1} → statement M
 walk-yield-spec =

@@ -5,10 +5,10 @@ use Rattle.heads.proofs.Chain.{fact}
 use Rattle.steps.specs.Hold.{Ready}
 use Rattle.walk.proofs.Stage.{ready}
 use Rattle.words.specs.Words.{words}
-use Rattle.clause_walk.proofs.Passing.{Turning, begun, turn, fall, over}
+use Rattle.clause_parts.proofs.Passing.{Turning, begun, turn, fall, over}
 use Rattle.clause_walk.proofs.walk_yields.Statement.{statement}
 use Rattle.clause_walk.proofs.walk_yields.Tie as tie
-use Rattle.clause_walk.specs.Passes.{yieldAt}
+use Rattle.clause_walk.specs.Clauses.{yieldAt}
 
 abbrev Inv-loop : tie.InvT-loop
 Inv-loop s tab m₀ vis₀ found₀ head n left₀ m vis found left = Turning (words s) tab m₀ vis₀ found₀ [] n (yieldAt (words s) tab (head .start) (head .end)) m vis found [] left

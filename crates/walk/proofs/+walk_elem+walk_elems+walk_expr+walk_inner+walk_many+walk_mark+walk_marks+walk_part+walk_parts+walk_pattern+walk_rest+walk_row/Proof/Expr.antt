@@ -63,5 +63,5 @@ holds t =
     let s = c .before .before .before .before .before .before .before .before .before .before .before .before .before .before .before .before .before .before .before .before .before .before .before .before .before in let k = c .before .before .before .before .before .before .before .before .before .before .before .before .before in let x = c .before .before .before .before .before .before .before .begin .ensures .at in let y = placed (s .args .m .now) (c .before .before .before .before .before .before .before .before .before .before .before .before .before .before .f .given .0 .1 .0) (s .pre .1 .1 .fit .size) .at in
     (omega (arith, longer k, answer k .within, x, y, s .pre .0), (omega (arith, s .pre .1 .0), ready (omega arith) (s .pre .1 .1) (two (c .before .before .before .before .before .before .before)))))
     (λ c. bad c .sized) (λ c. bad c .seen) (λ c. bad c .wrote) bad  -- same-length to returns-3
-    (λ c κs. let s = c .before .before .before .before .before .before .before .before .before .before .before .before .before .before .before .before .before .before .before .before .before .before .before .before .before .before .before .before .before .before .before .before .before .before .before in let o = three (c .before .before) in (s .pre .1 .1 .fine .long, (o .size, (o .keeps .kept .top, ready {i = 0} (omega arith) (s .pre .1 .1) o .fit .tabled))))  -- finish-requires
+    (λ c κs. let s = c .before .before .before .before .before .before .before .before .before .before .before .before .before .before .before .before .before .before .before .before .before .before .before .before .before .before .before .before .before .before .before .before .before .before .before in let o = three (c .before .before) in (omega (arith, s .pre .1 .1 .fine .long), (o .size, (o .keeps .kept .top, ready {i = 0} (omega arith) (s .pre .1 .1) o .fit .tabled))))  -- finish-requires
     (λ c. ended (c .before .before .before .before) .sized) (λ c. ended (c .before .before .before .before) .seen) (λ c. ended (c .before .before .before .before) .wrote) (λ c. ended (c .before .before .before .before))  -- same-length-4 to returns-4

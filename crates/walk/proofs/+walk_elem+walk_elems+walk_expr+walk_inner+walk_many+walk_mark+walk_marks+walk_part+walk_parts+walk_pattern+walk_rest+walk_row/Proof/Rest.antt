@@ -47,7 +47,7 @@ holds t =
     (λ c κs. let s = c .before .before .before .before .before .before .before .before in (omega (arith, s .pre .0), s .pre .1))  -- walk-inner-requires
     (λ c. bad c .sized) (λ c. bad c .seen) (λ c. bad c .wrote) bad  -- same-length to returns
     (λ c. omega (arith, c .before .before .before .before .before .before .before .before .before .before .before .before .before .before .before .before .fits .mode)) (λ c κs. search needs)  -- mul-calm, kids-of-requires
-    (λ c κs. (c .before .before .before .before .before .before .before .before .before .before .before .before .before .before .before .before .before .before .before .before .pre .1 .1 .fine .long, omega arith))  -- pair-of-requires
+    (λ c κs. (omega (arith, c .before .before .before .before .before .before .before .before .before .before .before .before .before .before .before .before .before .before .before .before .pre .1 .1 .fine .long), omega arith))  -- pair-of-requires
     (λ c. omega (arith, c .pair-of .ensures .0, c .before .before .before .before .before .before .before .before .before .before .before .before .before .before .before .before .before .before .before .before .before .fits .mode))  -- add-walk-many
     (λ c κs. let s = c .before .before .before .before .before .before .before .before .before .before .before .before .before .before .before .before .before .before .before .before .before in let o = one (c .before .before .before .before .before) in (omega (arith, o .from, s .pre .0), (omega (arith, s .pre .1 .0), ready (omega arith) (s .pre .1 .1) o)))  -- walk-many-requires
     (λ c. bad2 c .sized) (λ c. bad2 c .seen) (λ c. bad2 c .wrote) bad2  -- same-length-4 to returns-2

@@ -1,0 +1,4 @@
+pub mod Carrying
+pub mod Projected
+pub mod Rebound
+pub mod Withs

@@ -1,0 +1,307 @@
+-- Projections of a WITH, on the way to the pairs that it carries. A Var or a name is its use (`var-within`, `name-within`, paid by two words:
+-- `var-paid`, `name-paid`) and what it adds (`form-ready`, `form-holding`, `direct-passes`), any other expression is walked and carries nothing
+-- (`other-passes`), no head is refused (`form-refused`). The alias comes first (`alias-ready`, `alias-holding`, `alias-passes`, `alias-refused`).
+-- A loop of them is a walk of which projections are left (`begun`, `turn`, `fall`, `over`, `goes-in`).
+use Prim.Native.Nat.{ℕ, zero, suc, _+_, _-_, _*_, _<_, _≤_}
+use native.Mathlib.Omega.{arith}
+use native.Mathlib.Numerals.{add-one}
+use mathlib.Core.Path.{_≡_, refl, ap, sym, _∙_}
+use mathlib.Core.Bool.{true}
+use mathlib.Core.List.{List, [], _++_, append-nil}
+use mathlib.Core.Option.{Option, none, some}
+use lib.ListN.{length, set, drop}
+use Rattle.heads.specs.Got.{Got, ok, no, bind, wordIn}
+use Rattle.heads.specs.Head.{Tables}
+use Rattle.heads.specs.Answer.{Ans}
+use Rattle.heads.specs.Form.{readForm}
+use Rattle.heads.specs.declared.Form.{Form}
+use Rattle.heads.specs.declared.Form.the-variants.{Var, Unresolved}
+use Rattle.heads.specs.declared.Word.{Word}
+use Rattle.heads.specs.declared.Word.the-variants as word
+use Rattle.clauses.specs.Read.{aliasOf}
+use Rattle.tables.specs.Row.{Row, row}
+use Rattle.semantics.specs.World.{World, Direct, other}
+use Rattle.semantics.specs.Resolve.{Seen, Pair, carries, useVar}
+use Rattle.semantics.specs.Kinds.{general, atRow}
+use Rattle.fused.specs.Fused.{Both, Mode, nameUse, rowGo, rounds, restGo, exprGo}
+use Rattle.fused.specs.Clauses.{within, directForm, directOf, projectionsGo}
+use Rattle.steps.specs.Memory.{atOf, heldOf, namesIn, slotsIn, tablesIn, worldAt, modeOf}
+use Rattle.steps.specs.Hold.{Fit, Holds, Ready, onNames}
+use Rattle.steps.proofs.Held.{lower}
+use Rattle.walk.specs.Goes.{Walked, exprIn}
+use Rattle.walk.proofs.Paid.{form-paid}
+use Rattle.walk.proofs.Stage.{placed, placed-fit, placed-holds}
+use Rattle.clause_parts.specs.Passes.{Next}
+use Rattle.with_walk.specs.Carries.{pairsIn, InNames, Holding, Adds, Carries, carriedAt, projectionsAt}
+use Rattle.clause_parts.proofs.Passing.{goes-on, stays}
+use Rattle.clause_parts.proofs.Cleared.{names-step}
+
+-- ---- the two forms of an expression that may be carried are their use
+general-row : (o : Option Row) → atRow general o ≡ []
+unfolding atRow
+general-row none = refl
+general-row (some (row i x k a b)) = refl
+
+module _ (w : World) (t : Tables) (m : Mode) (s : Both) (r : List ℕ) {r2 : List ℕ} (live : m .resolves ≡ true) where
+  var-at : (d : ℕ) {v : ℕ} → readForm (t .names) r ≡ ok (Var v) r2 → exprGo w t (suc d) m general s r ≡ ok (onNames (useVar w v (w .row v)) s) r2
+  unfolding exprGo restGo rowGo rounds
+  var-at d {v} q = rw (q, general-row (w .row v)) (ap (λ (u : Both). ok u r2) (names-step m (useVar w v (w .row v)) s live))
+
+  name-at : (d : ℕ) {x : ℕ} → readForm (t .names) r ≡ ok (Unresolved x) r2 → exprGo w t (suc d) m general s r ≡ ok (onNames (nameUse w x) s) r2
+  unfolding exprGo restGo rowGo rounds
+  name-at d {x} q = rw q (ap (λ (u : Both). ok u r2) (names-step m (nameUse w x) s live))
+
+  pub var-within : {v : ℕ} → readForm (t .names) r ≡ ok (Var v) r2 → within w t m general s r ≡ ok (onNames (useVar w v (w .row v)) s) r2
+  var-within q = var-at 47 q
+
+  pub name-within : {x : ℕ} → readForm (t .names) r ≡ ok (Unresolved x) r2 → within w t m general s r ≡ ok (onNames (nameUse w x) s) r2
+  name-within q = name-at 47 q
+
+pub none-within : (w : World) (t : Tables) (m : Mode) (s : Both) (r : List ℕ) → readForm (t .names) r ≡ no 5 → within w t m general s r ≡ no 5
+unfolding exprGo
+none-within w t m s r q = rw q
+
+nothing : (w : World) (o : Option ℕ) (vis : List Seen) → carries w o other vis ≡ []
+unfolding carries
+nothing w none vis = refl
+nothing w (some x) vis = refl
+
+-- two words were read of it, and a name is in range
+module _ {ws : List ℕ} {at p : ℕ} {f : Form} {names slots : ℕ} (l : names ≤ slots) (a : Ans ws at (readForm names (drop at ws)) (ok f (drop p ws)) p) where
+  pub var-paid : {v : ℕ} → f ≡ Var v → at + 2 ≤ p
+  var-paid e = let z = rw e at (form-paid ws at p names slots f l a .0) in omega (arith, z)
+
+  pub name-paid : {x : ℕ} → f ≡ Unresolved x → (at + 2 ≤ p) × (x < slots)
+  name-paid e = let z = rw e at (form-paid ws at p names slots f l a) in (omega (arith, z .0), z .1)
+
+-- ---- after the alias
+module _ {ws tab m vis found held : List ℕ} {f : Form} {p : ℕ} (h : Ready 1 ws tab m vis found) (o : Holding 1 ws tab m held) (l : atOf m + 2 ≤ p) (a : Ans ws (atOf m) (readForm (namesIn tab) (drop (atOf m) ws)) (ok f (drop p ws)) p) where
+  pub form-ready : Ready 3 ws tab (set m 0 p) vis found
+  form-ready = record { fine = h .fine; fit = placed-fit m p (h .fit .size) (a .from) (a .within) (omega arith) (h .fit) }
+
+  pub form-holding : Holding 3 ws tab (set m 0 p) held
+  form-holding =
+      let q = placed m p (h .fit .size) in
+      record { room = o .room; few = omega (arith, q .held, q .at, o .few) }
+
+  pub direct-passes : {m' found' held' : List ℕ} {F : (ℕ → ℕ) → Both → Both} {d : Direct} (alias mode : ℕ) → Adds ws tab (set m 0 p) vis found held m' vis found' held' F alias d → directForm f ≡ d →
+      ((id : ℕ → ℕ) (s : Both) → within (worldAt ws tab id) (tablesIn tab) (modeOf mode) general s (drop (atOf m) ws) ≡ ok (F id s) (drop p ws)) → Carries 1 ws tab m vis found held m' vis found' held' (carriedAt ws tab mode alias) 0
+  direct-passes {held' = held'} {F} {d} alias mode x e g =
+      let q = placed m p (h .fit .size) in
+      let z = x .at ∙ q .at in
+      let y = q .held in
+      record {
+        sized = x .sized ∙ q .size;
+        seen = refl;
+        wrote = x .wrote;
+        kept = x .kept;
+        carries = record {
+          from = omega (arith, z, a .from);
+          paid = omega (arith, x .more, y, z);
+          named = λ n. x .named (rw y n);
+          fit = λ k b. x .fit k (placed-fit m p (h .fit .size) (a .from) (a .within) (omega (arith, y)) b);
+          goes = λ id s b. let c = placed-holds m p (h .fit .size) b in
+              record {
+                state = F id s;
+                holds = x .goes id s c;
+                same = rw (g id s, a .same, e, z) (ap (λ (ps : List Pair). ok (F id s, ps) (drop p ws)) (sym (x .pairs id s c ∙ ap (λ (n : ℕ). pairsIn n held ++ carries (worldAt ws tab id) (aliasOf alias) d (F id s .names .visible)) y)));
+              };
+        };
+      }
+
+module _ {ws tab m vis found held : List ℕ} (alias mode : ℕ) where
+  pub form-refused : {k : ℕ} → Ans ws (atOf m) (readForm (namesIn tab) (drop (atOf m) ws)) (no 5) k → Carries 1 ws tab m vis found held m vis found held (carriedAt ws tab mode alias) 5
+  form-refused a =
+      record {
+        sized = refl;
+        seen = refl;
+        wrote = refl;
+        kept = refl;
+        carries = λ id s b. rw (none-within (worldAt ws tab id) (tablesIn tab) (modeOf mode) s _ (a .same));
+      }
+
+  pub other-passes : {m' vis' found' : List ℕ} {f : Form} {p : ℕ} (r : ℕ) → Ans ws (atOf m) (readForm (namesIn tab) (drop (atOf m) ws)) (ok f (drop p ws)) p → directForm f ≡ other → Walked 48 ws tab m vis found m' vis' found' (exprIn ws tab 48 mode general) r →
+      Carries 1 ws tab m vis found held m' vis' found' held (carriedAt ws tab mode alias) r
+  other-passes {m'} zero a e w =
+      let y = w .goes in
+      let z = y .frame .held in
+      record {
+        sized = w .sized;
+        seen = w .seen;
+        wrote = w .wrote;
+        kept = refl;
+        carries = record {
+          from = y .from;
+          paid = omega (arith, z, y .from);
+          named = λ n. rw z n;
+          fit = λ k b. lower (omega (arith, z)) (omega (arith, z)) (y .fit (1 + k + heldOf m * 2) b);
+          goes = λ id s b. let g = y .goes id s b in
+              record {
+                state = g .state;
+                holds = g .holds;
+                same = rw (g .same, a .same, e, z, nothing (worldAt ws tab id) (aliasOf alias) (g .state .names .visible)) (ap (λ (ps : List Pair). ok (g .state, ps) (drop (atOf m') ws)) (append-nil (pairsIn (heldOf m) held)));
+              };
+        };
+      }
+  other-passes (suc r) a e w =
+      record { sized = w .sized; seen = w .seen; wrote = w .wrote; kept = refl; carries = λ id s b. rw (w .goes id s b) }
+
+-- ---- a projection
+pub alias-refused : {ws tab m vis found held m1 : List ℕ} {r : Word} (mode : ℕ) → Next ws 0 (namesIn tab + 1) m m1 r → r ≡ word.No → Carries 0 ws tab m vis found held m1 vis found held (projectionsAt ws tab mode 1) 5
+unfolding projectionsGo
+alias-refused {ws} {tab} {m} mode n q =
+    let z : wordIn 0 (suc (namesIn tab)) (drop (atOf m) ws) ≡ no 5 = ap (λ (k : ℕ). wordIn 0 k (drop (atOf m) ws)) (sym (add-one (namesIn tab))) ∙ rw q at (n .got .same) in
+    rw (stays n q) (record { sized = refl; seen = refl; wrote = refl; kept = refl; carries = λ id s b. rw z })
+
+pub alias-holding : {ws tab m held m1 : List ℕ} {lo hi w : ℕ} {r : Word} → length m ≡ 64 → Holding 0 ws tab m held → Next ws lo hi m m1 r → r ≡ word.Is w → Holding 1 ws tab m1 held
+alias-holding {m = m} size o n q =
+    let p = placed m (atOf m + 1) size in
+    rw (goes-on n q) (record { room = o .room; few = omega (arith, p .held, p .at, o .few) })
+
+pub alias-ready : {ws tab m vis found m1 : List ℕ} {lo hi w : ℕ} {r : Word} → Ready 0 ws tab m vis found → Next ws lo hi m m1 r → r ≡ word.Is w → Ready 1 ws tab m1 vis found
+alias-ready {m = m} h n q =
+    let a = rw q at (n .got) in
+    rw (goes-on n q) (record { fine = h .fine; fit = placed-fit m (atOf m + 1) (h .fit .size) (a .from) (a .within) (omega arith) (h .fit) })
+
+pub alias-passes : {ws tab m vis found held m1 m' vis' found' held' : List ℕ} {w : ℕ} {r : Word} (mode a : ℕ) → Ready 0 ws tab m vis found → Next ws 0 (namesIn tab + 1) m m1 r → r ≡ word.Is w → Carries 1 ws tab m1 vis found held m' vis' found' held' (carriedAt ws tab mode w) a →
+    Carries 0 ws tab m vis found held m' vis' found' held' (projectionsAt ws tab mode 1) a
+unfolding projectionsGo
+alias-passes {ws} {tab} {m} {held = held} {m1} {w = w} mode zero h n q x =
+    let p = placed m (atOf m + 1) (h .fit .size) in
+    let e = goes-on n q in
+    let g = rw q at (n .got) in
+    let y = x .carries in
+    let k7 : heldOf m1 ≡ heldOf m = rw e (p .held) in
+    let k0 : atOf m1 ≡ atOf m + 1 = rw e (p .at) in
+    let z : wordIn 0 (suc (namesIn tab)) (drop (atOf m) ws) ≡ ok w (drop (atOf m + 1) ws) = ap (λ (k : ℕ). wordIn 0 k (drop (atOf m) ws)) (sym (add-one (namesIn tab))) ∙ g .same in
+    record {
+      sized = x .sized ∙ rw e (p .size);
+      seen = x .seen;
+      wrote = x .wrote;
+      kept = x .kept;
+      carries = record {
+        from = omega (arith, y .from, k0);
+        paid = omega (arith, y .paid, k0, k7);
+        named = λ b. y .named (rw k7 b);
+        fit = λ k f. y .fit k (lower {e = 1 + k + heldOf m * 2} {t = 1 + k + heldOf m * 2} (omega (arith, k7)) (omega (arith, k7)) (rw e (placed-fit m (atOf m + 1) (h .fit .size) {c = k + heldOf m * 2} {i = 1 + k + heldOf m * 2} (g .from) (g .within) (omega arith) (lower (omega arith) (omega arith) f))));
+        goes = λ id s b. let c = y .goes id s (rw e (placed-holds m (atOf m + 1) (h .fit .size) b)) in
+            record { state = c .state; holds = c .holds; same = rw z (rw (k0, k7) at (c .same)) };
+      };
+    }
+alias-passes {ws} {tab} {m} {held = held} {m1} {w = w} mode (suc a) h n q x =
+    let p = placed m (atOf m + 1) (h .fit .size) in
+    let e = goes-on n q in
+    let g = rw q at (n .got) in
+    let k7 : heldOf m1 ≡ heldOf m = rw e (p .held) in
+    let k0 : atOf m1 ≡ atOf m + 1 = rw e (p .at) in
+    let z : wordIn 0 (suc (namesIn tab)) (drop (atOf m) ws) ≡ ok w (drop (atOf m + 1) ws) = ap (λ (k : ℕ). wordIn 0 k (drop (atOf m) ws)) (sym (add-one (namesIn tab))) ∙ g .same in
+    record {
+      sized = x .sized ∙ rw e (p .size);
+      seen = x .seen;
+      wrote = x .wrote;
+      kept = x .kept;
+      carries = λ id s b. rw z (rw (k0, k7) at (x .carries id s (rw e (placed-holds m (atOf m + 1) (h .fit .size) b))));
+    }
+
+-- ---- a loop: of n projections, left are left
+pub record OnPairs (id : ℕ → ℕ) (ws tab m vis found held : List ℕ) (mode left : ℕ) (g : Got (Both × List Pair)) : Type 0 where
+  pub state : Both
+  pub holds : Holds id tab m vis found state
+  pub same : g ≡ projectionsAt ws tab mode left id (pairsIn (heldOf m) held) state (drop (atOf m) ws)
+
+pub record Turning (ws tab m₀ vis₀ found₀ held₀ : List ℕ) (mode n : ℕ) (m vis found held : List ℕ) (left : ℕ) : Type 0 where
+  pub from : atOf m₀ ≤ atOf m
+  pub sized : length m ≡ length m₀
+  pub seen : length vis ≡ length vis₀
+  pub wrote : length found ≡ length found₀
+  pub kept : length held ≡ length held₀
+  pub paid : heldOf m * 3 + atOf m₀ ≤ heldOf m₀ * 3 + atOf m
+  pub named : InNames (slotsIn tab) (pairsIn (heldOf m₀) held₀) → InNames (slotsIn tab) (pairsIn (heldOf m) held)
+  pub fit : (k : ℕ) → Fit (k + heldOf m₀ * 2) ws tab m₀ vis₀ found₀ → Fit (k + heldOf m * 2) ws tab m vis found
+  pub ready : Ready (heldOf m * 2) ws tab m vis found
+  pub on : (id : ℕ → ℕ) (s : Both) → Holds id tab m₀ vis₀ found₀ s → OnPairs id ws tab m vis found held mode left (projectionsAt ws tab mode n id (pairsIn (heldOf m₀) held₀) s (drop (atOf m₀) ws))
+
+pub begun : {ws tab m vis found held : List ℕ} (mode n : ℕ) → Ready (heldOf m * 2) ws tab m vis found → Turning ws tab m vis found held mode n m vis found held n
+begun mode n h =
+    record {
+      from = omega arith;
+      sized = refl;
+      seen = refl;
+      wrote = refl;
+      kept = refl;
+      paid = omega arith;
+      named = λ x. x;
+      fit = λ k f. f;
+      ready = h;
+      on = λ id s b. record { state = s; holds = b; same = refl };
+    }
+
+-- one projection, and then the others
+ahead : (w : World) (t : Tables) (m : Mode) (left : ℕ) (ps : List Pair) (s : Both) (r : List ℕ) → 0 < left → projectionsGo w t m left ps s r ≡ bind (projectionsGo w t m 1 ps s r) (λ x r2. projectionsGo w t m (left - 1) (x .1) (x .0) r2)
+unfolding projectionsGo
+ahead w t m zero ps s r h = absurd (omega arith)
+ahead w t m (suc n) ps s r h =
+    let z : suc n - 1 ≡ n = omega arith in
+    rw z (first (wordIn 0 (suc (t .names)) r))
+  where
+    second : (a : ℕ) (r1 : List ℕ) (g : Got Both) → bind g (λ u r2. projectionsGo w t m n (ps ++ carries w (aliasOf a) (directOf (readForm (t .names) r1)) (u .names .visible)) u r2)
+        ≡ bind {A = Both × List Pair} (bind g (λ u r2. ok (u, ps ++ carries w (aliasOf a) (directOf (readForm (t .names) r1)) (u .names .visible)) r2)) (λ x r2. projectionsGo w t m n (x .1) (x .0) r2)
+    second a r1 (ok u r2) = refl
+    second a r1 (no e) = refl
+
+    first : (g : Got ℕ) → bind g (λ a r1. bind (within w t m general s r1) (λ u r2. projectionsGo w t m n (ps ++ carries w (aliasOf a) (directOf (readForm (t .names) r1)) (u .names .visible)) u r2))
+        ≡ bind {A = Both × List Pair} (bind g (λ a r1. bind (within w t m general s r1) (λ u r2. ok (u, ps ++ carries w (aliasOf a) (directOf (readForm (t .names) r1)) (u .names .visible)) r2))) (λ x r2. projectionsGo w t m n (x .1) (x .0) r2)
+    first (ok a r1) = second a r1 (within w t m general s r1)
+    first (no e) = refl
+
+module _ {ws tab m₀ vis₀ found₀ held₀ : List ℕ} {mode n : ℕ} {m vis found held : List ℕ} {left : ℕ} (o : Turning ws tab m₀ vis₀ found₀ held₀ mode n m vis found held left) where
+  pub turn : {m' vis' found' held' : List ℕ} {a : ℕ} → 0 < left → a ≡ 0 → Carries 0 ws tab m vis found held m' vis' found' held' (projectionsAt ws tab mode 1) a → Turning ws tab m₀ vis₀ found₀ held₀ mode n m' vis' found' held' (left - 1)
+  turn h q x =
+      let y = rw q at (x .carries) in
+      record {
+        from = omega (arith, o .from, y .from);
+        sized = x .sized ∙ o .sized;
+        seen = x .seen ∙ o .seen;
+        wrote = x .wrote ∙ o .wrote;
+        kept = x .kept ∙ o .kept;
+        paid = omega (arith, o .paid, y .paid);
+        named = λ b. y .named (o .named b);
+        fit = λ k f. y .fit k (lower (omega arith) (omega arith) (o .fit k f));
+        ready = record { fine = o .ready .fine; fit = lower (omega arith) (omega arith) (y .fit 0 (lower (omega arith) (omega arith) (o .ready .fit))) };
+        on = λ id s b. let c = o .on id s b in let g = y .goes id (c .state) (c .holds) in
+            record { state = g .state; holds = g .holds; same = c .same ∙ ahead (worldAt ws tab id) (tablesIn tab) (modeOf mode) left _ _ _ h ∙ rw (g .same) };
+      }
+
+  pub fall : {m' vis' found' held' : List ℕ} (a : ℕ) → 0 < left → (a ≡ 0 → ⊥) → Carries 0 ws tab m vis found held m' vis' found' held' (projectionsAt ws tab mode 1) a → Carries 0 ws tab m₀ vis₀ found₀ held₀ m' vis' found' held' (projectionsAt ws tab mode n) a
+  fall zero h q x = absurd (q refl)
+  fall (suc a) h q x =
+      record {
+        sized = x .sized ∙ o .sized;
+        seen = x .seen ∙ o .seen;
+        wrote = x .wrote ∙ o .wrote;
+        kept = x .kept ∙ o .kept;
+        carries = λ id s b. let c = o .on id s b in c .same ∙ ahead (worldAt ws tab id) (tablesIn tab) (modeOf mode) left _ _ _ h ∙ rw (x .carries id (c .state) (c .holds));
+      }
+
+  pub over : left ≤ 0 → Carries 0 ws tab m₀ vis₀ found₀ held₀ m vis found held (projectionsAt ws tab mode n) 0
+  unfolding projectionsGo
+  over h =
+      let z : left ≡ 0 = omega arith in
+      record {
+        sized = o .sized;
+        seen = o .seen;
+        wrote = o .wrote;
+        kept = o .kept;
+        carries = record {
+          from = o .from;
+          paid = omega (arith, o .paid);
+          named = o .named;
+          fit = λ k f. o .fit k (lower (omega arith) (omega arith) f);
+          goes = λ id s b. let c = o .on id s b in
+              record { state = c .state; holds = c .holds; same = c .same ∙ ap (λ (l : ℕ). projectionsGo (worldAt ws tab id) (tablesIn tab) (modeOf mode) l (pairsIn (heldOf m) held) (c .state) (drop (atOf m) ws)) z };
+        };
+      }
+
+  -- the next one may be walked
+  pub goes-in : Holding 0 ws tab m₀ held₀ → Holding 0 ws tab m held
+  goes-in b = record { room = omega (arith, b .room, o .kept); few = omega (arith, b .few, o .paid) }
