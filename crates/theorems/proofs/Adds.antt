@@ -1,18 +1,18 @@
 -- A run only adds to the log, and never looks at it: what was said before stays under what it says. `after l s` is s with l said before; each
 -- law says `step (after l s) ≡ after l (step s)`: `resolve-after`, `resolves-after`, `pattern-after`, `bind-after` (carried names),
--- `barrier-after`, `fresh-after`, `clause-after`, `clauses-after`, `arms-after`.
+-- `barrier-after`, `fresh-after`, `sort-after`, `clause-after`, `clauses-after`, `arms-after`.
 use Prim.Native.Nat.{ℕ}
 use mathlib.Core.Path.{_≡_, refl, _∙_, ap}
 use mathlib.Core.Bool.{Bool, true, false}
 use mathlib.Core.List.{List, [], _∷_, _++_}
 use mathlib.Core.Option.{Option, none, some}
-use Rattle.scope.specs.Graph.{comprehensionScope}
+use Rattle.scope.specs.Graph.{comprehensionScope, returnScope}
 use Rattle.expr.specs.Tree.{Expr, var, unresolved, node, predicate, comprehension, Exprs, done, more, mark, Steps, end, part, elem}
-use Rattle.clauses.specs.Tree.{Yield, yield, Clause, opening, reading, with', return, unwind, call, Arm, arm, exprs}
+use Rattle.clauses.specs.Tree.{Yield, yield, Clause, opening, reading, with', return, unwind, call, Arm, arm, exprs, keysOf}
 use Rattle.tables.specs.Row.{Row, row}
 use Rattle.semantics.specs.Log.{Event}
-use Rattle.semantics.specs.World.{World, variable}
-use Rattle.semantics.specs.Resolve.{Pair, pair, State, lookup, leave, standing, enter, sayIf, useVar, useName, bindAnew, bindNew, bindPath, bindElem, resolve, resolves, bindPattern, carriedBy, carryAll, bindAll, barrier, fresh, yields, clause, clauses, arms}
+use Rattle.semantics.specs.World.{World, hush, variable}
+use Rattle.semantics.specs.Resolve.{Seen, Pair, pair, State, lookup, leave, standing, enter, sayIf, useVar, useName, visit, bindAnew, bindNew, bindPath, bindElem, resolve, resolves, bindPattern, carriedBy, carryAll, bindAll, barrier, fresh, yields, aliases, sortBy, clause, clauses, arms}
 
 -- s, with l said before
 abbrev pub after : List Event → State → State
@@ -34,6 +34,11 @@ module _ (w : World) (l : List Event) where
   name-after x (some v) s = refl
   name-after x none s = say-after _ _ _
 
+  visit-after : (hushed : Bool) (x : ℕ) (o : Option ℕ) (s : State) → visit w hushed x o (after l s) ≡ after l (visit w hushed x o s)
+  unfolding visit
+  visit-after true x o s = refl
+  visit-after false x o s = name-after x o s
+
   path-after : (o : Option ℕ) (s : State) → bindPath w o (after l s) ≡ after l (bindPath w o s)
   unfolding bindPath bindAnew
   path-after none s = refl
@@ -54,7 +59,7 @@ module _ (w : World) (l : List Event) where
 
     pub resolve-after : (t : Expr) (s : State) → resolve w t (after l s) ≡ after l (resolve w t s)
     resolve-after (var v) s = var-after v (w .row v) s
-    resolve-after (unresolved x) s = name-after x (lookup x (s .visible)) s
+    resolve-after (unresolved x) s = visit-after (w .hushed x) x (lookup x (s .visible)) s
     resolve-after (node f es) s = resolves-after es s
     resolve-after (predicate p) s = refl
     resolve-after (comprehension a b p es) s = ap (leave s) (ap (resolves w es) (pattern-after p (enter comprehensionScope a b s)) ∙ resolves-after es _)
@@ -92,17 +97,27 @@ module _ (w : World) (l : List Event) where
   yields-after a b [] s = refl
   yields-after a b (yield x y v ∷ ys) s = ap (yields w a b ys) (say-after _ _ _) ∙ yields-after a b ys _
 
+module _ (w : World) (l : List Event) where
+  pub sort-after : (ks : Exprs) (vis : List Seen) (s : State) → sortBy w ks vis (after l s) ≡ after l (sortBy w ks vis s)
+  unfolding sortBy
+  sort-after ks vis s = ap (leave s) (resolves-after w l ks (standing (s .visible ++ vis) (s .cur) s))
+
   pub clause-after : (t : Clause) (s : State) → clause w t (after l s) ≡ after l (clause w t s)
   unfolding clause
-  clause-after (opening o a b p) s = pattern-after p _
-  clause-after (reading r a b es) s = resolves-after es s
-  clause-after (with' a b ps f) s =
+  clause-after (opening o a b p) s = pattern-after w l p _
+  clause-after (reading r a b es) s = resolves-after w l es s
+  clause-after (with' a b ps f ks) s =
       let cs = carriedBy w ps (s .visible) in
       let t = resolves w (exprs ps f) s in
-      ap (λ u. fresh w b cs (barrier w a b cs u)) (resolves-after (exprs ps f) s) ∙ ap (fresh w b cs) (barrier-after a b cs t) ∙ fresh-after b cs (barrier w a b cs t)
-  clause-after (return a b ps) s = ap (standing _ _) (resolves-after (exprs ps done) _)
+      let u = barrier w a b cs t in
+      ap (λ x. sortBy w (keysOf ks) (s .visible) (fresh w b cs (barrier w a b cs x))) (resolves-after w l (exprs ps f) s)
+      ∙ ap (λ x. sortBy w (keysOf ks) (s .visible) (fresh w b cs x)) (barrier-after w l a b cs t)
+      ∙ ap (sortBy w (keysOf ks) (s .visible)) (fresh-after w l b cs u) ∙ sort-after (keysOf ks) (s .visible) (fresh w b cs u)
+  clause-after (return a b ps ks) s =
+      let h = hush (aliases ps) w in
+      ap (standing _ _) (ap (resolves h (keysOf ks)) (resolves-after w l (exprs ps done) (leave s (enter returnScope a b s))) ∙ resolves-after h l (keysOf ks) _)
   clause-after (unwind a b v e) s = refl
-  clause-after (call a b es ys) s = yields-after a b ys _
+  clause-after (call a b es ys) s = yields-after w l a b ys _
 
   pub clauses-after : (ts : List Clause) (s : State) → clauses w ts (after l s) ≡ after l (clauses w ts s)
   unfolding clauses

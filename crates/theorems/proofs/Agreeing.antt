@@ -15,10 +15,10 @@ use Rattle.heads.specs.declared.Maybe.the-variants as maybe
 use Rattle.expr.specs.Tree.{var, unresolved, done, end, part, elem, tree}
 use Rattle.expr.specs.Read.{reading}
 use Rattle.expr.specs.Binders.{binder, bindersE, allKnown}
-use Rattle.clauses.specs.Tree.{Clause, opening, match, return, projection, Arm, arm}
+use Rattle.clauses.specs.Tree.{Clause, unsorted, opening, match, return, projection, Arm, arm, keysOf}
 use Rattle.clauses.specs.Read.{clausal}
 use Rattle.clauses.specs.Binders.{bindersP, bindersC, bindersA}
-use Rattle.clauses.specs.Erase.{eraseC, eraseA}
+use Rattle.clauses.specs.Erase.{eraseKeys, eraseC, eraseA}
 use Rattle.tables.specs.Distinct.{sameBytes, nameIn, freshAfter, distinct}
 use Rattle.tables.specs.Name.{allZero, nameBody, readName}
 use Rattle.tables.specs.Row.{row, rowId, readRow}
@@ -30,18 +30,18 @@ use Rattle.semantics.specs.Log.{logs}
 use Rattle.semantics.specs.Resolve.{walk}
 use Rattle.semantics.specs.Lists.{lists}
 use Rattle.theorems.specs.Site.{Cut, whole, inHead, newRoot, sites}
-use Rattle.theorems.specs.Sheets.{namesSection, bindingsSection, laterClauseWords, laterArmWords, AgreeSheets}
+use Rattle.theorems.specs.Sheets.{namesSection, bindingsSection, keyWords, laterClauseWords, laterArmWords, AgreeSheets}
 
 -- a Match of a Node with the variable 1, and a Return of a name, with their spans
 abbrev matching : (start stop first : ℕ) → Clause
 matching a b c = opening (match 0) a b (part maybe.Nothing (elem 1 c b (maybe.Var 1) done end))
 
 abbrev returning : (start stop name : ℕ) → Clause
-returning a b x = return a b (projection none (unresolved x) ∷ [])
+returning a b x = return a b (projection none (unresolved x) ∷ []) unsorted
 
 -- these clauses before a WITH of the variable 1, and a Return after it
 abbrev cutAt : List Clause → (start stop : ℕ) → Clause → Cut
-cutAt before a b after = record { before = before; start = a; stop = b; projections = projection none (var 1) ∷ []; filter = done; after = after ∷ [] }
+cutAt before a b after = record { before = before; start = a; stop = b; projections = projection none (var 1) ∷ []; filter = done; keys = unsorted; after = after ∷ [] }
 
 -- the statement with these clauses and this arm, two names and a binding
 abbrev statement : Cut → Arm → ℕ → Statement
@@ -83,7 +83,7 @@ abbrev second : Statement
 second = statement cut₂ (arm 36 50 (returning 42 50 0 ∷ [])) 50
 
 pub agreeing : AgreeSheets true (bytesOf one) (bytesOf two) first second (inHead cut₁) (inHead cut₂)
-unfolding words isUtf8 goesOn step after wordIn many counted shapeOf limitOf formNone formOne caseRest compRest restOf readForm readMaybe readPart readElem deepCause isIn tree reading binder bindersE allKnown clausal bindersP bindersC bindersA sameBytes nameIn freshAfter distinct allZero nameBody readName rowId readRow sized inPlace placesOf readNames readRows readClauses locate readSections readSheet bytesOf namesSection bindingsSection laterClauseWords laterArmWords eraseC eraseA logs walk lists sites
+unfolding words isUtf8 goesOn step after wordIn many counted shapeOf limitOf formNone formOne caseRest compRest restOf readForm readMaybe readPart readElem deepCause isIn tree reading binder bindersE allKnown clausal bindersP bindersC bindersA sameBytes nameIn freshAfter distinct allZero nameBody readName rowId readRow sized inPlace placesOf readNames readRows readClauses locate readSections readSheet bytesOf namesSection bindingsSection keyWords laterClauseWords laterArmWords keysOf eraseKeys eraseC eraseA logs walk lists sites
 agreeing =
     record {
       reads₁ = refl;
@@ -94,6 +94,7 @@ agreeing =
       names = refl;
       table = refl;
       carried = refl;
+      keys = refl;
       clauses = refl;
       arms = refl;
     }

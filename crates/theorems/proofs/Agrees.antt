@@ -10,7 +10,7 @@ use Rattle.theorems.specs.Agree.{Agrees}
 use Rattle.theorems.proofs.Placed.{clauses-append, arms-append}
 use Rattle.theorems.proofs.Shows.{clauses-A, root-A, arm-A, settle}
 use Rattle.theorems.proofs.Barriers.{barriers}
-use Rattle.theorems.proofs.Inners.{inners}
+use Rattle.theorems.proofs.Mets.{inners}
 
 pub agrees : (warns : Bool) (s : Statement) → Agrees warns s
 unfolding run arms

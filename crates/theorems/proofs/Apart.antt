@@ -1,27 +1,31 @@
 -- "Before and after a WITH" (`apart`): both statements are compared with one canonical run, the part without spans after a barrier that is
--- scope 1, so no number is ever moved down. Moved gives the run, Placed its place in the lists.
-use Prim.Native.Nat.{ℕ, zero, suc, _+_, _-_}
+-- scope 1, so no number is ever moved down. Moved gives the run, Placed its place in the lists. The sort keys see another list in each
+-- statement: of them the canonical run has the scopes alone, which Scopes gives.
+use Prim.Native.Nat.{ℕ, zero, suc}
 use native.Mathlib.Omega.{arith}
 use mathlib.Core.Path.{_≡_, refl, sym, _∙_, ap, ap₂, subst}
-use mathlib.Core.Bool.{Bool, true≢false, false≢true}
-use mathlib.Core.List.{List, [], _∷_, _++_, map, map-append, reverse, reverseAux, List·Memᴰ}
+use mathlib.Core.Bool.{Bool, false, true≢false, false≢true}
+use mathlib.Core.List.{List, [], _∷_, _++_, map, map-append, reverse, List·Memᴰ}
 use mathlib.Core.Option.{none, some}
-use lib.ListN.{drop, getD}
+use lib.ListN.{length, length-map, drop, getD}
 use Rattle.words.specs.Fnv.{useId}
 use Rattle.scope.specs.Graph.{Scope, scope, carried, Entry, entry}
+use Rattle.expr.specs.Erase.{erases}
+use Rattle.clauses.specs.Tree.{keysOf}
 use Rattle.sheet.specs.Statement.{Statement}
 use Rattle.clauses.specs.Erase.{eraseC, eraseA}
-use Rattle.semantics.specs.Log.{Answer, Bound, Write, write, Event, open', bind, carry, answer, find, scopeOf, bindOf, answerOf, findOf, scopesIn, bindsIn, answersIn, findsIn}
+use Rattle.semantics.specs.Log.{Answer, Bound, Write, write, Event, open', bind, carry, answer, find, scopeOf, bindOf, answerOf, findOf, scopesIn, bindsIn, answersIn, findsIn, opened, logs}
 use Rattle.semantics.specs.World.{worldOf, bytesOf, starName, idName, rowOf}
-use Rattle.semantics.specs.Resolve.{State, standing, fresh}
+use Rattle.semantics.specs.Resolve.{State, standing, leave, resolves, fresh, sortBy}
 use Rattle.semantics.specs.Kinds.{kinds}
 use Rattle.semantics.specs.Lists.{puts, answerFor, scopes, bindings, recorded}
-use Rattle.theorems.proofs.Views.{pick-map, pick-same}
+use Rattle.theorems.proofs.Views.{pick-map, pick-same, map-reverse, scopes-append}
 use Rattle.theorems.proofs.Moved.{blank, number, numberBound, up, R, fresh-R, clauses-R, arms-R}
-use Rattle.theorems.specs.Compare.{blankScope, blankFinding, numberScope, from, numberEntry, moved}
+use Rattle.theorems.proofs.Scopes.{Opens, opens-log, resolves-Opens}
+use Rattle.theorems.specs.Compare.{blankScope, blankFinding, numberScope, from, besides, numberEntry, moved}
 use Rattle.theorems.proofs.Bare.{bare-kinds}
-use Rattle.theorems.specs.Site.{Site, inHead, inArm, cutOf, Stands, laterArms, part, silent, resolved, atBarrier, barrierOf, newRoot, pairs, partLog}
-use Rattle.theorems.proofs.Placed.{scopes-from, bindings-from, answer-from, pairs-listed, root-at}
+use Rattle.theorems.specs.Site.{Site, inHead, inArm, cutOf, Stands, laterArms, part, silent, before, resolved, atBarrier, barrierOf, newRoot, pairs, rooted, ordered, rootLog, keysLog, restLog, partLog, keyScopes}
+use Rattle.theorems.proofs.Placed.{tailLog, root-after, keys-after, scopes-from, bindings-from, answer-from, pairs-listed, root-at}
 use Rattle.theorems.proofs.Entries.{lastWrite, puts-up}
 use Rattle.theorems.specs.With.{partFindings, Agree, Same}
 
@@ -137,12 +141,11 @@ maps : {A : Type 0} (f g h : A → A) → ((a : A) → f (g a) ≡ h a) → (l :
 maps f g h e [] = refl
 maps f g h e (x ∷ l) = ap₂ _∷_ (e x) (maps f g h e l)
 
-map-reverse : {A B : Type 0} (f : A → B) (l m : List A) → map f (reverseAux l m) ≡ reverseAux (map f l) (map f m)
-map-reverse f [] m = refl
-map-reverse f (x ∷ l) m = map-reverse f l (x ∷ m)
-
 like-log : {m : ℕ} {s c : State} → R m s c → Like m (reverse (s .log)) (reverse (c .log))
 like-log {m} {s} {c} h = record { same = map-reverse blank (s .log) [] ∙ ap reverse (h .log) ∙ sym (map-reverse (number (up m)) (c .log) []) }
+
+join : {m : ℕ} {a′ a b′ b : List Event} → Like m a′ a → Like m b′ b → Like m (a′ ++ b′) (a ++ b)
+join {m} p q = record { same = rw (map-append blank, map-append (number (up m))) (ap₂ _++_ (p .same) (q .same)) }
 
 -- The state at a barrier that is scope 1.
 abbrev first : State
@@ -150,30 +153,77 @@ first = record { visible = []; cur = 1; last = 1; log = [] }
 
 -- The part of a statement's WITH.
 module _ (warns : Bool) (s : Statement) (p : Site) (q : Stands s p) where
-  -- The part without spans after it.
+  -- After it the new Root, the sort keys, which see its names alone, and the part, all without spans.
+  first-root : State
+  first-root = fresh (worldOf warns s) 0 (pairs warns s p) first
+
+  first-keys : State
+  first-keys = resolves (worldOf warns s) (erases (keysOf (cutOf p .keys))) (silent first-root)
+
+  first-rest : State
+  first-rest = part (worldOf warns s) (map eraseC (cutOf p .after)) (map eraseA (laterArms s p)) (silent (leave first-root first-keys))
+
   plain : List Event
-  plain = reverse (part (worldOf warns s) 0 (pairs warns s p) (map eraseC (cutOf p .after)) (map eraseA (laterArms s p)) first .log)
+  plain = reverse (first-root .log) ++ reverse (first-rest .log)
+
+  plain-scopes : List Scope
+  plain-scopes = scopesIn (reverse (first-root .log)) ++ (scopesIn (reverse (first-keys .log)) ++ scopesIn (reverse (first-rest .log)))
 
   -- The number before the barrier's.
   highest : ℕ
   highest = resolved warns s p .last
 
-  like-plain : Like highest (partLog warns s p) plain
-  unfolding partLog plain part fresh highest up barrierOf
-  like-plain =
-      let m = highest in
-      let w = worldOf warns s in
+  root-R : R highest (fresh (worldOf warns s) (cutOf p .stop) (pairs warns s p) (silent (atBarrier warns s p))) first-root
+  unfolding fresh first-root highest up barrierOf
+  root-R =
       let t = atBarrier warns s p in
-      let h : R m (standing [] (t .cur) (silent t)) first = record { visible = refl; cur = omega (arith, root-at warns s p .0); last = omega (arith, root-at warns s p .1); log = refl } in
-      like-log (arms-R w m (laterArms s p) (clauses-R w m (cutOf p .after) (fresh-R w m (cutOf p .stop) (pairs warns s p) h)))
+      let h : R highest (standing [] (t .cur) (silent t)) first = record { visible = refl; cur = omega (arith, root-at warns s p .0); last = omega (arith, root-at warns s p .1); log = refl } in
+      fresh-R (worldOf warns s) highest (cutOf p .stop) (pairs warns s p) h
 
-  bindings-plain : from (newRoot warns s p) (bindings warns s) ≡ map (numberEntry (up highest)) (puts (bindsIn plain) [])
+  rooted-R : R highest (silent (rooted warns s p)) (silent first-root)
+  rooted-R = let g = root-R in rw (root-after warns s p) (record { visible = g .visible; cur = g .cur; last = g .last; log = refl })
+
+  keys-Opens : let r = rooted warns s p in Opens highest (resolves (worldOf warns s) (keysOf (cutOf p .keys)) (standing (r .visible ++ before warns s p .visible) (r .cur) (silent r))) first-keys
+  unfolding first-keys logs
+  keys-Opens = let g = rooted-R in resolves-Opens (worldOf warns s) highest (keysOf (cutOf p .keys)) (record { cur = g .cur; last = g .last; scopes = refl })
+
+  keys-scopes : map blankScope (scopesIn (keysLog warns s p)) ≡ map (numberScope (up highest)) (scopesIn (reverse (first-keys .log)))
+  unfolding keysLog sortBy
+  keys-scopes = opens-log keys-Opens
+
+  keys-count : keyScopes warns s p ≡ opened (reverse (first-keys .log))
+  unfolding keyScopes opened
+  keys-count = simp length-map at (ap length keys-scopes)
+
+  ordered-R : R highest (silent (ordered warns s p)) (silent (leave first-root first-keys))
+  unfolding sortBy
+  ordered-R = let g = rooted-R in rw (keys-after warns s p) (record { visible = g .visible; cur = g .cur; last = keys-Opens .last; log = refl })
+
+  like-root : Like highest (rootLog warns s p) (reverse (first-root .log))
+  unfolding rootLog
+  like-root = like-log root-R
+
+  like-rest : Like highest (restLog warns s p) (reverse (first-rest .log))
+  unfolding restLog first-rest part
+  like-rest = like-log (arms-R (worldOf warns s) highest (laterArms s p) (clauses-R (worldOf warns s) highest (cutOf p .after) ordered-R))
+
+  like-plain : Like highest (partLog warns s p) plain
+  unfolding partLog plain
+  like-plain = join like-root like-rest
+
+  scopes-plain : map blankScope (drop (newRoot warns s p) (scopes warns s)) ≡ map (numberScope (up highest)) plain-scopes
+  unfolding tailLog plain-scopes
+  scopes-plain =
+      ap (map blankScope) (scopes-from warns s p q ∙ scopes-append (rootLog warns s p) (keysLog warns s p ++ restLog warns s p) ∙ ap (λ l. scopesIn (rootLog warns s p) ++ l) (scopes-append (keysLog warns s p) (restLog warns s p)))
+      ∙ rw (map-append, map-append, map-append, map-append) (ap₂ _++_ (like-scopes like-root) (ap₂ _++_ keys-scopes (like-scopes like-rest)))
+
+  bindings-plain : besides (newRoot warns s p) (keyScopes warns s p) (from (newRoot warns s p) (bindings warns s)) ≡ map (numberEntry (up highest)) (puts (bindsIn plain) [])
   bindings-plain = bindings-from warns s p q ∙ ap (λ (x : List Bound). puts x []) (like-binds like-plain) ∙ puts-up _ (bindsIn plain) []
 
 world-eq : (warns : Bool) (s₁ s₂ : Statement) → s₁ .names ≡ s₂ .names → s₁ .bindings ≡ s₂ .bindings → worldOf warns s₁ ≡ worldOf warns s₂
 unfolding worldOf bytesOf
 world-eq warns s₁ s₂ p q =
-    λ i. record { id = λ x. useId (getD (p i) x []); isStar = λ x. starName (getD (p i) x []); isId = λ x. idName (getD (p i) x []); row = λ v. rowOf v (q i); warns = warns }
+    λ i. record { id = λ x. useId (getD (p i) x []); isStar = λ x. starName (getD (p i) x []); isId = λ x. idName (getD (p i) x []); hushed = λ x. false; row = λ v. rowOf v (q i); warns = warns }
 
 module _ (warns : Bool) (s₁ s₂ : Statement) where
   module _ (p₁ p₂ : Site) (h : Agree warns s₁ s₂ p₁ p₂) where
@@ -181,8 +231,16 @@ module _ (warns : Bool) (s₁ s₂ : Statement) where
     pairs-eq = sym (pairs-listed warns s₁ p₁ (h .stands₁)) ∙ h .carried ∙ pairs-listed warns s₂ p₂ (h .stands₂)
 
     plain-eq : plain warns s₁ p₁ (h .stands₁) ≡ plain warns s₂ p₂ (h .stands₂)
-    unfolding plain
-    plain-eq = rw (world-eq warns s₁ s₂ (h .names) (h .table), pairs-eq, h .clauses, h .arms) refl
+    unfolding plain first-root first-keys first-rest
+    plain-eq = rw (world-eq warns s₁ s₂ (h .names) (h .table), pairs-eq, h .keys, h .clauses, h .arms) refl
+
+    plain-scopes-eq : plain-scopes warns s₁ p₁ (h .stands₁) ≡ plain-scopes warns s₂ p₂ (h .stands₂)
+    unfolding plain-scopes first-root first-keys first-rest
+    plain-scopes-eq = rw (world-eq warns s₁ s₂ (h .names) (h .table), pairs-eq, h .keys, h .clauses, h .arms) refl
+
+    keys-eq : keyScopes warns s₁ p₁ ≡ keyScopes warns s₂ p₂
+    unfolding first-root first-keys
+    keys-eq = keys-count warns s₁ p₁ (h .stands₁) ∙ rw (world-eq warns s₁ s₂ (h .names) (h .table), pairs-eq, h .keys) refl ∙ sym (keys-count warns s₂ p₂ (h .stands₂))
 
     finds-eq : map blankFinding (findsIn (partLog warns s₁ p₁)) ≡ map blankFinding (findsIn (partLog warns s₂ p₂))
     finds-eq = like-finds (like-plain warns s₁ p₁ (h .stands₁)) ∙ ap findsIn plain-eq ∙ sym (like-finds (like-plain warns s₂ p₂ (h .stands₂)))
@@ -200,12 +258,12 @@ module _ (warns : Bool) (s₁ s₂ : Statement) where
         let j = highest warns s₁ p₁ (h .stands₁) in
         let k = highest warns s₂ p₂ (h .stands₂) in
         let f = numberScope (moved (suc (suc j)) (suc (suc k))) in
-        ap (λ (x : List Scope). map f (map blankScope x)) (scopes-from warns s₁ p₁ (h .stands₁)) ∙ ap (map f) (like-scopes (like-plain warns s₁ p₁ (h .stands₁)))
-        ∙ maps f (numberScope (up j)) (numberScope (up k)) (number-scope j k) (scopesIn (plain warns s₁ p₁ (h .stands₁)))
-        ∙ ap (λ (x : List Event). map (numberScope (up k)) (scopesIn x)) plain-eq
-        ∙ sym (like-scopes (like-plain warns s₂ p₂ (h .stands₂))) ∙ ap (map blankScope) (sym (scopes-from warns s₂ p₂ (h .stands₂)))
+        ap (map f) (scopes-plain warns s₁ p₁ (h .stands₁))
+        ∙ maps f (numberScope (up j)) (numberScope (up k)) (number-scope j k) (plain-scopes warns s₁ p₁ (h .stands₁))
+        ∙ ap (map (numberScope (up k))) plain-scopes-eq ∙ sym (scopes-plain warns s₂ p₂ (h .stands₂))
 
-    bindings-eq : map (numberEntry (moved (newRoot warns s₁ p₁) (newRoot warns s₂ p₂))) (from (newRoot warns s₁ p₁) (bindings warns s₁)) ≡ from (newRoot warns s₂ p₂) (bindings warns s₂)
+    bindings-eq : map (numberEntry (moved (newRoot warns s₁ p₁) (newRoot warns s₂ p₂))) (besides (newRoot warns s₁ p₁) (keyScopes warns s₁ p₁) (from (newRoot warns s₁ p₁) (bindings warns s₁)))
+        ≡ besides (newRoot warns s₂ p₂) (keyScopes warns s₂ p₂) (from (newRoot warns s₂ p₂) (bindings warns s₂))
     unfolding newRoot barrierOf highest
     bindings-eq =
         let j = highest warns s₁ p₁ (h .stands₁) in
@@ -229,4 +287,4 @@ module _ (warns : Bool) (s₁ s₂ : Statement) where
 
   -- Before and after a WITH.
   pub apart : (p₁ p₂ : Site) → Agree warns s₁ s₂ p₁ p₂ → Same warns s₁ s₂ p₁ p₂ (newRoot warns s₁ p₁) (newRoot warns s₂ p₂)
-  apart p₁ p₂ h = record { sameFindings = findings-eq p₁ p₂ h; sameVisits = answers-eq p₁ p₂ h; sameAnswers = answer-eq p₁ p₂ h; sameScopes = scopes-eq p₁ p₂ h; sameBindings = bindings-eq p₁ p₂ h }
+  apart p₁ p₂ h = record { sameFindings = findings-eq p₁ p₂ h; sameVisits = answers-eq p₁ p₂ h; sameAnswers = answer-eq p₁ p₂ h; sameScopes = scopes-eq p₁ p₂ h; sameKeyScopes = keys-eq p₁ p₂ h; sameBindings = bindings-eq p₁ p₂ h }

@@ -1,5 +1,5 @@
 -- Demand 3 for sheets: equal sections hold equal tables, since a section that is read to its end is read in one way; and equal words
--- are of equal clauses and arms, since what is written reads back. So the statements agree, and `apart` compares them.
+-- are of equal sort keys, clauses and arms, since what is written reads back. So the statements agree, and `apart` compares them.
 use Prim.Native.Nat.{ℕ}
 use mathlib.Core.Path.{_≡_, refl}
 use mathlib.Core.Bool.{Bool}
@@ -7,19 +7,19 @@ use mathlib.Core.List.{List, [], _∷_, _++_}
 use Rattle.words.specs.Words.{words}
 use Rattle.heads.specs.Got.{ok, wordIn, many}
 use Rattle.heads.specs.Head.{Tables}
-use Rattle.clauses.specs.Tree.{arm}
-use Rattle.clauses.specs.Well.{Each, WellMany, WellClause, WellArm}
+use Rattle.clauses.specs.Tree.{with', arm}
+use Rattle.clauses.specs.Well.{Each, WellMany, WellKeys, WellClause, WellArm}
 use Rattle.clauses.proofs.ReadsBackClause.{many-once}
-use Rattle.clauses.proofs.ErasedClause.{erase-clauses-words, erase-arms-words}
+use Rattle.clauses.proofs.ErasedClause.{erase-keys-words, erase-clauses-words, erase-arms-words}
 use Rattle.tables.specs.Name.{readName}
 use Rattle.tables.specs.Row.{readRow}
 use Rattle.sheet.specs.Trailer.{placesOf}
 use Rattle.sheet.specs.Statement.{Statement}
 use Rattle.sheet.specs.Read.{accepted, anyBinder, readSheet}
 use Rattle.sheet.specs.Write.{bytesOf}
-use Rattle.theorems.specs.Site.{Site, inHead, inArm, cutOf, Stands, laterArms, newRoot, whole}
+use Rattle.theorems.specs.Site.{Cut, Site, inHead, inArm, cutOf, Stands, laterArms, newRoot, whole}
 use Rattle.theorems.specs.With.{Agree, Same}
-use Rattle.theorems.specs.Sheets.{namesSection, bindingsSection, laterClauseWords, laterArmWords, AgreeSheets}
+use Rattle.theorems.specs.Sheets.{namesSection, bindingsSection, keyWords, laterClauseWords, laterArmWords, AgreeSheets}
 use Rattle.sheet.proofs.Accepted.{accepted-words}
 use Rattle.sheet.proofs.NameBytes.{names-told}
 use Rattle.theorems.proofs.Apart.{apart}
@@ -30,14 +30,19 @@ unfolding Each
 each-after P [] y ys h = h
 each-after P (x ∷ xs) y ys h = each-after P xs y ys (h .1)
 
--- the part after a WITH is as well-formed as the statement
+-- a WITH's sort keys, and the part after it, are as well-formed as the statement
+cut-well : (w : Tables) (c : Cut) → Each (WellClause w) (whole c) → WellKeys w (c .keys) × Each (WellClause w) (c .after)
+unfolding whole WellClause
+cut-well w c h = let x = each-after (WellClause w) (c .before) (with' (c .start) (c .stop) (c .projections) (c .filter) (c .keys)) (c .after) h in (x .0 .5, x .1)
+
 later-well : (w : Tables) (st : Statement) (p : Site) → Stands st p → Each (WellClause w) (st .head) → Each (WellArm w) (st .arms) →
-    Each (WellClause w) (cutOf p .after) × Each (WellArm w) (laterArms st p)
-unfolding whole WellArm WellMany
-later-well w st (inHead c) q h g = (each-after (WellClause w) (c .before) _ (c .after) (rw q at h) .1, g)
+    WellKeys w (cutOf p .keys) × Each (WellClause w) (cutOf p .after) × Each (WellArm w) (laterArms st p)
+unfolding WellArm WellMany
+later-well w st (inHead c) q h g = let x = cut-well w c (rw q at h) in (x .0, x .1, g)
 later-well w st (inArm e a b c l) q h g =
     let x = each-after (WellArm w) e (arm a b (whole c)) l (rw q at g) in
-    (each-after (WellClause w) (c .before) _ (c .after) (x .0 .1 .1) .1, x .1)
+    let y = cut-well w c (x .0 .1 .1) in
+    (y .0, y .1, x .1)
 
 -- each table is what its section's words give
 module _ (s : List ℕ) (st : Statement) (e : readSheet s ≡ accepted st) where
@@ -62,7 +67,7 @@ module _ {warns : Bool} {s₁ s₂ : List ℕ} {st₁ st₂ : Statement} {p₁ p
       many-once (readRow (placesOf (words s₂) .names)) refl _ _ (bindingsSection s₂) _ _ first (rows-given s₂ st₂ (h .reads₂)) .1
 
   agree : Agree warns st₁ st₂ p₁ p₂
-  unfolding laterClauseWords laterArmWords
+  unfolding keyWords laterClauseWords laterArmWords
   agree =
       let w = anyBinder (placesOf (words s₁) .names) in
       let x = accepted-words s₁ st₁ (h .reads₁) .1 in
@@ -76,8 +81,9 @@ module _ {warns : Bool} {s₁ s₂ : List ℕ} {st₁ st₂ : Statement} {p₁ p
         names = names-eq .1;
         table = rows-eq;
         carried = h .carried;
-        clauses = erase-clauses-words w _ _ (u .0) (v .0) (h .clauses);
-        arms = erase-arms-words w _ _ (u .1) (v .1) (h .arms);
+        keys = erase-keys-words w _ _ (u .0) (v .0) (h .keys);
+        clauses = erase-clauses-words w _ _ (u .1) (v .1) (h .clauses);
+        arms = erase-arms-words w _ _ (u .2) (v .2) (h .arms);
       }
 
   -- Before and after a WITH, of two sheets.

@@ -6,7 +6,7 @@ use mathlib.Core.List.{List, [], _∷_, _++_, map, map-append}
 use mathlib.Core.Option.{Option, none, some}
 use lib.Dec.{eqb, leb}
 use Rattle.expr.specs.Tree.{Expr, var, unresolved, node, predicate, comprehension, Exprs, done, more, mark, Steps, end, part, elem}
-use Rattle.clauses.specs.Tree.{Clause, opening, reading, with', return, unwind, call, exprs}
+use Rattle.clauses.specs.Tree.{Clause, opening, reading, with', return, unwind, call, exprs, keysOf}
 use Rattle.tables.specs.Row.{valueKind, pathKind, Row, row}
 use Rattle.expr.specs.Erase.{eraseE, erases, eraseS}
 use Rattle.clauses.specs.Erase.{eraseC}
@@ -14,7 +14,7 @@ use Rattle.semantics.specs.Log.{Finding, finding}
 use Rattle.semantics.specs.World.{World}
 use Rattle.semantics.specs.Kinds.{stringType, intType, noType, Setting, general, arithmetic, property, boolean, listed, Pair, both, typeOf, settings, atType, atRow, misplaced, rowFor, kindsE, kindsEs, kindsS, kindsC, kinds}
 use Rattle.theorems.specs.Compare.{blankFinding}
-use Rattle.theorems.proofs.Moved.{exprs-erase}
+use Rattle.theorems.proofs.Moved.{exprs-erase, keys-erase}
 
 -- l without spans is k.
 pub record Bare (l k : List Finding) : Type 0 where
@@ -80,8 +80,8 @@ module _ (w : World) where
   unfolding kindsC eraseC erases
   bareC (opening o a b s) = bareS s
   bareC (reading r a b es) = bareEs es (both general general)
-  bareC (with' a b ps f) = rw (← exprs-erase ps f) (bareEs (exprs ps f) (both general general))
-  bareC (return a b ps) = rw (← exprs-erase ps done) (bareEs (exprs ps done) (both general general))
+  bareC (with' a b ps f ks) = rw (← exprs-erase ps f, keys-erase ks) (bare-join (bareEs (exprs ps f) (both general general)) (bareEs (keysOf ks) (both general general)))
+  bareC (return a b ps ks) = rw (← exprs-erase ps done, keys-erase ks) (bare-join (bareEs (exprs ps done) (both general general)) (bareEs (keysOf ks) (both general general)))
   bareC (unwind a b v e) = bareE e general
   bareC (call a b es ys) = bareEs es (both general general)
 

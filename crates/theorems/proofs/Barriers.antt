@@ -20,10 +20,10 @@ use Rattle.semantics.specs.Lists.{pairsAt, scopes, bindings, carriedList}
 use Rattle.theorems.specs.Site.{Site, inHead, inArm, cutOf, Stands, entry, before, pairs, resolved, atBarrier, barrierOf, newRoot}
 use Rattle.theorems.specs.Agree.{seenAs, look, inLists}
 use Rattle.theorems.proofs.Within.{Within, within-reverse, nil, inside, cons}
-use Rattle.theorems.proofs.Placed.{carryAt, carry-log, preLog, split, part-in, pre-opened, pairs-listed}
+use Rattle.theorems.proofs.Placed.{carryAt, carry-log, preLog, split, tail-in, pre-opened, pairs-listed}
 use Rattle.theorems.proofs.Looks.{newest, look-stays, look-open}
 use Rattle.theorems.proofs.Keeps.{all-keep}
-use Rattle.theorems.proofs.Shows.{named, Shows, count, resolves-A, clauses-A, root-A, arm-A}
+use Rattle.theorems.proofs.Shows.{named, Shows, shown, count, resolves-A, clauses-A, root-A, arm-A}
 use Rattle.theorems.proofs.Tests.{holds, eqb-same, eqb-comm}
 
 no-binds : (b : ℕ) (cs : List Pair) → bindsIn (map (carryAt b) cs) ≡ []
@@ -51,7 +51,7 @@ unfolding inside
 in-open s h = cons tt h
 
 -- at the barrier
-barrier-gives : (w : World) (a b : ℕ) (cs : List Pair) (x : ℕ) {t : State} → Shows [] t → look (reverse (barrier w a b cs t .log)) (suc (t .last)) x ≡ cond (named x cs) (seenAs x (t .visible)) nothing
+barrier-gives : (w : World) (a b : ℕ) (cs : List Pair) (x : ℕ) {t : State} → Shows [] [] t → look (reverse (barrier w a b cs t .log)) (suc (t .last)) x ≡ cond (named x cs) (seenAs x (t .visible)) nothing
 unfolding barrier newest named
 barrier-gives w a b cs x {t} h =
     let l = reverse (t .log) in
@@ -63,10 +63,10 @@ barrier-gives w a b cs x {t} h =
     ∙ rw (no-binds (suc (t .last)) cs, carries-own (suc (t .last)) x cs)
     (passes-on (suc (t .last)) (t .cur) (named x cs) (λ q. look (l ++ o ∷ m) q x) (omega (arith, h .low)))
     ∙ ap (λ z. cond (named x cs) z nothing)
-    (look-stays l (t .cur) x (in-open (scope withBarrier (some (t .cur)) a b) (carried-in (t .last) (suc (t .last)) cs (le-refl _))) (h .low) (omega (arith, count (h .fine), h .low)) ∙ h .gives x refl)
+    (look-stays l (t .cur) x (in-open (scope withBarrier (some (t .cur)) a b) (carried-in (t .last) (suc (t .last)) cs (le-refl _))) (h .low) (omega (arith, count (h .fine), h .low)) ∙ shown h x)
 
 module _ (warns : Bool) (s : Statement) where
-  before-A : (p : Site) → Shows [] (before warns s p)
+  before-A : (p : Site) → Shows [] [] (before warns s p)
   unfolding before entry
   before-A (inHead c) = clauses-A (worldOf warns s) (c .before) (root-A warns s)
   before-A (inArm e a b c l) = clauses-A (worldOf warns s) (c .before) (arm-A warns s e)
@@ -77,7 +77,7 @@ module _ (warns : Bool) (s : Statement) where
       let w = worldOf warns s in
       let es = exprs (cutOf p .projections) (cutOf p .filter) in
       let n = barrierOf warns s p in
-      in-log ∙ ap (λ l. look l n x) (split warns s p q) ∙ look-stays (preLog warns s p) n x (part-in warns s p .1) (le-refl _) (unfold newRoot in omega (arith, pre-opened warns s p))
+      in-log ∙ ap (λ l. look l n x) (split warns s p q) ∙ look-stays (preLog warns s p) n x (tail-in warns s p .1) (le-refl _) (unfold newRoot in omega (arith, pre-opened warns s p))
       ∙ barrier-gives w (cutOf p .start) (cutOf p .stop) (pairs warns s p) x (resolves-A w es (before-A p)) ∙ ap (λ z. cond (named x (pairs warns s p)) (seenAs x z) nothing) (all-keep w es (before warns s p) .visible)
     where
       in-log : inLists warns s (barrierOf warns s p) x ≡ look (log warns s) (barrierOf warns s p) x

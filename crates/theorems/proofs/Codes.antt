@@ -8,7 +8,7 @@ use lib.Dec.{eqb, leb}
 use Rattle.heads.specs.declared.Form.{Form}
 use Rattle.heads.specs.declared.Form.the-variants.{Leaf, Var, Unresolved, Prop, Two, Slice, Many, BinOp, UnaryOp, Case, IsNull, PatternPredicate, ListComprehension, PatternComprehension, ListPredicate, MapProjection}
 use Rattle.expr.specs.Tree.{Expr, var, unresolved, node, predicate, comprehension, Exprs, done, more, mark, Steps, end, part, elem}
-use Rattle.clauses.specs.Tree.{Clause, opening, reading, with', return, unwind, call, exprs}
+use Rattle.clauses.specs.Tree.{Clause, opening, reading, with', return, unwind, call, exprs, keysOf}
 use Rattle.tables.specs.Row.{valueKind, pathKind, Row, row}
 use Rattle.semantics.specs.Log.{e5010, e1001, Finding}
 use Rattle.semantics.specs.World.{World}
@@ -121,8 +121,8 @@ module _ (w : World) where
   unfolding kindsC
   no-C (opening o a b s) = no-S s
   no-C (reading r a b es) = no-Es es plain (tt, tt)
-  no-C (with' a b ps f) = no-Es (exprs ps f) plain (tt, tt)
-  no-C (return a b ps) = no-Es (exprs ps done) plain (tt, tt)
+  no-C (with' a b ps f ks) = no-append (kindsEs w (exprs ps f) plain) _ (no-Es (exprs ps f) plain (tt, tt)) (no-Es (keysOf ks) plain (tt, tt))
+  no-C (return a b ps ks) = no-append (kindsEs w (exprs ps done) plain) _ (no-Es (exprs ps done) plain (tt, tt)) (no-Es (keysOf ks) plain (tt, tt))
   no-C (unwind a b v e) = no-E e general tt
   no-C (call a b es ys) = no-Es es plain (tt, tt)
 

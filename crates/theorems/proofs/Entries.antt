@@ -1,22 +1,23 @@
--- The bindings list and the recorded list of a log in two pieces, the second binding in scopes above those of the first.
+-- The bindings list and the recorded list of a log in pieces, each binding in scopes above those of the ones before.
 -- `Inside lo hi bs` and `Ranged lo hi es`: what is bound, and what is listed, stands in scopes above lo, up to hi (`inside-binds`,
--- `puts-ranged`). `puts-pieces`: the list has the first piece's entries and then the second's; `from-pieces`: from the second's scopes up
--- it has the second's; `puts-up`: renumbering goes through. `lastWrite` is the last answer written for a use id: `answer-only`, what the
+-- `puts-ranged`). `puts-pieces`: the list has the first piece's entries and then the second's; `puts-four` and `besides-four`: so in four
+-- pieces, and from the second's scopes up, besides the third's, it has those of the second and the fourth; `puts-up`: renumbering goes
+-- through. `lastWrite` is the last answer written for a use id: `answer-only`, what the
 -- recorded list has for it; `answer-pieces`, that of the second piece if it writes one; `notes-append`, records in two pieces.
-use Prim.Native.Nat.{ℕ, zero, suc, _≤_, _<_}
+use Prim.Native.Nat.{ℕ, suc, _+_, _≤_, _<_}
 use native.Mathlib.Omega.{arith}
 use mathlib.Core.Path.{_≡_, refl, sym, _∙_, ap, ap₂, subst}
 use mathlib.Core.Bool.{Bool, true, false, cond, _&&_}
 use mathlib.Core.List.{List, [], _∷_, _++_, map, append-nil, List·Memᴰ, List·Memᴰ·head, List·Memᴰ·tail}
 use mathlib.Core.Option.{Option, none, some}
-use lib.Dec.{T, eqb, leb, eqb→eq, leb→le, le→leb}
+use lib.Dec.{T, eqb, leb, ltb, eqb→eq, leb→le, le→leb, ltb→lt, lt→ltb}
 use Rattle.scope.specs.Graph.{carried, Entry, entry}
 use Rattle.semantics.specs.Log.{Answer, Bound, bound, Write, write, Event, open', bind, carry, answer, find, bindsIn, logs}
 use Rattle.semantics.specs.Lists.{put, puts, note, notes, answerFor}
-use Rattle.theorems.proofs.Moved.{numberBound, up}
+use Rattle.theorems.proofs.Moved.{numberBound, up, eqb-up}
 use Rattle.theorems.proofs.Within.{Within, nil, cons, inside}
-use Rattle.theorems.specs.Compare.{numberEntry, from}
-use Rattle.theorems.proofs.Tests.{bool-ext, eq→eqb, ne→eqb}
+use Rattle.theorems.specs.Compare.{numberEntry, from, besides}
+use Rattle.theorems.proofs.Tests.{bool-ext, holds, eq→eqb, ne→eqb}
 
 -- Recorded: the last write counts.
 unfoldable pub lastWrite : ℕ → List Write → Option Answer → Option Answer
@@ -150,27 +151,73 @@ from-above {r} (more′ {e = entry s x v k o} h p) =
     rw (bool-ext (leb (suc r) s) true (λ t. tt) (λ t. le→leb (suc r) s (h .0))) (ap (_∷_ (entry s x v k o)) (from-above p))
 
 -- The entries that the first piece makes, and then those that the second makes.
-pub puts-pieces : {mid hi : ℕ} {xs ys : List Bound} → Inside 0 mid xs → Inside mid hi ys → puts (xs ++ ys) [] ≡ puts xs [] ++ puts ys []
-puts-pieces {xs} {ys} p q = puts-append xs ys [] ∙ ap (puts ys) (sym (append-nil (puts xs []))) ∙ puts-past [] q (puts-ranged p none′)
+pub puts-pieces : {lo mid hi : ℕ} {xs ys : List Bound} → Inside lo mid xs → Inside mid hi ys → puts (xs ++ ys) [] ≡ puts xs [] ++ puts ys []
+puts-pieces {xs = xs} {ys = ys} p q = puts-append xs ys [] ∙ ap (puts ys) (sym (append-nil (puts xs []))) ∙ puts-past [] q (puts-ranged p none′)
 
 -- The entries that the second piece makes.
-pub from-pieces : {mid hi : ℕ} {xs ys : List Bound} → Inside 0 mid xs → Inside mid hi ys → from (suc mid) (puts (xs ++ ys) []) ≡ puts ys []
+from-pieces : {mid hi : ℕ} {xs ys : List Bound} → Inside 0 mid xs → Inside mid hi ys → from (suc mid) (puts (xs ++ ys) []) ≡ puts ys []
 from-pieces {mid} {hi} {xs} {ys} p q =
     let low : Ranged 0 mid (puts xs []) = puts-ranged p none′ in
     let high : Ranged mid hi (puts ys []) = puts-ranged q none′ in
     ap (from (suc mid)) (puts-pieces p q) ∙ from-append (suc mid) (puts xs []) (puts ys []) ∙ ap₂ _++_ (from-below low) (from-above high)
 
+inside-wide : {lo lo′ hi hi′ : ℕ} {bs : List Bound} → lo′ ≤ lo → hi ≤ hi′ → Inside lo hi bs → Inside lo′ hi′ bs
+inside-wide a b none″ = none″
+inside-wide a b (more″ {s = s} {x = x} {v = v} {k = k} i j p) = more″ {s = s} {x = x} {v = v} {k = k} (omega arith) (omega arith) (inside-wide a b p)
+
+inside-join : {lo hi : ℕ} {xs ys : List Bound} → Inside lo hi xs → Inside lo hi ys → Inside lo hi (xs ++ ys)
+inside-join none″ q = q
+inside-join (more″ i j p) q = more″ i j (inside-join p q)
+
+-- The entries besides those of the n scopes after r: all of others, none of these.
+besides-append : (r n : ℕ) (us bs : List Entry) → besides r n (us ++ bs) ≡ besides r n us ++ besides r n bs
+unfolding besides
+besides-append r n [] bs = refl
+besides-append r n (entry s x v k o ∷ us) bs = go (ltb r s && leb s (r + n)) (besides-append r n us bs)
+  where
+    go : (c : Bool) → besides r n (us ++ bs) ≡ besides r n us ++ besides r n bs
+        → cond c (besides r n (us ++ bs)) (entry s x v k o ∷ besides r n (us ++ bs)) ≡ cond c (besides r n us) (entry s x v k o ∷ besides r n us) ++ besides r n bs
+    go true ih = ih
+    go false ih = ap (_∷_ (entry s x v k o)) ih
+
+besides-others : {lo hi : ℕ} (r n : ℕ) {us : List Entry} → ((s : ℕ) → lo < s → s ≤ hi → r < s → s ≤ r + n → ⊥) → Ranged lo hi us → besides r n us ≡ us
+unfolding besides
+besides-others r n f none′ = refl
+besides-others r n f (more′ {e = entry s x v k o} h p) = rw (go (ltb r s) (leb s (r + n)) (λ t u. f s (h .0) (h .1) (ltb→lt r s t) (leb→le s (r + n) u))) (ap (_∷_ (entry s x v k o)) (besides-others r n f p))
+  where
+    go : (a b : Bool) → (T a → T b → ⊥) → (a && b) ≡ false
+    go true true g = absurd (g tt tt)
+    go true false g = refl
+    go false b g = refl
+
+besides-own : (r n : ℕ) {us : List Entry} → Ranged r (r + n) us → besides r n us ≡ []
+unfolding besides
+besides-own r n none′ = refl
+besides-own r n (more′ {e = entry s x v k o} h p) = rw (holds (ltb r s) (lt→ltb r s (h .0)), holds (leb s (r + n)) (le→leb s (r + n) (h .1))) (besides-own r n p)
+
+-- Four pieces: up to r, in the scope after it, in the n scopes after that, and above.
+module _ (r n : ℕ) {hi : ℕ} {os bs cs ds : List Bound} (a : Inside 0 r os) (b : Inside r (suc r) bs) (c : Inside (suc r) (suc r + n) cs) (d : Inside (suc r + n) hi ds) (top : suc r + n ≤ hi) where
+  last-two : Inside (suc r) hi (cs ++ ds)
+  last-two = inside-join (inside-wide (omega arith) top c) (inside-wide {hi′ = hi} (omega arith) (omega arith) d)
+
+  all-three : Inside r hi (bs ++ (cs ++ ds))
+  all-three = inside-join (inside-wide (omega arith) (omega arith) b) (inside-wide {hi′ = hi} (omega arith) (omega arith) last-two)
+
+  puts-three : puts (bs ++ (cs ++ ds)) [] ≡ puts bs [] ++ (puts cs [] ++ puts ds [])
+  puts-three = puts-pieces b last-two ∙ ap (λ es. puts bs [] ++ es) (puts-pieces c d)
+
+  pub puts-four : puts (os ++ (bs ++ (cs ++ ds))) [] ≡ puts os [] ++ (puts bs [] ++ (puts cs [] ++ puts ds []))
+  puts-four = puts-pieces a all-three ∙ ap (λ es. puts os [] ++ es) puts-three
+
+  pub besides-four : besides (suc r) n (from (suc r) (puts (os ++ (bs ++ (cs ++ ds))) [])) ≡ puts (bs ++ ds) []
+  besides-four =
+      ap (besides (suc r) n) (from-pieces a all-three ∙ puts-three) ∙ besides-append (suc r) n (puts bs []) (puts cs [] ++ puts ds [])
+      ∙ ap₂ _++_ (besides-others (suc r) n (λ s i j k l. omega arith) (puts-ranged b none′))
+      (besides-append (suc r) n (puts cs []) (puts ds [])
+      ∙ ap₂ _++_ (besides-own (suc r) n (puts-ranged c none′)) (besides-others (suc r) n (λ s i j k l. omega arith) (puts-ranged d none′)))
+      ∙ sym (puts-pieces b (inside-wide {hi′ = hi} (omega arith) (omega arith) d))
+
 -- Numbers moved up.
-up-inj : (m s t : ℕ) → up m s ≡ up m t → s ≡ t
-unfolding up
-up-inj m zero zero p = refl
-up-inj m zero (suc t) p = absurd (omega arith)
-up-inj m (suc s) zero p = absurd (omega arith)
-up-inj m (suc s) (suc t) p = omega arith
-
-eqb-up : (m s t : ℕ) → eqb (up m s) (up m t) ≡ eqb s t
-eqb-up m s t = bool-ext (eqb (up m s) (up m t)) (eqb s t) (λ h. eq→eqb s t (up-inj m s t (eqb→eq (up m s) (up m t) h))) (λ h. eq→eqb (up m s) (up m t) (ap (up m) (eqb→eq s t h)))
-
 put-up : (m : ℕ) (b : Bound) (es : List Entry) → put (numberBound (up m) b) (map (numberEntry (up m)) es) ≡ map (numberEntry (up m)) (put b es)
 unfolding put numberBound numberEntry
 put-up m (bound s x v k) [] = refl

@@ -4,6 +4,7 @@ pub mod Adds
 pub mod Keeps
 pub mod Within
 pub mod Moved
+pub mod Scopes
 pub mod Entries
 pub mod Placed
 pub mod InLists
@@ -11,6 +12,7 @@ pub mod Bare
 pub mod Apart
 pub mod ApartSheets
 pub mod Agreeing
+pub mod Keyed
 pub mod Codes
 pub mod Uses
 pub mod Sizes
@@ -18,5 +20,6 @@ pub mod Looks
 pub mod Shows
 pub mod Barriers
 pub mod Inners
+pub mod Mets
 pub mod Agrees
 pub mod Forgets

@@ -1,24 +1,26 @@
 -- One part, walked from two states, the second time without its spans. `R m s c`: s is c but for spans, its scope numbers moved up by m
--- (`up`: 0 stays 0). Each step keeps it, `R m s c → R m (step s) (step c)`: `resolve-R`, `resolves-R`, `pattern-R`, `fresh-R`, `clause-R`,
--- `clauses-R`, `arms-R`. `blank` takes spans away from an event, `number` renumbers its scopes, `numberBound` and `numberCarried` those of
--- an entry; `exprs-erase`: projections without spans have the expressions without spans.
+-- (`up`: 0 stays 0). Each step keeps it, `R m s c → R m (step s) (step c)`: `resolve-R`, `resolves-R`, `pattern-R`, `fresh-R`, `sort-R`,
+-- `clause-R`, `clauses-R`, `arms-R`. `blank` takes spans away from an event, `number` renumbers its scopes, `numberBound` and
+-- `numberCarried` those of an entry; `eqb-up`: moved numbers are equal where the numbers are; `exprs-erase`, `keys-erase`: projections and
+-- sort keys without spans have the expressions without spans.
 use Prim.Native.Nat.{ℕ, zero, suc, _+_}
 use native.Mathlib.Omega.{arith}
-use mathlib.Core.Path.{_≡_, refl, _∙_, ap, ap₂, subst}
+use mathlib.Core.Path.{_≡_, refl, sym, _∙_, ap, ap₂}
 use mathlib.Core.Bool.{Bool, true, false, cond, not, _&&_, _||_}
-use mathlib.Core.List.{List, [], _∷_, map}
+use mathlib.Core.List.{List, [], _∷_, _++_, map, map-append}
 use mathlib.Core.Option.{Option, none, some}
-use lib.Dec.{T, eqb, eqb→eq, eqb-refl}
+use lib.Dec.{eqb, eqb→eq}
 use Rattle.scope.specs.Graph.{comprehensionScope, returnScope, withBarrier, callScope, unwindScope, rootScope, scope, Carried, carried}
 use Rattle.expr.specs.Tree.{Expr, var, unresolved, node, predicate, comprehension, Exprs, done, more, mark, Steps, end, part, elem}
-use Rattle.clauses.specs.Tree.{Projection, projection, Yield, yield, Clause, opening, reading, with', return, unwind, call, Arm, arm, exprs}
+use Rattle.clauses.specs.Tree.{Projection, projection, Yield, yield, Keys, unsorted, sorted, Clause, opening, reading, with', return, unwind, call, Arm, arm, exprs, keysOf}
 use Rattle.tables.specs.Row.{valueKind, pathKind, Row, row}
 use Rattle.expr.specs.Erase.{eraseE, erases, eraseS}
-use Rattle.clauses.specs.Erase.{eraseProjection, eraseC, eraseA}
+use Rattle.clauses.specs.Erase.{eraseProjection, eraseKeys, eraseC, eraseA}
 use Rattle.semantics.specs.Log.{e1002, finding, Bound, bound, Event, open', bind, carry, answer, find}
-use Rattle.semantics.specs.World.{World, variable, opens, Direct, aVar, aName, other, direct, yieldName, nameOf, kindOf}
-use Rattle.semantics.specs.Resolve.{Seen, seen, Pair, pair, State, lookup, binds, say, sayIf, enter, bindName, leave, standing, useVar, useName, bindAnew, bindNew, bindPath, bindElem, resolve, resolves, bindPattern, carries, carriedBy, carryAll, bindAll, barrier, fresh, yields, clause, clauses, arms}
+use Rattle.semantics.specs.World.{World, hush, variable, opens, Direct, aVar, aName, other, direct, yieldName, nameOf, kindOf}
+use Rattle.semantics.specs.Resolve.{Seen, seen, Pair, pair, State, lookup, binds, say, sayIf, enter, bindName, leave, standing, useVar, useName, visit, bindAnew, bindNew, bindPath, bindElem, resolve, resolves, bindPattern, carries, carriedBy, carryAll, bindAll, barrier, fresh, yields, aliasIn, aliases, sortBy, clause, clauses, arms}
 use Rattle.theorems.specs.Compare.{blankScope, blankFinding, numberScope}
+use Rattle.theorems.proofs.Tests.{bool-ext, eq→eqb}
 
 -- Spans away.
 unfoldable pub blank : Event → Event
@@ -63,6 +65,16 @@ unfolding exprs eraseProjection erases
 exprs-erase [] es = refl
 exprs-erase (projection a e ∷ ps) es = ap (more (eraseE e)) (exprs-erase ps es)
 
+pub keys-erase : (ks : Keys) → keysOf (eraseKeys ks) ≡ erases (keysOf ks)
+unfolding keysOf eraseKeys erases
+keys-erase unsorted = refl
+keys-erase (sorted es) = refl
+
+aliases-erase : (ps : List Projection) → aliases (map eraseProjection ps) ≡ aliases ps
+unfolding aliases eraseProjection
+aliases-erase [] = refl
+aliases-erase (projection a e ∷ ps) = ap (λ xs. aliasIn a ++ xs) (aliases-erase ps)
+
 direct-erase : (e : Expr) → direct (eraseE e) ≡ direct e
 unfolding direct eraseE
 direct-erase (var v) = refl
@@ -71,12 +83,6 @@ direct-erase (node f es) = refl
 direct-erase (predicate s) = refl
 direct-erase (comprehension a b s es) = refl
 
-bool-ext : (a b : Bool) → (T a → T b) → (T b → T a) → a ≡ b
-bool-ext true true f g = refl
-bool-ext true false f g = absurd (f tt)
-bool-ext false true f g = absurd (g tt)
-bool-ext false false f g = refl
-
 up-inj : (m s t : ℕ) → up m s ≡ up m t → s ≡ t
 unfolding up
 up-inj m zero zero p = refl
@@ -84,10 +90,8 @@ up-inj m zero (suc t) p = absurd (omega arith)
 up-inj m (suc s) zero p = absurd (omega arith)
 up-inj m (suc s) (suc t) p = omega arith
 
-eqb-up : (m s t : ℕ) → eqb (up m s) (up m t) ≡ eqb s t
-eqb-up m s t = bool-ext (eqb (up m s) (up m t)) (eqb s t)
-    (λ h. subst (λ x. T (eqb s x)) (up-inj m s t (eqb→eq (up m s) (up m t) h)) (eqb-refl s))
-    (λ h. subst (λ x. T (eqb (up m s) (up m x))) (eqb→eq s t h) (eqb-refl (up m s)))
+pub eqb-up : (m s t : ℕ) → eqb (up m s) (up m t) ≡ eqb s t
+eqb-up m s t = bool-ext (eqb (up m s) (up m t)) (eqb s t) (λ h. eq→eqb s t (up-inj m s t (eqb→eq (up m s) (up m t) h))) (λ h. eq→eqb (up m s) (up m t) (ap (up m) (eqb→eq s t h)))
 
 module _ (w : World) (m : ℕ) where
   -- the moved visible list has the same names, variables and own names
@@ -168,6 +172,11 @@ module _ (w : World) (m : ℕ) where
   name-R x (some v) h = say-R h refl
   name-R x none h = sayIf-R (not (w .isStar x)) _ _ (say-R h refl) refl
 
+  visit-R : (hushed : Bool) (x : ℕ) (o : Option ℕ) {s c : State} → R m s c → R m (visit w hushed x o s) (visit w hushed x o c)
+  unfolding visit
+  visit-R true x o h = h
+  visit-R false x o h = name-R x o h
+
   anew-R : (a b x v k : ℕ) {s c : State} → R m s c → R m (bindAnew w a b x v k s) (bindAnew w 0 0 x v k c)
   unfolding bindAnew blank number blankFinding
   anew-R a b x v k {s} {c} h = rw (owned-R h x) (sayIf-R (w .warns && binds (c .cur) x (c .visible)) (find (finding e1002 a b (suc x) 0 0)) (find (finding e1002 0 0 (suc x) 0 0)) (bind-R h x v k) refl)
@@ -187,7 +196,7 @@ module _ (w : World) (m : ℕ) where
 
     pub resolve-R : (t : Expr) {s c : State} → R m s c → R m (resolve w t s) (resolve w (eraseE t) c)
     resolve-R (var v) h = var-R h v (w .row v)
-    resolve-R (unresolved x) h = rw (found-R h x) (name-R x _ h)
+    resolve-R (unresolved x) h = rw (found-R h x) (visit-R (w .hushed x) x _ h)
     resolve-R (node f es) h = resolves-R es h
     resolve-R (predicate p) h = h
     resolve-R (comprehension a b p es) h = leave-R h (resolves-R es (pattern-R p (enter-R h comprehensionScope a b)))
@@ -221,17 +230,28 @@ module _ (w : World) (m : ℕ) where
   yields-R a b [] h = h
   yields-R a b (yield x y v ∷ ys) h = yields-R a b ys (anew-R a b (yieldName x y) v valueKind h)
 
+module _ (w : World) (m : ℕ) where
+  -- sort keys, with the list of another state behind
+  pub sort-R : (ks : Exprs) {s c t d : State} → R m s c → R m t d → R m (sortBy w ks (s .visible) t) (sortBy w (erases ks) (c .visible) d)
+  unfolding sortBy
+  sort-R ks {s} {c} {t} {d} h g =
+      let e = ap₂ _++_ (g .visible) (h .visible) ∙ sym (map-append (numberSeen (up m)) (d .visible) (c .visible)) in
+      leave-R w m g (resolves-R w m ks (record { visible = e; cur = g .cur; last = g .last; log = g .log }))
+
   pub clause-R : (t : Clause) {s c : State} → R m s c → R m (clause w t s) (clause w (eraseC t) c)
   unfolding clause eraseC barrier erases up
-  clause-R (opening o a b p) h = pattern-R p (enter-R h (opens o) a b)
-  clause-R (reading r a b es) h = resolves-R es h
-  clause-R (with' a b ps f) {s} {c} h =
-      rw (← exprs-erase ps f, carried-R h ps) (fresh-R b _ (carry-R _ (enter-R (resolves-R (exprs ps f) h) withBarrier a b)))
-  clause-R (return a b ps) {s} {c} h =
-      rw (← exprs-erase ps done)
-      (let g = resolves-R (exprs ps done) (leave-R h (enter-R h returnScope a b)) in record { visible = h .visible; cur = ap suc (h .last); last = g .last; log = g .log })
-  clause-R (unwind a b v e) h = bind-R (enter-R h unwindScope a b) (nameOf w v) v valueKind
-  clause-R (call a b es ys) h = yields-R a b ys (enter-R h callScope a b)
+  clause-R (opening o a b p) h = pattern-R w m p (enter-R w m h (opens o) a b)
+  clause-R (reading r a b es) h = resolves-R w m es h
+  clause-R (with' a b ps f ks) {s} {c} h =
+      rw (← exprs-erase ps f, keys-erase ks, carried-R w m h ps)
+      (sort-R (keysOf ks) h (fresh-R w m b _ (carry-R w m _ (enter-R w m (resolves-R w m (exprs ps f) h) withBarrier a b))))
+  clause-R (return a b ps ks) {s} {c} h =
+      rw (← exprs-erase ps done, keys-erase ks, aliases-erase ps)
+      (let g = resolves-R w m (exprs ps done) (leave-R w m h (enter-R w m h returnScope a b)) in
+      let k = resolves-R (hush (aliases ps) w) m (keysOf ks) g in
+      record { visible = h .visible; cur = ap suc (h .last); last = k .last; log = k .log })
+  clause-R (unwind a b v e) h = bind-R w m (enter-R w m h unwindScope a b) (nameOf w v) v valueKind
+  clause-R (call a b es ys) h = yields-R w m a b ys (enter-R w m h callScope a b)
 
   pub clauses-R : (ts : List Clause) {s c : State} → R m s c → R m (clauses w ts s) (clauses w (map eraseC ts) c)
   unfolding clauses
@@ -241,4 +261,4 @@ module _ (w : World) (m : ℕ) where
   pub arms-R : (ts : List Arm) {s c : State} → R m s c → R m (arms w ts s) (arms w (map eraseA ts) c)
   unfolding arms eraseA up
   arms-R [] h = h
-  arms-R (arm a b cs ∷ ts) h = arms-R ts (clauses-R cs (standing-R h 0 0 refl))
+  arms-R (arm a b cs ∷ ts) h = arms-R ts (clauses-R cs (standing-R w m h 0 0 refl))

@@ -1,12 +1,12 @@
 -- Both walks together say at most as much as there are words: a word or more pays for each event of the log and for each finding of the
--- kinds walk. `few-E`, `few-Es`, `few-S` say it of trees; `few-C` of one clause, from any state, so that a log of one clause has room in
--- that clause's words; `few-Cs` of clauses, `few-As` of arms (which get no kind check), `few` of a statement, `few-words` of an accepted
--- sheet, and `fits` of its lists.
+-- kinds walk, and sort keys pay by their own. `few-E`, `few-Es`, `few-S` say it of trees (the two walks may have Worlds of their own);
+-- `few-C` of one clause, from any state, so that a log of one clause has room in that clause's words; `few-Cs` of clauses, `few-As` of arms
+-- (which get no kind check), `few` of a statement, `few-words` of an accepted sheet, and `fits` of its lists.
 use Prim.Native.Nat.{ℕ, suc, _+_, _-_, _*_, _≤_}
 use native.Mathlib.Omega.{arith}
 use mathlib.Core.Path.{_≡_, refl, _∙_, ap}
 use mathlib.Core.Bool.{Bool, true, false, cond, not, _&&_}
-use mathlib.Core.List.{List, [], _∷_, flatMap, reverseAux}
+use mathlib.Core.List.{List, [], _∷_, _++_, flatMap, reverseAux}
 use mathlib.Core.Option.{Option, none, some}
 use lib.Dec.{eqb, leb}
 use lib.ListN.{length, length-append, length-take, length-drop}
@@ -18,8 +18,8 @@ use Rattle.heads.specs.declared.Maybe.the-variants as maybe
 use Rattle.heads.specs.Form.{formWords}
 use Rattle.expr.specs.Tree.{Expr, var, unresolved, node, predicate, comprehension, Exprs, done, more, mark, Steps, end, part, elem}
 use Rattle.expr.specs.Write.{maybeWords, writeE, writes, writeS}
-use Rattle.clauses.specs.Tree.{Projection, projection, Yield, yield, Clause, opening, reading, with', return, unwind, call, Arm, arm, exprs}
-use Rattle.clauses.specs.Write.{writeProjection, writeYield, countedWords, writeClause, writeArm}
+use Rattle.clauses.specs.Tree.{Projection, projection, Yield, yield, Keys, unsorted, sorted, Clause, opening, reading, with', return, unwind, call, Arm, arm, exprs, keysOf}
+use Rattle.clauses.specs.Write.{writeProjection, writeYield, countedWords, writeKeys, writeClause, writeArm}
 use Rattle.tables.specs.Row.{valueKind, pathKind, Row, row}
 use Rattle.sheet.specs.Trailer.{placesOf, section}
 use Rattle.sheet.specs.Statement.{Statement}
@@ -27,8 +27,8 @@ use Rattle.sheet.specs.Read.{accepted, readSheet}
 use Rattle.sheet.proofs.Accepted.{accepted-words}
 use Rattle.scope.specs.Graph.{comprehensionScope, returnScope, withBarrier, callScope, rootScope, carried, Entry, entry}
 use Rattle.semantics.specs.Log.{Bound, bound, Write, write, Event, open', bind, carry, answer, find, scopesIn, bindsIn, carriesIn, answersIn, findsIn, logs}
-use Rattle.semantics.specs.World.{World, variable, opens, other, direct, yieldName, nameOf, kindOf, worldOf}
-use Rattle.semantics.specs.Resolve.{Seen, Pair, pair, State, lookup, ifRow, ifSome, say, sayIf, enter, bindName, leave, standing, useVar, useName, bindAnew, bindNew, bindPath, bindElem, resolve, resolves, bindPattern, carries, carriedBy, carryAll, bindAll, barrier, fresh, yields, clause, clauses, arms, start, run, log}
+use Rattle.semantics.specs.World.{World, hush, variable, opens, other, direct, yieldName, nameOf, kindOf, worldOf}
+use Rattle.semantics.specs.Resolve.{Seen, Pair, pair, State, lookup, ifRow, ifSome, say, sayIf, enter, bindName, leave, standing, useVar, useName, visit, bindAnew, bindNew, bindPath, bindElem, resolve, resolves, bindPattern, carries, carriedBy, carryAll, bindAll, barrier, fresh, yields, aliases, sortBy, clause, clauses, arms, start, run, log}
 use Rattle.semantics.specs.Kinds.{patternType, stringType, intType, noType, Setting, general, arithmetic, property, boolean, listed, both, plain, typeOf, settings, atType, atRow, misplaced, rowFor, kindsE, kindsEs, kindsS, kindsC, kinds}
 use Rattle.semantics.specs.Kinds as Walk
 use Rattle.semantics.specs.Lists.{put, puts, note, notes, lists}
@@ -120,6 +120,17 @@ module _ (w : World) where
   name-few x (some v) s = unfold useName in omega arith
   name-few x none s = omega (arith, name-twice x none s)
 
+  some-few : (x : ℕ) (o : Option ℕ) → length (ifSome o x) ≤ 1
+  unfolding ifSome
+  some-few x none = omega arith
+  some-few x (some v) = omega arith
+
+  -- a hushed name says nothing
+  visit-few : (hushed : Bool) (x : ℕ) (o : Option ℕ) (s : State) → (said (visit w hushed x o s) ≤ suc (suc (said s))) × (said (visit w hushed x o s) + 2 * length (ifSome o x) ≤ 3 + said s)
+  unfolding visit
+  visit-few true x o s = omega (arith, some-few x o)
+  visit-few false x o s = (name-twice x o s, name-few x o s)
+
   anew-few : (a b x v k : ℕ) (s : State) → said (bindAnew w a b x v k s) ≤ suc (suc (said s))
   unfolding bindAnew
   anew-few a b x v k s = if-few _ _ _
@@ -139,32 +150,39 @@ module _ (w : World) where
   elem-few k (maybe.Var v) s = omega (arith, new-few (lookup (nameOf w v) (s .visible)) (nameOf w v) v k s)
   elem-few k maybe.Nothing s = omega arith
 
-  -- Trees.
+key-few : (ks : Keys) → length (writes (keysOf ks)) ≤ length (writeKeys ks)
+unfolding keysOf writeKeys writes
+key-few unsorted = omega arith
+key-few (sorted es) = omega arith
+
+-- Trees, resolved in the World v, their kinds found in w: a RETURN's sort keys are resolved where its aliases are hushed.
+module _ (v w : World) where
   mutual
     unfolding resolve kindsE writeE formWords
 
-    pub few-E : (t : Expr) (d : Setting) (s : State) → said (resolve w t s) + length (kindsE w t d) ≤ length (writeE t) + said s
-    few-E (var v) d s = omega (arith, var-once v (w .row v) s, row-few d (w .row v))
-    few-E (unresolved x) d s = omega (arith, name-twice x (lookup x (s .visible)) s)
+    pub few-E : (t : Expr) (d : Setting) (s : State) → said (resolve v t s) + length (kindsE w t d) ≤ length (writeE t) + said s
+    few-E (var u) d s = omega (arith, var-once v u (v .row u) s, row-few d (w .row u))
+    few-E (unresolved x) d s = omega (arith, visit-few v (v .hushed x) x (lookup x (s .visible)) s .0)
     few-E (node f es) d s = simp length-append (omega (arith, form-words f, type-few d (typeOf f), few-Es es (settings (w .isId) f d) s))
     few-E (predicate p) d s = simp length-append (omega (arith, type-few d patternType, few-S p nowhere))
     few-E (comprehension a b p es) d s =
-        simp length-append (omega (arith, few-S p (enter comprehensionScope a b s), few-Es es plain (bindPattern w p (enter comprehensionScope a b s))))
+        simp length-append (omega (arith, few-S p (enter comprehensionScope a b s), few-Es es plain (bindPattern v p (enter comprehensionScope a b s))))
 
-    pub few-Es : (t : Exprs) (p : Walk.Pair) (s : State) → said (resolves w t s) + length (kindsEs w t p) ≤ length (writes t) + said s
+    pub few-Es : (t : Exprs) (p : Walk.Pair) (s : State) → said (resolves v t s) + length (kindsEs w t p) ≤ length (writes t) + said s
     few-Es done p s = omega arith
-    few-Es (more e es) (both d g) s = simp length-append (omega (arith, few-E e d s, few-Es es (both g g) (resolve w e s)))
+    few-Es (more e es) (both d g) s = simp length-append (omega (arith, few-E e d s, few-Es es (both g g) (resolve v e s)))
     few-Es (mark m es) p s = omega (arith, few-Es es p s)
 
-    pub few-S : (t : Steps) (s : State) → said (bindPattern w t s) + length (kindsS w t) ≤ length (writeS t) + said s
+    pub few-S : (t : Steps) (s : State) → said (bindPattern v t s) + length (kindsS w t) ≤ length (writeS t) + said s
     few-S end s = omega arith
     few-S (part p r) s =
-        simp length-append (omega (arith, path-few p s, misplaced-few 1 pathKind 0 0 (rowFor w p), few-S r (bindPath w (variable p) s)))
-    few-S (elem k a b v es r) s =
-        let t = bindElem w k (variable v) s in
+        simp length-append (omega (arith, path-few v p s, misplaced-few 1 pathKind 0 0 (rowFor w p), few-S r (bindPath v (variable p) s)))
+    few-S (elem k a b p es r) s =
+        let t = bindElem v k (variable p) s in
         simp length-append
-        (omega (arith, elem-few k v s, misplaced-few (suc k) k a b (rowFor w v), few-Es es plain t, few-S r (resolves w es t)))
+        (omega (arith, elem-few v k p s, misplaced-few (suc k) k a b (rowFor w p), few-Es es plain t, few-S r (resolves v es t)))
 
+module _ (w : World) where
   -- Projections: with what WITH carries of them, which counts twice, as carried and as bound.
   carries-other : (a : Option ℕ) (vis : List Seen) → length (carries w a other vis) ≤ 0
   unfolding carries
@@ -174,18 +192,18 @@ module _ (w : World) where
   one-few : (a : Option ℕ) (e : Expr) (vis : List Seen) (s : State) → s .visible ≡ vis
       → said (resolve w e s) + length (kindsE w e general) + 2 * length (carries w a (direct e) vis) ≤ 1 + length (writeE e) + said s
   unfolding carries direct resolve kindsE writeE formWords
-  one-few (some y) (var v) vis s p = omega (arith, var-plain v (w .row v) s)
-  one-few none (var v) vis s p = var-few v (w .row v) s
-  one-few (some y) (unresolved x) vis s p = omega (arith, name-twice x (lookup x (s .visible)) s)
-  one-few none (unresolved x) vis s p = rw (← p) (omega (arith, name-few x (lookup x (s .visible)) s))
-  one-few a (node f es) vis s p = omega (arith, carries-other a vis, few-E (node f es) general s)
-  one-few a (predicate i) vis s p = omega (arith, carries-other a vis, few-E (predicate i) general s)
-  one-few a (comprehension i j q es) vis s p = omega (arith, carries-other a vis, few-E (comprehension i j q es) general s)
+  one-few (some y) (var v) vis s p = omega (arith, var-plain w v (w .row v) s)
+  one-few none (var v) vis s p = var-few w v (w .row v) s
+  one-few (some y) (unresolved x) vis s p = omega (arith, visit-few w (w .hushed x) x (lookup x (s .visible)) s .0)
+  one-few none (unresolved x) vis s p = rw (← p) (omega (arith, visit-few w (w .hushed x) x (lookup x (s .visible)) s .1))
+  one-few a (node f es) vis s p = omega (arith, carries-other a vis, few-E w w (node f es) general s)
+  one-few a (predicate i) vis s p = omega (arith, carries-other a vis, few-E w w (predicate i) general s)
+  one-few a (comprehension i j q es) vis s p = omega (arith, carries-other a vis, few-E w w (comprehension i j q es) general s)
 
   exprs-few : (ps : List Projection) (f : Exprs) (vis : List Seen) (s : State) → s .visible ≡ vis
       → said (resolves w (exprs ps f) s) + length (kindsEs w (exprs ps f) plain) + 2 * length (carriedBy w ps vis) ≤ length (flatMap writeProjection ps) + length (writes f) + said s
   unfolding exprs carriedBy writeProjection flatMap resolve kindsE
-  exprs-few [] f vis s p = omega (arith, few-Es f plain s)
+  exprs-few [] f vis s p = omega (arith, few-Es w w f plain s)
   exprs-few (projection a e ∷ ps) f vis s p =
       simp length-append (omega (arith, one-few a e vis s p, exprs-few ps f vis (resolve w e s) (keeps w e s .visible ∙ p)))
 
@@ -202,22 +220,38 @@ module _ (w : World) where
   yields-few : (a b : ℕ) (ys : List Yield) (s : State) → said (yields w a b ys s) ≤ length (flatMap writeYield ys) + said s
   unfolding yields writeYield flatMap
   yields-few a b [] s = omega arith
-  yields-few a b (yield x y v ∷ ys) s = omega (arith, anew-few a b (yieldName x y) v valueKind s, yields-few a b ys (bindAnew w a b (yieldName x y) v valueKind s))
+  yields-few a b (yield x y v ∷ ys) s = omega (arith, anew-few w a b (yieldName x y) v valueKind s, yields-few a b ys (bindAnew w a b (yieldName x y) v valueKind s))
 
   -- Clauses.
   pub few-C : (t : Clause) (s : State) → ClauseFits w t s
-  unfolding clause kindsC writeClause countedWords barrier fresh writes
-  few-C (opening o a b p) s = simp length-append (omega (arith, few-S p (enter (opens o) a b s)))
-  few-C (reading r a b es) s = simp length-append (omega (arith, few-Es es plain s))
-  few-C (with' a b ps f) s =
+  unfolding clause sortBy kindsC writeClause countedWords barrier fresh writes
+  few-C (opening o a b p) s = simp length-append (omega (arith, few-S w w p (enter (opens o) a b s)))
+  few-C (reading r a b es) s = simp length-append (omega (arith, few-Es w w es plain s))
+  few-C (with' a b ps f ks) s =
       let cs = carriedBy w ps (s .visible) in
       let t = resolves w (exprs ps f) s in
       let u = barrier w a b cs t in
+      let v = fresh w b cs u in
       simp length-append
-      (omega (arith, exprs-few ps f (s .visible) s refl, carry-few cs (enter withBarrier a b t), bind-few cs (enter rootScope b b (standing [] (u .cur) u))))
-  few-C (return a b ps) s = omega (arith, exprs-few ps done (s .visible) (leave s (enter returnScope a b s)) refl)
-  few-C (unwind a b v e) s = omega (arith, few-E e general nowhere)
-  few-C (call a b es ys) s = simp length-append (omega (arith, yields-few a b ys (enter callScope a b s), few-Es es plain nowhere))
+      (omega (
+        arith,
+        exprs-few ps f (s .visible) s refl,
+        carry-few cs (enter withBarrier a b t),
+        bind-few cs (enter rootScope b b (standing [] (u .cur) u)),
+        few-Es w w (keysOf ks) plain (standing (v .visible ++ s .visible) (v .cur) v),
+        key-few ks,
+      ))
+  few-C (return a b ps ks) s =
+      let t = leave s (enter returnScope a b s) in
+      simp length-append
+      (omega (
+        arith,
+        exprs-few ps done (s .visible) t refl,
+        few-Es (hush (aliases ps) w) w (keysOf ks) plain (resolves w (exprs ps done) t),
+        key-few ks,
+      ))
+  few-C (unwind a b v e) s = omega (arith, few-E w w e general nowhere)
+  few-C (call a b es ys) s = simp length-append (omega (arith, yields-few a b ys (enter callScope a b s), few-Es w w es plain nowhere))
 
   pub few-Cs : (ts : List Clause) (s : State) → said (clauses w ts s) + length (kinds w ts) ≤ length (flatMap writeClause ts) + said s
   unfolding clauses kinds flatMap

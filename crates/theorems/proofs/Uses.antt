@@ -1,8 +1,8 @@
--- E1001 and the unresolved record arise at the uses whose name is not visible, and nowhere else: `arises` at one use, `of-uses` over a
--- statement. One induction (`sees`) serves every view of the log that passes over all else (`Quiet`). `lacking` and `lookup-none`: the
--- test, and lookup, of a name that is not visible.
-use Prim.Native.Nat.{ℕ, suc, _+_}
-use mathlib.Core.Path.{_≡_, refl, sym, _∙_, ap, ap₂}
+-- E1001 and the unresolved record arise at the uses whose name is not visible, and nowhere else: `arises` at one use, also where others are
+-- hushed (`arises-hushed`), `of-uses` over a statement. One induction (`sees`) serves every view of the log that passes over all else
+-- (`Quiet`). `lacking` and `lookup-none`: the test, and lookup, of a name that is not visible.
+use Prim.Native.Nat.{ℕ, suc}
+use mathlib.Core.Path.{_≡_, refl, sym, _∙_, ap, ap₂, subst}
 use mathlib.Core.Logic.{_↔_, _⊎_, inl, inr}
 use mathlib.Core.Bool.{Bool, true, false, cond, not, _&&_}
 use mathlib.Core.List.{List, [], _∷_, _++_, flatMap, reverse, reverseAux, append-nil, append-assoc, List·Memᴰ, List·Memᴰ·head, List·Memᴰ·tail, List·Memᴰ·not-nil, List·Memᴰ·cases-cons, List·Memᴰ·eq-of-singleton}
@@ -12,17 +12,18 @@ use lib.Dec.{eqb}
 use borrow.Author.Tests.{eqb-true, eq-eqb}
 use Rattle.scope.specs.Graph.{comprehensionScope, returnScope, withBarrier, callScope, rootScope, Scope, Carried, carried}
 use Rattle.words.specs.Fnv.{useId}
+use Rattle.heads.specs.Answer.{isIn}
 use Rattle.expr.specs.Tree.{Expr, var, unresolved, node, predicate, comprehension, Exprs, done, more, mark, Steps, end, part, elem}
-use Rattle.clauses.specs.Tree.{Yield, yield, Clause, opening, reading, with', return, unwind, call, Arm, arm, exprs}
+use Rattle.clauses.specs.Tree.{Yield, yield, Clause, opening, reading, with', return, unwind, call, Arm, arm, exprs, keysOf}
 use Rattle.tables.specs.Row.{valueKind, pathKind, Row, row}
 use Rattle.sheet.specs.Statement.{Statement}
 use Rattle.semantics.specs.Log
 use Rattle.semantics.specs.Log.{e1002, Finding, finding, missing, Write, write, Bound, bound, Event, open', bind, carry, answer, find, answerOf, findOf, answersIn, findsIn}
-use Rattle.semantics.specs.World.{World, variable, opens, yieldName, nameOf, kindOf, starName, bytesOf, worldOf}
-use Rattle.semantics.specs.Resolve.{Seen, seen, Pair, pair, State, lookup, binds, say, sayIf, enter, bindName, leave, standing, useVar, useName, bindAnew, bindNew, bindPath, bindElem, resolve, resolves, bindPattern, carriedBy, carryAll, bindAll, barrier, fresh, yields, clause, clauses, arms, start, run, log}
+use Rattle.semantics.specs.World.{World, hush, variable, opens, yieldName, nameOf, kindOf, starName, bytesOf, worldOf}
+use Rattle.semantics.specs.Resolve.{Seen, seen, Pair, pair, State, lookup, binds, say, sayIf, enter, bindName, leave, standing, useVar, useName, visit, bindAnew, bindNew, bindPath, bindElem, resolve, resolves, bindPattern, carriedBy, carryAll, bindAll, barrier, fresh, yields, aliases, sortBy, clause, clauses, arms, start, run, log}
 use Rattle.semantics.specs.Kinds.{kinds}
 use Rattle.semantics.specs.Lists.{findings}
-use Rattle.theorems.specs.Uses.{Use, byVar, byName, Lacks, lacks, usesE, usesEs, usesS, usesC, usesCs, usesAs, e1001, answerBy, ofRow, recordOf, unresolvedOf, uses, coded, withCode, unresolvedAs, unresolvedIn, Arises, OfUses}
+use Rattle.theorems.specs.Uses.{Use, byVar, byName, Lacks, lacks, usesE, usesEs, usesS, sortAt, usesC, usesCs, usesAs, e1001, answerBy, ofRow, recordOf, unresolvedOf, uses, coded, withCode, unresolvedAs, unresolvedIn, Arises, OfUses}
 use Rattle.theorems.proofs.Views.{pick-append}
 use Rattle.theorems.proofs.Codes.{kinds-no-1001}
 
@@ -36,6 +37,12 @@ nought = record { visible = []; cur = 0; last = 0; log = [] }
 unfoldable pub atUse : World → Use → List Event
 atUse w (byVar v) = useVar w v (w .row v) nought .log
 atUse w (byName x vis) = useName w x (lookup x vis) nought .log
+
+-- The same, whichever names are hushed.
+hush-use : (xs : List ℕ) (w : World) (u : Use) → atUse (hush xs w) u ≡ atUse w u
+unfolding atUse useVar useName kindOf
+hush-use xs w (byVar v) = refl
+hush-use xs w (byName x vis) = refl
 
 -- A view that passes over all else.
 pub record Quiet {B : Type 0} (f : Event → List B) : Type 0 where
@@ -54,49 +61,51 @@ unfolding view flatMap
 view-reverse f [] m = refl
 view-reverse f (e ∷ l) m = view-reverse f l (e ∷ m) ∙ sym (append-assoc (view f l) (f e) (flatMap f m))
 
-module _ {B : Type 0} (f : Event → List B) (q : Quiet f) (w : World) where
-  abbrev seenAt : Use → List B
-  seenAt u = view f (atUse w u)
+-- From the log l to m these uses are seen, each as `see` says.
+record Sees {B : Type 0} (f : Event → List B) (see : Use → List B) (l m : List Event) (us : List Use) : Type 0 where
+  pub same : view f m ≡ view f l ++ flatMap see us
 
-  -- From the log l to m these uses are seen.
-  record Sees (l m : List Event) (us : List Use) : Type 0 where
-    pub same : view f m ≡ view f l ++ flatMap seenAt us
-
-  none′ : {l : List Event} → Sees l l []
+module _ {B : Type 0} {f : Event → List B} {see : Use → List B} where
+  none′ : {l : List Event} → Sees f see l l []
   unfolding flatMap
   none′ = record { same = sym (append-nil _) }
 
-  quiet : {l : List Event} (e : Event) → f e ≡ [] → Sees l (e ∷ l) []
+  quiet : {l : List Event} (e : Event) → f e ≡ [] → Sees f see l (e ∷ l) []
   unfolding view flatMap
   quiet e p = record { same = rw p refl }
 
-  then : {l m n : List Event} {us vs : List Use} → Sees l m us → Sees m n vs → Sees l n (us ++ vs)
-  then {l} {m} {n} {us} {vs} a b = record { same = rw (pick-append seenAt us vs) (b .same ∙ ap (λ x. x ++ flatMap seenAt vs) (a .same) ∙ append-assoc (view f l) _ _) }
+  then : {l m n : List Event} {us vs : List Use} → Sees f see l m us → Sees f see m n vs → Sees f see l n (us ++ vs)
+  then {l} {m} {n} {us} {vs} a b = record { same = rw (pick-append see us vs) (b .same ∙ ap (λ x. x ++ flatMap see vs) (a .same) ∙ append-assoc (view f l) _ _) }
 
-  ends : {l m n : List Event} {us : List Use} → Sees l m us → Sees m n [] → Sees l n us
+  ends : {l m n : List Event} {us : List Use} → Sees f see l m us → Sees f see m n [] → Sees f see l n us
   unfolding flatMap
   ends a b = record { same = b .same ∙ append-nil _ ∙ a .same }
 
-  quiet-if : (b : Bool) (i j x : ℕ) (s : State) → Sees (s .log) (sayIf b (find (finding e1002 i j x 0 0)) s .log) []
+module _ {B : Type 0} {f : Event → List B} (q : Quiet f) (w : World) where
+  -- as the World w has it
+  abbrev Seen′ : List Event → List Event → List Use → Type 0
+  Seen′ = Sees f (λ u. view f (atUse w u))
+
+  quiet-if : (b : Bool) (i j x : ℕ) (s : State) → Seen′ (s .log) (sayIf b (find (finding e1002 i j x 0 0)) s .log) []
   unfolding sayIf
   quiet-if true i j x s = quiet _ (q .repeats i j x)
   quiet-if false i j x s = none′
 
-  sees-anew : (i j x v k : ℕ) (s : State) → Sees (s .log) (bindAnew w i j x v k s .log) []
+  sees-anew : (i j x v k : ℕ) (s : State) → Seen′ (s .log) (bindAnew w i j x v k s .log) []
   unfolding bindAnew
   sees-anew i j x v k s = then (quiet _ (q .binds (bound (s .cur) x v k))) (quiet-if _ i j (suc x) (bindName x v k s))
 
-  sees-new : (o : Option ℕ) (x v k : ℕ) (s : State) → Sees (s .log) (bindNew w o x v k s .log) []
+  sees-new : (o : Option ℕ) (x v k : ℕ) (s : State) → Seen′ (s .log) (bindNew w o x v k s .log) []
   unfolding bindNew
   sees-new none x v k s = quiet _ (q .binds _)
   sees-new (some u) x v k s = none′
 
-  sees-path : (o : Option ℕ) (s : State) → Sees (s .log) (bindPath w o s .log) []
+  sees-path : (o : Option ℕ) (s : State) → Seen′ (s .log) (bindPath w o s .log) []
   unfolding bindPath
   sees-path none s = none′
   sees-path (some v) s = sees-anew 0 0 (nameOf w v) v pathKind s
 
-  sees-elem : (k : ℕ) (o : Option ℕ) (s : State) → Sees (s .log) (bindElem w k o s .log) []
+  sees-elem : (k : ℕ) (o : Option ℕ) (s : State) → Seen′ (s .log) (bindElem w k o s .log) []
   unfolding bindElem
   sees-elem k none s = none′
   sees-elem k (some v) s = sees-new (lookup (nameOf w v) (s .visible)) (nameOf w v) v k s
@@ -116,61 +125,74 @@ module _ {B : Type 0} (f : Event → List B) (q : Quiet f) (w : World) where
   sees-name x (some v) s = rw append-nil refl
   sees-name x none s = sees-if (not (w .isStar x)) _ _ s
 
+  sees-visit : (hushed : Bool) (x : ℕ) (s : State) → Seen′ (s .log) (visit w hushed x (lookup x (s .visible)) s .log) (cond hushed [] (byName x (s .visible) ∷ []))
+  unfolding visit atUse flatMap
+  sees-visit true x s = none′
+  sees-visit false x s = record { same = sees-name x (lookup x (s .visible)) s }
+
   mutual
     unfolding resolve usesE atUse flatMap
 
-    sees-E : (t : Expr) (s : State) → Sees (s .log) (resolve w t s .log) (usesE w t s)
+    sees-E : (t : Expr) (s : State) → Seen′ (s .log) (resolve w t s .log) (usesE w t s)
     sees-E (var v) s = record { same = sees-var v (w .row v) s }
-    sees-E (unresolved x) s = record { same = sees-name x (lookup x (s .visible)) s }
+    sees-E (unresolved x) s = sees-visit (w .hushed x) x s
     sees-E (node g es) s = sees-Es es s
     sees-E (predicate p) s = none′
     sees-E (comprehension a b p es) s = then (quiet _ (q .opens _)) (then (sees-S p (enter comprehensionScope a b s)) (sees-Es es _))
 
-    sees-Es : (t : Exprs) (s : State) → Sees (s .log) (resolves w t s .log) (usesEs w t s)
+    sees-Es : (t : Exprs) (s : State) → Seen′ (s .log) (resolves w t s .log) (usesEs w t s)
     sees-Es done s = none′
     sees-Es (more e es) s = then (sees-E e s) (sees-Es es _)
     sees-Es (mark m es) s = sees-Es es s
 
-    sees-S : (t : Steps) (s : State) → Sees (s .log) (bindPattern w t s .log) (usesS w t s)
+    sees-S : (t : Steps) (s : State) → Seen′ (s .log) (bindPattern w t s .log) (usesS w t s)
     sees-S end s = none′
     sees-S (part p r) s = then (sees-path (variable p) s) (sees-S r _)
     sees-S (elem k a b v es r) s = then (sees-elem k (variable v) s) (then (sees-Es es _) (sees-S r _))
 
-  sees-carry : (ps : List Pair) (s : State) → Sees (s .log) (carryAll w ps s .log) []
+  sees-carry : (ps : List Pair) (s : State) → Seen′ (s .log) (carryAll w ps s .log) []
   unfolding carryAll
   sees-carry [] s = none′
   sees-carry (pair x v ∷ ps) s = then (quiet _ (q .carries (carried (s .cur) x v))) (sees-carry ps _)
 
-  sees-bind : (ps : List Pair) (s : State) → Sees (s .log) (bindAll w ps s .log) []
+  sees-bind : (ps : List Pair) (s : State) → Seen′ (s .log) (bindAll w ps s .log) []
   unfolding bindAll
   sees-bind [] s = none′
   sees-bind (pair x v ∷ ps) s = then (quiet _ (q .binds _)) (sees-bind ps (bindName x v (kindOf w v) s))
 
-  sees-yields : (a b : ℕ) (ys : List Yield) (s : State) → Sees (s .log) (yields w a b ys s .log) []
+  sees-yields : (a b : ℕ) (ys : List Yield) (s : State) → Seen′ (s .log) (yields w a b ys s .log) []
   unfolding yields
   sees-yields a b [] s = none′
   sees-yields a b (yield x y v ∷ ys) s = then (sees-anew a b (yieldName x y) v valueKind s) (sees-yields a b ys _)
 
-  sees-C : (t : Clause) (s : State) → Sees (s .log) (clause w t s .log) (usesC w t s)
-  unfolding clause usesC barrier fresh
-  sees-C (opening o a b p) s = then (quiet _ (q .opens _)) (sees-S p (enter (opens o) a b s))
-  sees-C (reading r a b es) s = sees-Es es s
-  sees-C (with' a b ps g) s =
+module _ {B : Type 0} {f : Event → List B} (q : Quiet f) (w : World) where
+  hush-sees : (xs : List ℕ) {l m : List Event} {us : List Use} → Seen′ q (hush xs w) l m us → Seen′ q w l m us
+  hush-sees xs {l} {m} {us} = subst (λ (at : Use → List Event). Sees f (λ u. view f (at u)) l m us) (λ i u. hush-use xs w u i)
+
+  sees-C : (t : Clause) (s : State) → Seen′ q w (s .log) (clause w t s .log) (usesC w t s)
+  unfolding clause usesC barrier fresh sortBy sortAt
+  sees-C (opening o a b p) s = then (quiet _ (q .opens _)) (sees-S q w p (enter (opens o) a b s))
+  sees-C (reading r a b es) s = sees-Es q w es s
+  sees-C (with' a b ps g ks) s =
       let cs = carriedBy w ps (s .visible) in
       let t = resolves w (exprs ps g) s in
       let u = barrier w a b cs t in
-      ends (sees-Es (exprs ps g) s)
-      (then (quiet _ (q .opens _)) (then (sees-carry cs (enter withBarrier a b t)) (then (quiet _ (q .opens _)) (sees-bind cs (enter rootScope b b (standing [] (u .cur) u))))))
-  sees-C (return a b ps) s = then (quiet _ (q .opens _)) (sees-Es (exprs ps done) (leave s (enter returnScope a b s)))
+      then
+      (ends (sees-Es q w (exprs ps g) s)
+      (then (quiet _ (q .opens _)) (then (sees-carry q w cs (enter withBarrier a b t)) (then (quiet _ (q .opens _)) (sees-bind q w cs (enter rootScope b b (standing [] (u .cur) u)))))))
+      (sees-Es q w (keysOf ks) (sortAt w a b ps g s))
+  sees-C (return a b ps ks) s =
+      let t = leave s (enter returnScope a b s) in
+      then (quiet _ (q .opens _)) (then (sees-Es q w (exprs ps done) t) (hush-sees (aliases ps) (sees-Es q (hush (aliases ps) w) (keysOf ks) (resolves w (exprs ps done) t))))
   sees-C (unwind a b v e) s = then (quiet _ (q .opens _)) (quiet _ (q .binds _))
-  sees-C (call a b es ys) s = then (quiet _ (q .opens _)) (sees-yields a b ys (enter callScope a b s))
+  sees-C (call a b es ys) s = then (quiet _ (q .opens _)) (sees-yields q w a b ys (enter callScope a b s))
 
-  sees-Cs : (ts : List Clause) (s : State) → Sees (s .log) (clauses w ts s .log) (usesCs w ts s)
+  sees-Cs : (ts : List Clause) (s : State) → Seen′ q w (s .log) (clauses w ts s .log) (usesCs w ts s)
   unfolding clauses usesCs
   sees-Cs [] s = none′
   sees-Cs (t ∷ ts) s = then (sees-C t s) (sees-Cs ts _)
 
-  sees-As : (ts : List Arm) (s : State) → Sees (s .log) (arms w ts s .log) (usesAs w ts s)
+  sees-As : (ts : List Arm) (s : State) → Seen′ q w (s .log) (arms w ts s .log) (usesAs w ts s)
   unfolding arms usesAs
   sees-As [] s = none′
   sees-As (arm a b cs ∷ ts) s = then (sees-Cs cs (standing [] 0 s)) (sees-As ts _)
@@ -180,7 +202,7 @@ unfolding log run uses start view flatMap
 sees f q warns s =
     let w = worldOf warns s in
     view-reverse f (run warns s .log) [] ∙ append-nil _
-    ∙ (then f q w (sees-Cs f q w (s .head) (start s)) (sees-As f q w (s .arms) _) .same ∙ rw (q .opens _) refl)
+    ∙ (then (sees-Cs q w (s .head) (start s)) (sees-As q w (s .arms) _) .same ∙ rw (q .opens _) refl)
 
 -- The visible list: what the lookup finds none for, it lacks.
 unfoldable isNone : Option ℕ → Bool
@@ -286,10 +308,15 @@ module _ (warns : Bool) (st : Statement) (x : ℕ) (vis : List Seen) where
   }
   arises-at none h = rw (said-is (starName (bytesOf st x))) (arises-missing (starName (bytesOf st x)) (star (bytesOf st x)) (h .0 refl))
 
-  -- In a state where vis is visible and nothing was said yet.
+  -- In a state where vis is visible and nothing was said yet; and so where other names are hushed.
   pub arises : (cur last : ℕ) → Arises st x vis (reverse (resolve w (unresolved x) (record { visible = vis; cur = cur; last = last; log = [] }) .log))
-  unfolding resolve
+  unfolding resolve visit worldOf
   arises cur last = rw (same-log (lookup x vis) cur last) (arises-at (lookup x vis) (lookup-none x vis))
+
+  pub arises-hushed : (xs : List ℕ) → isIn x xs ≡ false → (cur last : ℕ)
+      → Arises st x vis (reverse (resolve (hush xs w) (unresolved x) (record { visible = vis; cur = cur; last = last; log = [] }) .log))
+  unfolding resolve visit
+  arises-hushed xs e cur last = rw e (unfold useName kindOf in rw (same-log (lookup x vis) cur last) (arises-at (lookup x vis) (lookup-none x vis)))
 
 -- Over a statement: the views of the log that pass over all but the uses.
 abbrev findsOf : Event → List Finding

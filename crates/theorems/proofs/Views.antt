@@ -1,12 +1,13 @@
 -- The views of a log in pieces, and of a log changed event by event. `pick-append`: a view of `l ++ m` is that of l and then that of m;
--- `scopes-append`, `binds-append`, `carried-append`, `opened-append` say it of each view. `pick-map`: an event's view goes with the event;
--- `pick-same`: a view that doesn't see the change. `opened-reverse`: as many scopes are opened whichever way a log is read.
+-- `scopes-append`, `binds-append`, `answers-append`, `carried-append`, `opened-append` say it of each view. `pick-map`: an event's view
+-- goes with the event; `pick-same`: a view that doesn't see the change. `opened-reverse`: as many scopes are opened whichever way a log is
+-- read; `map-reverse`: a list changed entry by entry, turned round.
 use Prim.Native.Nat.{_+_}
 use native.Mathlib.Omega.{arith}
 use mathlib.Core.Path.{_≡_, refl, sym, ap₂}
 use mathlib.Core.List.{List, [], _∷_, _++_, map, flatMap, reverseAux, append-assoc, map-append}
 use lib.ListN.{length-append}
-use Rattle.semantics.specs.Log.{Event, open', bind, carry, answer, find, scopesIn, scopeOf, bindsIn, bindOf, carriesIn, carryOf, opened, logs}
+use Rattle.semantics.specs.Log.{Event, open', bind, carry, answer, find, scopesIn, scopeOf, bindsIn, bindOf, carriesIn, carryOf, answersIn, answerOf, opened, logs}
 
 module _ {A B : Type 0} (f : A → List B) where
   pub pick-append : (l m : List A) → flatMap f (l ++ m) ≡ flatMap f l ++ flatMap f m
@@ -24,6 +25,10 @@ module _ {A B : Type 0} (f : A → List B) where
   pick-same g e [] = refl
   pick-same g e (x ∷ l) = ap₂ _++_ (e x) (pick-same g e l)
 
+pub map-reverse : {A B : Type 0} (f : A → B) (l m : List A) → map f (reverseAux l m) ≡ reverseAux (map f l) (map f m)
+map-reverse f [] m = refl
+map-reverse f (x ∷ l) m = map-reverse f l (x ∷ m)
+
 pub scopes-append : (l m : List Event) → scopesIn (l ++ m) ≡ scopesIn l ++ scopesIn m
 unfolding scopesIn
 scopes-append l m = pick-append scopeOf l m
@@ -31,6 +36,10 @@ scopes-append l m = pick-append scopeOf l m
 pub binds-append : (l m : List Event) → bindsIn (l ++ m) ≡ bindsIn l ++ bindsIn m
 unfolding bindsIn
 binds-append l m = pick-append bindOf l m
+
+pub answers-append : (l m : List Event) → answersIn (l ++ m) ≡ answersIn l ++ answersIn m
+unfolding answersIn
+answers-append l m = pick-append answerOf l m
 
 pub carried-append : (l m : List Event) → carriesIn (l ++ m) ≡ carriesIn l ++ carriesIn m
 unfolding carriesIn

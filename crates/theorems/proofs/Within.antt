@@ -1,23 +1,24 @@
--- A walk binds only in scopes, and carries only at barriers, that it opens itself, and it numbers scopes as it opens them.
--- `Within lo hi l`: all that l binds and carries stands in scopes above lo, up to hi (`within-wide`: or a higher one; `within-reverse`: read
--- in either direction). `Well lo z s`: so the log of s, up to its last scope; with z scopes before it, the count is the last number.
--- `Runs s t`: from s to t the current scope stays, the last number doesn't fall, and t is well. For each step `-W` says that a state stays
--- well: `standing-W`, `enter-W`, `answer-W`, `find-W`, `carry-W`, `bind-W`, `anew-W`, `new-W`, `path-W`, `elem-W`; the walks `resolve-W`,
--- `resolves-W`, `pattern-W`; and the clauses' steps `carryAll-W`, `bindAll-W`, `yields-W`, `barrier-W`, `fresh-W`, `clause-W`, `clauses-W`, `arms-W`.
+-- A walk binds only in scopes, and carries only at barriers, that it opens itself, and it numbers scopes as it opens them. `Within lo hi
+-- l`: all that l binds and carries stands in scopes above lo, up to hi (`within-wide`: or a lower and a higher one; `within-join`: of two
+-- logs, one above the other; `within-reverse`: read in either direction). `Well lo z s`: so the log of s, up to its last scope; with z
+-- scopes before it, the count is the last number. `Runs s t`: from s to t the current scope stays, the last number doesn't fall, and t is
+-- well. For each step `-W` says that a state stays well: `standing-W`, `enter-W`, `answer-W`, `find-W`, `carry-W`, `bind-W`, `anew-W`,
+-- `new-W`, `path-W`, `elem-W`; the walks `resolve-W`, `resolves-W`, `pattern-W`; and the clauses' steps `carryAll-W`, `bindAll-W`,
+-- `yields-W`, `barrier-W`, `fresh-W`, `sort-W`, `clause-W`, `clauses-W`, `arms-W`.
 use Prim.Native.Nat.{ℕ, suc, _+_, _≤_, _<_}
 use native.Mathlib.Nat.{le-refl, le-trans}
 use native.Mathlib.Omega.{arith}
 use mathlib.Core.Path.{_≡_, refl, _∙_}
 use mathlib.Core.Bool.{Bool, true, false, not, _&&_}
-use mathlib.Core.List.{List, [], _∷_, reverseAux}
+use mathlib.Core.List.{List, [], _∷_, _++_, reverseAux}
 use mathlib.Core.Option.{Option, none, some}
 use Rattle.scope.specs.Graph.{comprehensionScope, returnScope, withBarrier, callScope, unwindScope, rootScope, carried}
 use Rattle.expr.specs.Tree.{Expr, var, unresolved, node, predicate, comprehension, Exprs, done, more, mark, Steps, end, part, elem}
-use Rattle.clauses.specs.Tree.{Yield, yield, Clause, opening, reading, with', return, unwind, call, Arm, arm, exprs}
+use Rattle.clauses.specs.Tree.{Yield, yield, Clause, opening, reading, with', return, unwind, call, Arm, arm, exprs, keysOf}
 use Rattle.tables.specs.Row.{valueKind, pathKind, Row, row}
 use Rattle.semantics.specs.Log.{e1002, e1001, Finding, finding, Write, bound, Event, open', bind, carry, answer, find, opened, logs}
-use Rattle.semantics.specs.World.{World, variable, opens, yieldName, nameOf, kindOf}
-use Rattle.semantics.specs.Resolve.{Seen, Pair, pair, State, lookup, binds, say, sayIf, enter, bindName, standing, useVar, useName, bindAnew, bindNew, bindPath, bindElem, resolve, resolves, bindPattern, carriedBy, carryAll, bindAll, barrier, fresh, yields, clause, clauses, arms}
+use Rattle.semantics.specs.World.{World, hush, variable, opens, yieldName, nameOf, kindOf}
+use Rattle.semantics.specs.Resolve.{Seen, Pair, pair, State, lookup, binds, say, sayIf, enter, bindName, standing, useVar, useName, visit, bindAnew, bindNew, bindPath, bindElem, resolve, resolves, bindPattern, carriedBy, carryAll, bindAll, barrier, fresh, yields, aliases, sortBy, clause, clauses, arms}
 
 -- Every binding of the log stands in a scope, every carried name at a barrier, above lo and not above hi.
 unfoldable pub inside : ℕ → ℕ → Event → Type 0
@@ -31,14 +32,21 @@ pub data Within (lo hi : ℕ) : List Event → Type 0 where
   nil : Within lo hi []
   cons : {e : Event} {l : List Event} → inside lo hi e → Within lo hi l → Within lo hi (e ∷ l)
 
-pub within-wide : {lo hi hi′ : ℕ} {l : List Event} → hi ≤ hi′ → Within lo hi l → Within lo hi′ l
+pub within-wide : {lo lo′ hi hi′ : ℕ} {l : List Event} → lo′ ≤ lo → hi ≤ hi′ → Within lo hi l → Within lo′ hi′ l
 unfolding inside
-within-wide b nil = nil
-within-wide b (cons {e = open' s} h p) = cons tt (within-wide b p)
-within-wide b (cons {e = bind (bound s x v k)} h p) = cons {e = bind (bound s x v k)} (h .0, omega arith) (within-wide b p)
-within-wide b (cons {e = carry (carried c x v)} h p) = cons {e = carry (carried c x v)} (h .0, omega arith) (within-wide b p)
-within-wide b (cons {e = answer i} h p) = cons tt (within-wide b p)
-within-wide b (cons {e = find f} h p) = cons tt (within-wide b p)
+within-wide a b nil = nil
+within-wide a b (cons {e = open' s} h p) = cons tt (within-wide a b p)
+within-wide a b (cons {e = bind (bound s x v k)} h p) = cons {e = bind (bound s x v k)} (omega arith, omega arith) (within-wide a b p)
+within-wide a b (cons {e = carry (carried c x v)} h p) = cons {e = carry (carried c x v)} (omega arith, omega arith) (within-wide a b p)
+within-wide a b (cons {e = answer i} h p) = cons tt (within-wide a b p)
+within-wide a b (cons {e = find f} h p) = cons tt (within-wide a b p)
+
+pub within-join : {lo mid hi : ℕ} {l m : List Event} → lo ≤ mid → mid ≤ hi → Within lo mid l → Within mid hi m → Within lo hi (l ++ m)
+within-join a b p q = both (within-wide (le-refl _) b p) (within-wide a (le-refl _) q)
+  where
+    both : {lo hi : ℕ} {l m : List Event} → Within lo hi l → Within lo hi m → Within lo hi (l ++ m)
+    both nil q = q
+    both (cons h p) q = cons h (both p q)
 
 pub within-reverse : {lo hi : ℕ} {l m : List Event} → Within lo hi l → Within lo hi m → Within lo hi (reverseAux l m)
 within-reverse nil q = q
@@ -72,7 +80,7 @@ module _ (w : World) (lo z : ℕ) where
   -- one step
   pub enter-W : (k a b : ℕ) {s : State} → Fine s → Fine (enter k a b s)
   unfolding inside logs
-  enter-W k a b {s} h = record { within = cons tt (within-wide (omega arith) (h .within)); count = omega (arith, h .count); low = omega (arith, h .low) }
+  enter-W k a b {s} h = record { within = cons tt (within-wide (le-refl _) (omega arith) (h .within)); count = omega (arith, h .count); low = omega (arith, h .low) }
 
   pub answer-W : {s : State} (a : Write) → Fine s → Fine (say (answer a) s)
   unfolding inside logs
@@ -101,6 +109,11 @@ module _ (w : World) (lo z : ℕ) where
   name-W x (some v) h = still refl refl (answer-W _ h)
   name-W x none {s} h = then (still refl refl (answer-W _ h)) (find-W (not (w .isStar x)) (finding e1001 0 0 (suc x) 0 0) (answer-W _ h))
 
+  visit-W : (hushed : Bool) (x : ℕ) (o : Option ℕ) {s : State} → Fine s → Runs s (visit w hushed x o s)
+  unfolding visit
+  visit-W true x o h = still refl refl h
+  visit-W false x o h = name-W x o h
+
   pub anew-W : (a b x v k : ℕ) {s : State} → lo < s .cur → s .cur ≤ s .last → Fine s → Runs s (bindAnew w a b x v k s)
   unfolding bindAnew
   anew-W a b x v k {s} p q h = let g = bind-W x v k p q h in then g (find-W (w .warns && binds (s .cur) x (s .visible)) (finding e1002 a b (suc x) 0 0) (g .fine))
@@ -125,7 +138,7 @@ module _ (w : World) (lo z : ℕ) where
 
     pub resolve-W : (t : Expr) {s : State} → Fine s → Runs s (resolve w t s)
     resolve-W (var v) h = var-W v (w .row v) h
-    resolve-W (unresolved x) {s} h = name-W x (lookup x (s .visible)) h
+    resolve-W (unresolved x) {s} h = visit-W (w .hushed x) x (lookup x (s .visible)) h
     resolve-W (node f es) h = resolves-W es h
     resolve-W (predicate p) h = still refl refl h
     resolve-W (comprehension a b p es) {s} h =
@@ -173,21 +186,30 @@ module _ (w : World) (lo z : ℕ) where
   unfolding fresh
   fresh-W b ps {s} h = bindAll-W ps {s = enter rootScope b b (standing [] (s .cur) s)} (omega (arith, h .low)) (le-refl _) (enter-W rootScope b b (standing-W [] (s .cur) h)) .fine
 
-  pub clause-W : (t : Clause) {s : State} → Fine s → Fine (clause w t s)
-  unfolding clause
-  clause-W (opening o a b p) {s} h = pattern-W p {s = enter (opens o) a b s} (omega (arith, h .low)) (le-refl _) (enter-W (opens o) a b h) .fine
-  clause-W (reading r a b es) h = resolves-W es h .fine
-  clause-W (with' a b ps f) {s} h = fresh-W b (carriedBy w ps (s .visible)) (barrier-W a b (carriedBy w ps (s .visible)) (resolves-W (exprs ps f) h .fine))
-  clause-W (return a b ps) {s} h = standing-W _ _ (resolves-W (exprs ps done) (standing-W (s .visible) (s .cur) (enter-W returnScope a b h)) .fine)
-  clause-W (unwind a b v e) {s} h = bind-W (nameOf w v) v valueKind {s = enter unwindScope a b s} (omega (arith, h .low)) (le-refl _) (enter-W unwindScope a b h) .fine
-  clause-W (call a b es ys) {s} h = yields-W a b ys {s = enter callScope a b s} (omega (arith, h .low)) (le-refl _) (enter-W callScope a b h) .fine
+module _ (w : World) (lo z : ℕ) where
+  pub sort-W : (ks : Exprs) (vis : List Seen) {s : State} → Well lo z s → Well lo z (sortBy w ks vis s)
+  unfolding sortBy
+  sort-W ks vis {s} h = standing-W w lo z (s .visible) (s .cur) (resolves-W w lo z ks (standing-W w lo z (s .visible ++ vis) (s .cur) h) .fine)
 
-  pub clauses-W : (ts : List Clause) {s : State} → Fine s → Fine (clauses w ts s)
+  pub clause-W : (t : Clause) {s : State} → Well lo z s → Well lo z (clause w t s)
+  unfolding clause
+  clause-W (opening o a b p) {s} h = pattern-W w lo z p {s = enter (opens o) a b s} (omega (arith, h .low)) (le-refl _) (enter-W w lo z (opens o) a b h) .fine
+  clause-W (reading r a b es) h = resolves-W w lo z es h .fine
+  clause-W (with' a b ps f ks) {s} h =
+      let cs = carriedBy w ps (s .visible) in
+      sort-W (keysOf ks) (s .visible) (fresh-W w lo z b cs (barrier-W w lo z a b cs (resolves-W w lo z (exprs ps f) h .fine)))
+  clause-W (return a b ps ks) {s} h =
+      let g = resolves-W w lo z (exprs ps done) (standing-W w lo z (s .visible) (s .cur) (enter-W w lo z returnScope a b h)) in
+      standing-W w lo z _ _ (resolves-W (hush (aliases ps) w) lo z (keysOf ks) (g .fine) .fine)
+  clause-W (unwind a b v e) {s} h = bind-W w lo z (nameOf w v) v valueKind {s = enter unwindScope a b s} (omega (arith, h .low)) (le-refl _) (enter-W w lo z unwindScope a b h) .fine
+  clause-W (call a b es ys) {s} h = yields-W w lo z a b ys {s = enter callScope a b s} (omega (arith, h .low)) (le-refl _) (enter-W w lo z callScope a b h) .fine
+
+  pub clauses-W : (ts : List Clause) {s : State} → Well lo z s → Well lo z (clauses w ts s)
   unfolding clauses
   clauses-W [] h = h
   clauses-W (t ∷ ts) h = clauses-W ts (clause-W t h)
 
-  pub arms-W : (ts : List Arm) {s : State} → Fine s → Fine (arms w ts s)
+  pub arms-W : (ts : List Arm) {s : State} → Well lo z s → Well lo z (arms w ts s)
   unfolding arms
   arms-W [] h = h
-  arms-W (arm a b cs ∷ ts) {s} h = arms-W ts (clauses-W cs (standing-W [] 0 h))
+  arms-W (arm a b cs ∷ ts) {s} h = arms-W ts (clauses-W cs (standing-W w lo z [] 0 h))

@@ -12,7 +12,7 @@ use Rattle.expr.specs.Tree.{Steps}
 use Rattle.clauses.specs.Tree.{Clause, Arm, arm}
 use Rattle.sheet.specs.Statement.{Statement}
 use Rattle.semantics.specs.Log.{Event, open', scopesIn, bindsIn, carriesIn, opened}
-use Rattle.semantics.specs.World.{worldOf}
+use Rattle.semantics.specs.World.{hush, worldOf}
 use Rattle.semantics.specs.Resolve.{Seen, seen, State, standing, bindPattern, clauses, start, log}
 use Rattle.semantics.specs.Resolve
 use Rattle.semantics.specs.Lists.{puts, scopes, bindings, carriedList}
@@ -49,17 +49,28 @@ module _ (warns : Bool) (s : Statement) where
   abbrev pub armAt : List Arm → List Clause → State
   armAt earlier before = clauses (worldOf warns s) before (standing [] 0 (Resolve.arms (worldOf warns s) earlier (headAt (s .head))))
 
+  -- What is visible and lookup doesn't reach: nothing, but in a WITH's sort keys (document 02, CR 1) the list before that WITH.
+  pub data Beyond : List Seen → Type 0 where
+    nowhere : Beyond []
+    ahead : (p : Site) → Stands s p → Beyond (before warns s p .visible)
+
   -- A comprehension's scope, opened after the log l with the parent p, m being what follows: at that time lookup from p gives what is
-  -- visible around it. p may bind more later: in the end the scope has the names of its pattern, else what p has.
+  -- visible around it, as far as it reaches. p may bind more later: in the end the scope has the names of its pattern, else what p has.
+  -- The World is the statement's, but for the names that a RETURN's sort keys hush, if it stands in these.
   pub record Inner (l m : List Event) (p : ℕ) : Type 0 where
     pub pattern : Steps
     pub visible : List Seen
+    pub reach : List Seen
+    pub beyond : List Seen
+    pub splits : visible ≡ reach ++ beyond
+    pub hidden : Beyond beyond
+    pub hushed : List ℕ
     pub rest : List Event
-    pub says : m ≡ reverse (bindPattern (worldOf warns s) pattern (openedAfter l visible) .log) ++ rest
+    pub says : m ≡ reverse (bindPattern (hush hushed (worldOf warns s)) pattern (openedAfter l visible) .log) ++ rest
     pub lower : p < opened l
-    pub around : (x : ℕ) → look l p x ≡ seenAs x visible
+    pub around : (x : ℕ) → look l p x ≡ seenAs x reach
     pub own : List Seen
-    pub adds : bindPattern (worldOf warns s) pattern (openedAfter l visible) .visible ≡ own ++ visible
+    pub adds : bindPattern (hush hushed (worldOf warns s)) pattern (openedAfter l visible) .visible ≡ own ++ visible
     pub inside : (x : ℕ) → inLists (opened l) x ≡ orParent (seenAs x own) (inLists p x)
 
   -- Lookup agrees with the walk.

@@ -1,9 +1,9 @@
 -- What "Before and after a WITH" compares: entries without their spans, and with their scope numbers moved.
 use Prim.Native.Nat.{ℕ, zero, suc, _+_, _-_}
-use mathlib.Core.Bool.{cond}
+use mathlib.Core.Bool.{cond, _&&_}
 use mathlib.Core.List.{List, [], _∷_}
 use mathlib.Core.Option.{Option·map}
-use lib.Dec.{leb}
+use lib.Dec.{leb, ltb}
 use Rattle.scope.specs.Graph.{Scope, scope, Entry, entry}
 use Rattle.semantics.specs.Log.{Finding, finding}
 
@@ -30,3 +30,8 @@ moved r₁ r₂ (suc s) = suc s + r₂ - r₁
 unfoldable pub from : ℕ → List Entry → List Entry
 from r [] = []
 from r (entry s x v k o ∷ es) = cond (leb r s) (entry s x v k o ∷ from r es) (from r es)
+
+-- The entries of all scopes but the n after r: those that sort keys open (document 02, CR 1).
+unfoldable pub besides : ℕ → ℕ → List Entry → List Entry
+besides r n [] = []
+besides r n (entry s x v k o ∷ es) = cond (ltb r s && leb s (r + n)) (besides r n es) (entry s x v k o ∷ besides r n es)

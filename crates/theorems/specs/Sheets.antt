@@ -3,8 +3,12 @@
 use Prim.Native.Nat.{ℕ}
 use mathlib.Core.Path.{_≡_}
 use mathlib.Core.Bool.{Bool}
-use mathlib.Core.List.{List, map, flatMap}
+use mathlib.Core.List.{List, _∷_, map, flatMap}
 use Rattle.words.specs.Words.{words}
+use Rattle.expr.specs.Tree.{kidCount}
+use Rattle.expr.specs.Erase.{erases}
+use Rattle.expr.specs.Write.{writes}
+use Rattle.clauses.specs.Tree.{keysOf}
 use Rattle.clauses.specs.Write.{writeClause, writeArm}
 use Rattle.clauses.specs.Erase.{eraseC, eraseA}
 use Rattle.sheet.specs.Trailer.{placesOf, section}
@@ -28,6 +32,10 @@ laterClauseWords p = flatMap writeClause (map eraseC (cutOf p .after))
 unfoldable pub laterArmWords : Statement → Site → List ℕ
 laterArmWords st p = flatMap writeArm (map eraseA (laterArms st p))
 
+-- The words of a WITH's sort keys without their spans: their count, 0 where it has none, and each.
+unfoldable pub keyWords : Site → List ℕ
+keyWords p = let es = erases (keysOf (cutOf p .keys)) in kidCount es ∷ writes es
+
 -- One WITH in each of two accepted sheets: what is equal.
 pub record AgreeSheets (warns : Bool) (s₁ s₂ : List ℕ) (st₁ st₂ : Statement) (p₁ p₂ : Site) : Type 0 where
   pub reads₁ : readSheet s₁ ≡ accepted st₁
@@ -38,5 +46,6 @@ pub record AgreeSheets (warns : Bool) (s₁ s₂ : List ℕ) (st₁ st₂ : Stat
   pub names : namesSection s₁ ≡ namesSection s₂
   pub table : bindingsSection s₁ ≡ bindingsSection s₂
   pub carried : pairsAt (barrierOf warns st₁ p₁) (Lists.carriedList warns st₁) ≡ pairsAt (barrierOf warns st₂ p₂) (Lists.carriedList warns st₂)
+  pub keys : keyWords p₁ ≡ keyWords p₂
   pub clauses : laterClauseWords p₁ ≡ laterClauseWords p₂
   pub arms : laterArmWords st₁ p₁ ≡ laterArmWords st₂ p₂

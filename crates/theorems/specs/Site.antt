@@ -5,11 +5,11 @@ use mathlib.Core.Path.{_≡_}
 use mathlib.Core.Bool.{Bool, true, false}
 use mathlib.Core.List.{List, [], _∷_, _++_, reverse}
 use Rattle.expr.specs.Tree.{Exprs}
-use Rattle.clauses.specs.Tree.{Projection, Clause, with', Arm, arm, exprs}
+use Rattle.clauses.specs.Tree.{Projection, Keys, Clause, with', Arm, arm, exprs, keysOf}
 use Rattle.sheet.specs.Statement.{Statement}
-use Rattle.semantics.specs.Log.{Event}
+use Rattle.semantics.specs.Log.{Event, opened}
 use Rattle.semantics.specs.World.{World, worldOf}
-use Rattle.semantics.specs.Resolve.{Pair, State, standing, resolves, carriedBy, barrier, fresh, clauses, arms, start}
+use Rattle.semantics.specs.Resolve.{Pair, State, standing, resolves, carriedBy, barrier, fresh, sortBy, clauses, arms, start}
 
 -- A head's or an arm's clauses, cut at one WITH.
 pub record Cut : Type 0 where
@@ -18,10 +18,11 @@ pub record Cut : Type 0 where
   pub stop : ℕ
   pub projections : List Projection
   pub filter : Exprs
+  pub keys : Keys
   pub after : List Clause
 
 unfoldable pub whole : Cut → List Clause
-whole c = c .before ++ with' (c .start) (c .stop) (c .projections) (c .filter) ∷ c .after
+whole c = c .before ++ with' (c .start) (c .stop) (c .projections) (c .filter) (c .keys) ∷ c .after
 
 pub data Site : Type 0 where
   inHead : Cut → Site
@@ -45,9 +46,9 @@ abbrev pub laterArms : Statement → Site → List Arm
 laterArms s (inHead c) = s .arms
 laterArms s (inArm e a b c l) = l
 
--- The part after a WITH with its new Root, from the barrier's state on.
-unfoldable pub part : World → ℕ → List Pair → List Clause → List Arm → State → State
-part w b cs after later s = arms w later (clauses w after (fresh w b cs s))
+-- The clauses and arms after a WITH, from the state that it leaves.
+unfoldable pub part : World → List Clause → List Arm → State → State
+part w after later s = arms w later (clauses w after s)
 
 -- in the same place, nothing having been said
 abbrev pub silent : State → State
@@ -83,11 +84,32 @@ module _ (warns : Bool) (s : Statement) where
   unfolding barrierOf
   newRoot p = suc (barrierOf p)
 
-  -- What the part after the WITH says.
+  -- At its new Root, with the carried names; its sort keys being resolved.
+  unfoldable pub rooted : Site → State
+  rooted p = fresh world (cutOf p .stop) (pairs p) (atBarrier p)
+
+  unfoldable pub ordered : Site → State
+  ordered p = sortBy world (keysOf (cutOf p .keys)) (before p .visible) (rooted p)
+
+  -- What the new Root says, what the sort keys say, and what follows them.
+  unfoldable pub rootLog : Site → List Event
+  rootLog p = reverse (fresh world (cutOf p .stop) (pairs p) (silent (atBarrier p)) .log)
+
+  unfoldable pub keysLog : Site → List Event
+  keysLog p = reverse (sortBy world (keysOf (cutOf p .keys)) (before p .visible) (silent (rooted p)) .log)
+
+  unfoldable pub restLog : Site → List Event
+  restLog p = reverse (part world (cutOf p .after) (laterArms s p) (silent (ordered p)) .log)
+
+  -- What the part after the WITH says, with its new Root: "the editor's guarantee leaves out" the sort keys (document 02, CR 1).
   unfoldable pub partLog : Site → List Event
-  partLog p = reverse (part world (cutOf p .stop) (pairs p) (cutOf p .after) (laterArms s p) (silent (atBarrier p)) .log)
+  partLog p = rootLog p ++ restLog p
+
+  -- How many scopes the sort keys open: the numbers after the new Root's.
+  unfoldable pub keyScopes : Site → ℕ
+  keyScopes p = opened (keysLog p)
 
 -- `unfolding sites` opens the above.
 unfoldable pub sites : Unit {0}
-unfolding whole part entry before pairs resolved atBarrier barrierOf newRoot partLog
+unfolding whole part entry before pairs resolved atBarrier barrierOf newRoot rooted ordered rootLog keysLog restLog partLog keyScopes
 sites = tt

@@ -10,13 +10,13 @@ use lib.Dec.{eqb}
 use Rattle.words.specs.Fnv.{useId}
 use Rattle.scope.specs.Graph.{returnScope, comprehensionScope}
 use Rattle.expr.specs.Tree.{Expr, var, unresolved, node, predicate, comprehension, Exprs, done, more, mark, Steps, end, part, elem}
-use Rattle.clauses.specs.Tree.{Clause, opening, reading, with', return, unwind, call, Arm, arm, exprs}
+use Rattle.clauses.specs.Tree.{Projection, Clause, opening, reading, with', return, unwind, call, Arm, arm, exprs, keysOf}
 use Rattle.tables.specs.Row.{Row, row}
 use Rattle.sheet.specs.Statement.{Statement}
 use Rattle.semantics.specs.Log
 use Rattle.semantics.specs.Log.{Finding, finding, Answer, found, missing, Write, write, Event, answer, find, answersIn}
-use Rattle.semantics.specs.World.{World, variable, opens, bytesOf, kindOf, worldOf}
-use Rattle.semantics.specs.Resolve.{Seen, seen, State, lookup, enter, leave, standing, bindPath, bindElem, resolve, resolves, bindPattern, clause, clauses, start, log}
+use Rattle.semantics.specs.World.{World, hush, variable, opens, bytesOf, kindOf, worldOf}
+use Rattle.semantics.specs.Resolve.{Seen, seen, State, lookup, enter, leave, standing, bindPath, bindElem, resolve, resolves, bindPattern, carriedBy, barrier, fresh, aliases, clause, clauses, start, log}
 use Rattle.semantics.specs.Lists.{findings}
 
 -- A Var with its id, or an Unresolved with its name and the visible list.
@@ -38,11 +38,12 @@ ofRow v none = []
 ofRow v (some (row i x k a b)) = write v (found v k 0) ∷ []
 
 module _ (w : World) where
-  -- The uses of a tree in walk order, each with what the walk has visible there. A PatternPredicate is not resolved.
+  -- The uses of a tree in walk order, each with what the walk has visible there. A PatternPredicate is not resolved, a hushed name is no
+  -- use.
   unfoldable mutual
     pub usesE : Expr → State → List Use
     usesE (var v) s = byVar v ∷ []
-    usesE (unresolved x) s = byName x (s .visible) ∷ []
+    usesE (unresolved x) s = cond (w .hushed x) [] (byName x (s .visible) ∷ [])
     usesE (node f es) s = usesEs es s
     usesE (predicate p) s = []
     usesE (comprehension a b p es) s = usesS p (enter comprehensionScope a b s) ++ usesEs es (bindPattern w p (enter comprehensionScope a b s))
@@ -57,12 +58,22 @@ module _ (w : World) where
     usesS (part p r) s = usesS r (bindPath w (variable p) s)
     usesS (elem k a b v es r) s = let t = bindElem w k (variable v) s in usesEs es t ++ usesS r (resolves w es t)
 
+module _ (w : World) where
+  -- Where a WITH's sort keys are resolved: in its new Root, with the list before it too.
+  unfoldable pub sortAt : ℕ → ℕ → List Projection → Exprs → State → State
+  sortAt a b ps f s =
+      let cs = carriedBy w ps (s .visible) in
+      let t = fresh w b cs (barrier w a b cs (resolves w (exprs ps f) s)) in
+      standing (t .visible ++ s .visible) (t .cur) t
+
   -- "Unwind's list, Call's arguments .. are not resolved."
   unfoldable pub usesC : Clause → State → List Use
-  usesC (opening o a b p) s = usesS p (enter (opens o) a b s)
-  usesC (reading r a b es) s = usesEs es s
-  usesC (with' a b ps f) s = usesEs (exprs ps f) s
-  usesC (return a b ps) s = usesEs (exprs ps done) (leave s (enter returnScope a b s))
+  usesC (opening o a b p) s = usesS w p (enter (opens o) a b s)
+  usesC (reading r a b es) s = usesEs w es s
+  usesC (with' a b ps f ks) s = usesEs w (exprs ps f) s ++ usesEs w (keysOf ks) (sortAt a b ps f s)
+  usesC (return a b ps ks) s =
+      let t = leave s (enter returnScope a b s) in
+      usesEs w (exprs ps done) t ++ usesEs (hush (aliases ps) w) (keysOf ks) (resolves w (exprs ps done) t)
   usesC (unwind a b v e) s = []
   usesC (call a b es ys) s = []
 
