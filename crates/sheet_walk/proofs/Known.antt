@@ -8,6 +8,7 @@ use mathlib.Core.Bool.{Bool, true, false, cond, _&&_, and-true, and-false}
 use mathlib.Core.List.{List, [], _∷_}
 use lib.Dec.{eqb}
 use lib.ListN.{length, take, drop, getD, length-take, length-drop}
+use lib.Seq.{getD-drop, drop-drop}
 use borrow.Author.Tests.{eqb-true, eqb-false}
 use Rattle.words.specs.Words.{words}
 use Rattle.words.specs.Fnv.{useId}
@@ -29,10 +30,10 @@ use Rattle.sheet.proofs.Accepted.{names-hold, rows-hold}
 use Rattle.semantics.specs.World.{starName, idName, bytesOf, worldOf}
 use Rattle.fused.proofs.ApartStatement.{worldBy, world-same}
 use Rattle.rows.proofs.Found.{row-found}
-use Rattle.steps.specs.Memory.{worldAt}
+use Rattle.steps.specs.Memory.{slotsIn, hushedIn, chainsIn, worldAt}
 use Rattle.steps.specs.Hold.{Fine}
 use Rattle.sheet_walk.specs.Runs.{warnsBy}
-use Rattle.sheet_walk.specs.Parts.{Rowed, namesBy, Settles, Set, Tables, TablesAs, ReadsTables}
+use Rattle.sheet_walk.specs.Parts.{slotsFor, Rowed, namesBy, Settles, Set, Tables, TablesAs, ReadsTables}
 use Rattle.sheet_walk.proofs.Rows.{row-words}
 
 -- the names `*` and `id` as texts that are the same
@@ -50,7 +51,7 @@ id-is (b ∷ c ∷ []) = same-comm (105 ∷ 100 ∷ []) (b ∷ c ∷ []) ∙ ap 
 id-is (b ∷ c ∷ d ∷ s) = ap (λ (t : Bool). eqb 105 b && t) (and-false (eqb 100 c)) ∙ and-false (eqb 105 b)
 
 -- a place for each name, and one at least
-slots-of : (n : ℕ) → (0 < cond (eqb n 0) 1 n) × (n ≤ cond (eqb n 0) 1 n) × (cond (eqb n 0) 1 n ≤ n + 1)
+pub slots-of : (n : ℕ) → (0 < slotsFor n) × (n ≤ slotsFor n) × (slotsFor n ≤ n + 1)
 slots-of n = go (eqb n 0) refl
   where
     go : (b : Bool) → eqb n 0 ≡ b → (0 < cond b 1 n) × (n ≤ cond b 1 n) × (cond b 1 n ≤ n + 1)
@@ -70,7 +71,7 @@ rows-refuse s p placed t r = rw (placed, t .same, r)
 pub names-few : (n e : ℕ) (s : List ℕ) {places ids : List ℕ} → Tabled n (take (e * 4) s) places ids true → n ≤ e
 names-few n e s t = omega (arith, t .many refl, length-take (e * 4) s)
 
-module _ {s : List ℕ} {p : Places} {choice : ℕ} {places ids old tab : List ℕ} (placed : locate s ≡ accepted p) (t : Tabled (p .names) (take (p .rows * 4) s) places ids true) (r : Rowed s p old) (q : Settles s p choice places old tab) (wide : 16 ≤ length tab) where
+module _ {s : List ℕ} {p : Places} {choice : ℕ} {places ids old tab : List ℕ} (placed : locate s ≡ accepted p) (t : Tabled (p .names) (take (p .rows * 4) s) places ids true) (r : Rowed s p old) (q : Settles s p choice places old tab) (wide : 16 + length (words s) ≤ length tab) where
   inside : InPlaces s p
   inside = in-places s p placed
 
@@ -95,18 +96,30 @@ module _ {s : List ℕ} {p : Places} {choice : ℕ} {places ids old tab : List �
   few : p .names ≤ p .rows
   few = names-few (p .names) (p .rows) s t
 
+  slots : slotsIn tab ≡ slotsFor (p .names)
+  slots = q .slots ∙ r .slots
+
+  -- what stands behind the numbers is as before
+  chains : chainsIn tab ≡ chainsIn old
+  chains = rw (q .slots) (sym (drop-drop (slotsIn old) 16 tab) ∙ ap (drop (slotsIn old)) (q .behind) ∙ drop-drop (slotsIn old) 16 old)
+
+  unmarked : (x : ℕ) → hushedIn tab x ≡ false
+  unmarked x =
+      let z : getD tab (16 + x) 0 ≡ getD old (16 + x) 0 = sym (getD-drop 16 tab x 0) ∙ ap (λ (l : List ℕ). getD l x 0) (q .behind) ∙ getD-drop 16 old x 0 in
+      rw (q .slots, z) (r .unmarked x)
+
   fine : Fine (words s) tab
   fine =
       let sl = slots-of (p .names) in
       record {
-        long = wide;
+        long = omega (arith, wide, slots, sl, few, inside .rows, head-long);
         short = omega (arith, inside .short, length-words s);
-        some = rw (q .slots) (sl .0);
-        places = rw (q .slots, q .names) (sl .1);
+        some = rw slots (sl .0);
+        places = rw (slots, q .names) (sl .1);
         rows = rw (q .rows, q .bindings) (omega (arith, fills, head-long));
-        named = λ j l. let z = row-words (p .names) (p .bindings) (p .head) (p .rows) (words s) (r .rows) read j (rw (q .bindings) at l) in rw (q .slots, q .rows) (omega (arith, z, sl));
+        named = λ j l. let z = row-words (p .names) (p .bindings) (p .head) (p .rows) (words s) (r .rows) read j (rw (q .bindings) at l) in rw (slots, q .rows) (omega (arith, z, sl));
         kinded = λ j l. let z = row-words (p .names) (p .bindings) (p .head) (p .rows) (words s) (r .rows) read j (rw (q .bindings) at l) in rw (q .rows) (z .1);
-        hung = rw (q .mult, q .shift, q .bindings, q .rows, q .chains) (r .hung);
+        hung = rw (q .mult, q .shift, q .bindings, q .rows, chains) (r .hung);
       }
 
   set : Set s p tab
@@ -116,7 +129,8 @@ module _ {s : List ℕ} {p : Places} {choice : ℕ} {places ids old tab : List �
         fine = fine;
         names = q .names;
         rows = omega (arith, q .rows, q .bindings, fills);
-        slots = omega (arith, q .slots, slots-of (p .names), few, inside .rows);
+        slots = omega (arith, slots, slots-of (p .names), few, inside .rows);
+        unmarked = unmarked;
       }
 
   world : worldAt (words s) tab (λ x. useId (getD (namesBy s p places) x [])) ≡ worldBy (warnsBy choice) (namesBy s p places) (r .rows)
@@ -126,6 +140,7 @@ module _ {s : List ℕ} {p : Places} {choice : ℕ} {places ids old tab : List �
       world-same (worldAt (words s) tab (λ x. useId (getD ns x []))) (worldBy (warnsBy choice) ns (r .rows)) (λ x. refl)
       (λ x. ap (eqb (suc x)) (q .star) ∙ index-is (42 ∷ []) ns apart 42 [] refl x ∙ star-is (getD ns x []))
       (λ x. ap (eqb (suc x)) (q .ident) ∙ index-is (105 ∷ 100 ∷ []) ns apart 105 (100 ∷ []) refl x ∙ id-is (getD ns x []))
+      unmarked
       (λ v. rw (q .rows, q .bindings) (sym (row-found (p .names) (p .bindings) (p .head) (words s) [] (r .rows) (p .rows) v read (omega (arith, fills, head-long)) once)))
       (q .warns)
 

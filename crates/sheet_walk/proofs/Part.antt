@@ -60,4 +60,4 @@ module _ (ws tab : List ℕ) (to : ℕ) (inside : rowsIn tab + bindingsIn tab * 
       ∙ told-part (seek (idAt ws (rowsIn tab)) v (bindingsIn tab)) (seek-le (idAt ws (rowsIn tab)) v (bindingsIn tab))
 
   pub world-part : (id : ℕ → ℕ) → worldAt (take to ws) tab id ≡ worldAt ws tab id
-  world-part id = world-same (worldAt (take to ws) tab id) (worldAt ws tab id) (λ x. refl) (λ x. refl) (λ x. refl) row-part refl
+  world-part id = world-same (worldAt (take to ws) tab id) (worldAt ws tab id) (λ x. refl) (λ x. refl) (λ x. refl) (λ x. refl) row-part refl

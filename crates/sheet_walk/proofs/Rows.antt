@@ -27,7 +27,7 @@ use Rattle.sheet.proofs.Cutting.{ids-take}
 use Rattle.sheet.proofs.Reading.{row-gives, rows-read, rows-refused, rows-left, rows-long, rows-done}
 use Rattle.rows.specs.Rows.{idAt, Hung}
 use Rattle.steps.specs.Memory.{multIn, shiftIn, chainsIn}
-use Rattle.sheet_walk.specs.Parts.{RowedIf, HungUp}
+use Rattle.sheet_walk.specs.Parts.{slotsFor, RowedIf, HungUp}
 
 -- a verdict that refuses
 verdict-no : {A : Type 0} (x : Sheet A) {c : ℕ} → Refused c ≡ verdict x → x ≡ refused c
@@ -50,14 +50,14 @@ module _ {s : List ℕ} {p : Places} (h : InPlaces s p) where
         let long = rows-long (p .names) (p .bindings) (drop (p .rows) (take (p .head) (words s))) {p = q} (take (p .head) (words s)) (x .same) (omega (arith, part-long)) in
         omega (arith, long, part-long, length-drop (p .rows) (take (p .head) (words s)), h .rows)
 
-    pub rows-hung : {tab : List ℕ} {r : Bool} → HungUp (words s) (p .rows) (p .bindings) tab r → RowedIf s p tab r
-    rows-hung {tab} {r} y =
+    pub rows-hung : {k : ℕ} {tab : List ℕ} {r : Bool} → k ≡ slotsFor (p .names) → HungUp (words s) (p .rows) (p .bindings) k tab r → RowedIf s p tab r
+    rows-hung {k} {tab} {r} z y =
         go r (readRows (p .names) (p .bindings) (section (words s) (p .rows) (p .head))) refl (y .hung)
         (rows-done (p .names) (p .bindings) (drop (p .rows) (take (p .head) (words s))) {p = q} (take (p .head) (words s)) (x .same) (omega (arith, part-long))
         (y .same ∙ sym (ap (distinct isIn) (ids-take (p .bindings) (p .rows) (p .head) (words s) rows-within (omega (arith, part-long, length-take (p .head) (words s)))))))
       where
         go : (b : Bool) (g : Sheet (List Row)) → readRows (p .names) (p .bindings) (section (words s) (p .rows) (p .head)) ≡ g → (b ≡ true → Hung (multIn tab) (shiftIn tab) (p .bindings) (idAt (words s) (p .rows)) (chainsIn tab)) → cond b Accepted (Refused 4) ≡ verdict g → RowedIf s p tab b
-        go true (accepted rs) e k v = record { rows = rs; read = e; hung = k refl }
+        go true (accepted rs) e k v = record { rows = rs; read = e; slots = y .slots ∙ z; unmarked = y .unmarked; hung = k refl }
         go true (refused c) e k v = never (cc)
         go false (accepted rs) e k v = never (cc)
         go false (refused c) e k v = let z : c ≡ 4 = cc in e ∙ ap refused z

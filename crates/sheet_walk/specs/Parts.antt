@@ -21,7 +21,7 @@ use Rattle.fused.specs.Sheet.{begun, headGo, armsGo, sheetGo}
 use Rattle.fused.proofs.ApartStatement.{HasTables, worldBy}
 use Rattle.rows.specs.Slot.{slots}
 use Rattle.rows.specs.Rows.{idAt, Hung}
-use Rattle.steps.specs.Memory.{atOf, saidOf, toldOf, slotsIn, starIn, identIn, warnsIn, rowsIn, bindingsIn, multIn, shiftIn, wantsIn, chainsIn, worldAt, events, findings, kept}
+use Rattle.steps.specs.Memory.{atOf, saidOf, toldOf, slotsIn, starIn, identIn, warnsIn, rowsIn, bindingsIn, multIn, shiftIn, wantsIn, hushedIn, chainsIn, worldAt, events, findings, kept}
 use Rattle.steps.specs.Memory as memory
 use Rattle.steps.specs.Hold.{Fine, Fit, Holds}
 use Rattle.sheet_walk.specs.Runs.{warnsBy, wantsBy}
@@ -36,51 +36,60 @@ pub record Shift (n r : ℕ) : Type 0 where
   pub high : r ≤ 31
   pub room : slots r ≤ n * 4 + 8
 
--- zeros in tab, and room for the slots and the bindings of w words
+-- zeros in tab, and room for the marks and the chains of w words
 pub record Clear (w : ℕ) (tab : List ℕ) : Type 0 where
   pub long : 16 + w ≤ length tab
   pub clear : (i : ℕ) → getD tab i 0 ≡ 0
 
--- the bindings of a sheet, as they are read, and hung up in tab
+-- for how many of n names there is a place: one at least
+abbrev pub slotsFor : ℕ → ℕ
+slotsFor n = cond (eqb n 0) 1 n
+
+-- the bindings of a sheet, as they are read, and hung up in tab behind the marks of the names, none of which is set
 pub record Rowed (s : List ℕ) (p : Places) (tab : List ℕ) : Type 0 where
   pub rows : List Row
   pub read : readRows (p .names) (p .bindings) (section (words s) (p .rows) (p .head)) ≡ accepted rows
+  pub slots : slotsIn tab ≡ slotsFor (p .names)
+  pub unmarked : (x : ℕ) → hushedIn tab x ≡ false
   pub hung : Hung (multIn tab) (shiftIn tab) (p .bindings) (idAt (words s) (p .rows)) (chainsIn tab)
 
 abbrev pub RowedIf : List ℕ → Places → List ℕ → Bool → Type 0
 RowedIf s p tab true = Rowed s p tab
 RowedIf s p tab false = readRows (p .names) (p .bindings) (section (words s) (p .rows) (p .head)) ≡ refused 4
 
--- n rows are hung up in tab where no two have the same variable; whether that is so
-pub record HungUp (ws : List ℕ) (rows n : ℕ) (tab : List ℕ) (r : Bool) : Type 0 where
+-- n rows are hung up in tab, behind k marks, where no two have the same variable; whether that is so
+pub record HungUp (ws : List ℕ) (rows n k : ℕ) (tab : List ℕ) (r : Bool) : Type 0 where
   pub same : r ≡ distinct isIn (rowIds n (drop rows ws))
+  pub slots : slotsIn tab ≡ k
+  pub unmarked : (x : ℕ) → hushedIn tab x ≡ false
   pub hung : r ≡ true → Hung (multIn tab) (shiftIn tab) n (idAt ws rows) (chainsIn tab)
 
 -- the names of a sheet, by the table of their places
 abbrev pub namesBy : List ℕ → Places → List ℕ → List (List ℕ)
 namesBy s p places = namesIn (take (p .rows * 4) s) (p .names) places
 
--- what the walks go by besides is in tab, and its chains are as before
+-- what the walks go by besides is in tab; its marks and chains are as before
 pub record Settles (s : List ℕ) (p : Places) (choice : ℕ) (places old new : List ℕ) : Type 0 where
   pub names : memory.namesIn new ≡ p .names
-  pub slots : slotsIn new ≡ cond (eqb (p .names) 0) 1 (p .names)
   pub star : starIn new ≡ indexOf (42 ∷ []) (namesBy s p places)
   pub ident : identIn new ≡ indexOf (105 ∷ 100 ∷ []) (namesBy s p places)
   pub warns : warnsIn new ≡ warnsBy choice
   pub rows : rowsIn new ≡ p .rows
   pub bindings : bindingsIn new ≡ p .bindings
   pub wants : wantsIn new ≡ wantsBy choice
+  pub slots : slotsIn new ≡ slotsIn old
   pub mult : multIn new ≡ multIn old
   pub shift : shiftIn new ≡ shiftIn old
-  pub chains : chainsIn new ≡ chainsIn old
+  pub behind : drop 16 new ≡ drop 16 old
 
--- tab is in order for the sections of a sheet
+-- tab is in order for the sections of a sheet, and no mark is set
 pub record Set (s : List ℕ) (p : Places) (tab : List ℕ) : Type 0 where
   pub places : InPlaces s p
   pub fine : Fine (words s) tab
   pub names : memory.namesIn tab ≡ p .names
   pub rows : rowsIn tab + bindingsIn tab * 5 ≤ p .head
   pub slots : slotsIn tab ≤ p .head + 1
+  pub unmarked : (x : ℕ) → hushedIn tab x ≡ false
 
 -- Both tables of a sheet are right, and the lent words hold what the walks go by: the World is that of the names and the bindings.
 pub record Tables (s : List ℕ) (p : Places) (choice : ℕ) (places ids tab : List ℕ) : Type 0 where

@@ -18,15 +18,13 @@ use steps::WARNS;
 use tables::index_of;
 use tables::read_rows;
 ghost use mathlib.Core.Path.{_≡_};
-ghost use mathlib.Core.Bool.{cond};
 ghost use Prim.Native.Nat.{_+_, _*_, _≤_};
-ghost use lib.Dec.{eqb};
 ghost use lib.ListN.{length, take};
 ghost use Rattle.words.specs.Words.{words};
 ghost use Rattle.tables.specs.Answer.{Roomy};
 ghost use Rattle.sheet.specs.Answer.{InPlaces, Tabled};
 ghost use Rattle.sheet.specs.Read.{locate, accepted};
-ghost use Rattle.sheet_walk.specs.Parts.{Shift, Clear, RowedIf, HungUp, Settles, ReadsTables};
+ghost use Rattle.sheet_walk.specs.Parts.{Shift, Clear, slotsFor, RowedIf, HungUp, Settles, ReadsTables};
 
 // The shift of a hash for n bindings: 8, 64 or 256 slots.
 fn shift_for(n: u32) -> u32
@@ -53,7 +51,7 @@ fn mult_for(s: &[u8], rows: usize, n: u32) -> u32
 
 // For how many names there is a place: one at least.
 fn slots_for(names: u32) -> u32
-    ensures { λ r. ⌜ r ≡ cond (eqb names 0) 1 names ⌝ }
+    ensures { λ r. ⌜ r ≡ slotsFor names ⌝ }
 {
     if names == 0 {
         return 1;
@@ -71,21 +69,23 @@ fn names_of(s: &[u8], p: Places, places: &mut [u32], ids: &mut [u32], held: &mut
     are_names(&s[0..e], p.names, places, ids, held)
 }
 
-// The n bindings from the word `rows` on, all before the word `head`, hung up in chains; whether their variables are distinct.
-fn hang(s: &[u8], tab: &mut [u32], rows: usize, n: u32, head: usize) -> bool
-    requires { ⌜ ((rows + n * 5 ≤ head) × (head + 10 ≤ length (words (now s)))) × Clear (length (words (now s))) (now tab) ⌝ }
-    ensures { λ r. ⌜ HungUp (words (now (s .entry))) rows n (now (tab .exit)) r ⌝ }
+// The n bindings from the word `rows` on, hung up in chains behind the marks of so many places; whether their variables are distinct.
+fn hang(s: &[u8], tab: &mut [u32], rows: usize, n: u32, slots: u32) -> bool
+    requires { ⌜ ((rows + n * 5 ≤ length (words (now s))) × (slots + n * 5 + 8 ≤ length (words (now s)))) × Clear (length (words (now s))) (now tab) ⌝ }
+    ensures { λ r. ⌜ HungUp (words (now (s .entry))) rows n slots (now (tab .exit)) r ⌝ }
 {
-    let shift = shift_for(head);
+    let shift = shift_for(n);
     let mult = mult_for(s, rows, n);
+    tab[SLOTS] = slots;
     tab[MULT] = mult;
     tab[SHIFT] = shift;
-    index_rows(s, &mut tab[CHAINS..], rows, mult, shift, n)
+    let chains = MARKS + slots as usize;
+    index_rows(s, &mut tab[chains..], rows, mult, shift, n)
 }
 
 // The bindings: read, and hung up; whether they are right.
 fn rows_of(s: &[u8], p: Places, tab: &mut [u32]) -> bool
-    requires { ⌜ InPlaces (now s) p × Clear (length (words (now s))) (now tab) ⌝ }
+    requires { ⌜ (InPlaces (now s) p × (p .names ≤ p .rows)) × Clear (length (words (now s))) (now tab) ⌝ }
     ensures { λ r. ⌜ RowedIf (now (s .entry)) p (now (tab .exit)) r ⌝ }
 {
     let head = p.head;
@@ -98,7 +98,8 @@ fn rows_of(s: &[u8], p: Places, tab: &mut [u32]) -> bool
     if q < head {
         return false;
     }
-    hang(s, tab, rows, n, head)
+    let slots = slots_for(p.names);
+    hang(s, tab, rows, n, slots)
 }
 
 // What the walks go by besides.
@@ -112,9 +113,7 @@ fn settle(s: &[u8], p: Places, choice: u32, places: &[u32], tab: &mut [u32])
     let names = p.names;
     let star = index_of(part, places, names as usize, b"*");
     let ident = index_of(part, places, names as usize, b"id");
-    let slots = slots_for(names);
     tab[NAMES] = names;
-    tab[SLOTS] = slots;
     tab[STAR] = star;
     tab[IDENT] = ident;
     tab[WARNS] = choice % 2;

@@ -1,6 +1,6 @@
--- The numbers of the hash stand before the chains, which have room for the slots and the bindings, all zeros (`hang-empty`); and the
--- chains that are made stand there too (`hung-up`).
-use Prim.Native.Nat.{ℕ, _-_}
+-- The numbers of the hash and the marks stand before the chains, which have room for the slots and the bindings, all zeros
+-- (`hang-empty`); and the chains that are made stand there too (`hung-up`).
+use Prim.Native.Nat.{ℕ, _+_, _-_}
 use native.Mathlib.Omega.{arith}
 use mathlib.Core.Path.{_∙_}
 use borrow.Author.Needs.{needs}
@@ -17,23 +17,31 @@ hang-spec =
     fact
     (λ (k : tie.After-mult-for).
     let a = k .before .before .before .before .args in
-    hashed-long (a .tab .now) (k .mult-for .result) (k .before .shift-for .result)) in
+    hashed-long (a .tab .now) (a .slots) (k .mult-for .result) (k .before .shift-for .result)) in
     tie.close
     (tie.spec
     (λ c κs. search needs)  -- shift-for-requires
     (λ c κs. search needs)  -- mult-for-requires
     (λ c. search needs)  -- slice-write-tab
-    (λ c. let a = c .before .before .before .before .args in omega (arith, length-set (a .tab .now) 7 (c .mult-for .result)))  -- slice-write-tab-2
+    (λ c. simp length-set (omega arith))  -- slice-write-tab-2
+    (λ c. simp length-set (omega arith))  -- slice-write-tab-3
+    (λ c. search needs)  -- add-chains
+    (λ c. search needs)  -- mul-index-rows
     (λ c. omega (arith, wide c))  -- sub-index-rows
     (λ c. omega (arith, wide c))  -- part-index-rows-start
     (λ c. search needs)  -- part-index-rows-end
     (λ c κs.  -- index-rows-requires
-    let q = c .before .before .before .before .before .pre in
-    (omega arith, hang-empty (c .before .mult-for .result) (c .before .before .shift-for .result) (q .1) (c .before .before .shift-for .ensures) (omega (arith, q .0 .0)) (q .0 .1)))
+    let k = c .before in
+    let a = k .before .before .before .before .args in
+    let q = k .before .before .before .before .pre in
+    (q .0 .0, hang-empty (a .tab .now) (a .slots) (k .mult-for .result) (k .before .shift-for .result) (q .1) (k .before .shift-for .ensures) (q .0 .1)))
     (λ c.  -- same-length
     let k = c .before .before .before .before in
-    let xs = hashed (c .before .before .before .before .before .before .before .before .args .tab .now) (k .mult-for .result) (k .before .shift-for .result) in
-    same-len-mid {X = ℕ} 16 (length xs - 16) xs (c .before .before .index-rows .last .1 .0) (c .before .before .index-rows .ensures .kept) ∙ wide k)
+    let a = k .before .before .before .before .args in
+    let xs = hashed (a .tab .now) (a .slots) (k .mult-for .result) (k .before .shift-for .result) in
+    same-len-mid {X = ℕ} (16 + a .slots) (length xs - (16 + a .slots)) xs (c .before .before .index-rows .last .1 .0) (c .before .before .index-rows .ensures .kept) ∙ wide k)
     (λ c.  -- returns
-    let q = c .before .before .before .before .before .before .before .before .pre in
-    hung-up (c .before .before .before .before .mult-for .result) (c .before .before .before .before .before .shift-for .result) (q .1) (c .before .before .index-rows .ensures)))
+    let k = c .before .before .before .before in
+    let a = k .before .before .before .before .args in
+    let q = k .before .before .before .before .pre in
+    hung-up (a .tab .now) (a .slots) (k .mult-for .result) (k .before .shift-for .result) (q .1) (omega (arith, q .0 .1)) (c .before .before .index-rows .ensures)))

@@ -12,6 +12,7 @@ pub read-tables-spec : {M : Type 1} → statement M
 read-tables-spec =
     let named = fact (λ (k : tie.Else1). rw (not-false (k .before .before .before .before .before .before .before .names-of .result) (k .if1 .left)) at (k .before .before .before .before .before .before .before .names-of .ensures)) in
     let placed = fact (λ (k : tie.Else1). in-places (k .before .before .before .before .before .before .before .before .before .before .before .before .before .before .before .before .args .s .now) (k .before .before .before .before .before .before .before .before .before .before .before .before .before .before .before .before .args .p) (k .before .before .before .before .before .before .before .before .before .before .before .before .before .before .before .before .pre .0 .0)) in
+    let few = fact (λ (k : tie.Else1). names-few (k .before .before .before .before .before .before .before .before .before .before .before .before .before .before .before .before .args .p .names) (k .before .before .before .before .before .before .before .before .before .before .before .before .before .before .before .before .args .p .rows) (k .before .before .before .before .before .before .before .before .before .before .before .before .before .before .before .before .args .s .now) (named k)) in
     let rowed = fact (λ (k : tie.Else2). rw (not-false (k .before .before .before .rows-of .result) (k .if2 .left)) at (k .before .before .before .rows-of .ensures)) in
     tie.close
     (tie.spec
@@ -22,7 +23,7 @@ read-tables-spec =
     (λ c.  -- returns
     let k = c .before .before .before .before .before .before .before in
     record { tables = names-no (c .before .before .before .before .before .before .before .before .before .before .before .before .before .before .before .before .args .s .now) (c .before .before .before .before .before .before .before .before .before .before .before .before .before .before .before .before .args .p) (c .before .before .before .before .before .before .before .before .before .before .before .before .before .before .before .before .pre .0 .0) (rw (not-true (k .names-of .result) (c .if1 .taken)) at (k .names-of .ensures)) })
-    (λ c κs. (placed (c .before), c .before .before .before .before .before .before .before .before .before .before .before .before .before .before .before .before .before .pre .1))  -- rows-of-requires
+    (λ c κs. ((placed (c .before), few (c .before)), c .before .before .before .before .before .before .before .before .before .before .before .before .before .before .before .before .before .pre .1))  -- rows-of-requires
     (λ c. search needs) (λ c. search needs) (λ c. search needs) (λ c. search needs)  -- same-length-4, -5, -6, -7
     (λ c.  -- returns-2
     let k = c .before .before .before in
@@ -30,7 +31,7 @@ read-tables-spec =
     (λ c κs.  -- settle-requires
     let e = c .before .before in
     let f = e .before .before .before .before .before in
-    let n = names-few (f .before .before .before .before .before .before .before .before .before .before .before .before .before .before .before .before .args .p .names) (f .before .before .before .before .before .before .before .before .before .before .before .before .before .before .before .before .args .p .rows) (f .before .before .before .before .before .before .before .before .before .before .before .before .before .before .before .before .args .s .now) (named f) in
+    let n = few f in
     let q = placed f in
     ((q, omega (arith, n, q, f .before .before .before .before .before .before .places .given, f .before .before .before .before .before .before .before .before .before .before .before .before .before .before .before .before .pre .0 .1 .0 .places)), (omega (arith, n, q), omega (arith, e .before .before .tab .given, f .before .before .before .before .before .before .before .before .before .before .before .before .before .before .before .before .pre .1 .long))))
     (λ c. search needs) (λ c. search needs) (λ c. search needs) (λ c. search needs)  -- same-length-8, -9, -10, -11

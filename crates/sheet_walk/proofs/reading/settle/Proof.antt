@@ -22,18 +22,16 @@ settle-spec =
     (λ c. search needs)  -- cast-index-of-2
     (λ c. search needs)  -- slice-aggregate-index-of-2
     (λ c κs. search needs)  -- index-of-requires-2
-    (λ c κs. search needs)  -- slots-for-requires
     (λ c. search needs)  -- slice-write-tab
     (λ c. simp length-set (omega arith))  -- slice-write-tab-2
     (λ c. simp length-set (omega arith))  -- slice-write-tab-3
     (λ c. simp length-set (omega arith))  -- slice-write-tab-4
-    (λ c. simp length-set (omega arith))  -- slice-write-tab-5
     (λ c. search needs)  -- cast-tab
+    (λ c. simp length-set (omega arith))  -- slice-write-tab-5
     (λ c. simp length-set (omega arith))  -- slice-write-tab-6
     (λ c. simp length-set (omega arith))  -- slice-write-tab-7
-    (λ c. simp length-set (omega arith))  -- slice-write-tab-8
     (λ c. simp length-set)  -- same-length
     (λ c.  -- returns
-    let a = c .before .before .before .before .before .before .before .before .before .args in
+    let a = c .before .before .before .before .before .before .before .before .args in
     let z : a .p .rows * 4 - 0 ≡ a .p .rows * 4 = omega arith in
-    settles (a .tab .now) _ _ _ _ _ _ _ _ (c .before .before .before .before .before .before .before .before .before .pre .1 .1) refl (c .slots-for .ensures) (rw z at (c .before .before .before .index-of .ensures)) (rw z at (c .before .index-of2 .ensures)) refl refl refl refl))
+    settles (a .tab .now) _ _ _ _ _ _ _ (c .before .before .before .before .before .before .before .before .pre .1 .1) refl (rw z at (c .before .before .index-of .ensures)) (rw z at (c .index-of2 .ensures)) refl refl refl refl))

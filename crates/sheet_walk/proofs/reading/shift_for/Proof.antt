@@ -1,4 +1,4 @@
--- 8, 64 or 256 slots: at most so many, for a fifth of the words, as the words and ten.
+-- 8, 64 or 256 slots: at most four for each binding, and eight.
 use native.Mathlib.Omega.{arith}
 use Rattle.rows.specs.Slot.{slots}
 use Rattle.sheet_walk.proofs.reading.shift_for.Statement.{statement}
@@ -9,6 +9,6 @@ unfolding slots
 shift-for-spec =
     tie.close
     (tie.spec
-    (λ c. record { low = omega arith; high = omega arith; room = λ n h. omega arith })  -- returns
-    (λ c. record { low = omega arith; high = omega arith; room = λ n h. omega arith })  -- returns-2
-    (λ c. record { low = omega arith; high = omega arith; room = λ n h. omega arith }))  -- returns-3
+    (λ c. record { low = omega arith; high = omega arith; room = omega arith })  -- returns
+    (λ c. record { low = omega arith; high = omega arith; room = omega arith })  -- returns-2
+    (λ c. record { low = omega arith; high = omega arith; room = omega arith }))  -- returns-3
