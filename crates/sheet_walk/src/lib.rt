@@ -24,7 +24,7 @@ pub enum Ran {
 fn walk_all(
     s: &[u8],
     p: Places,
-    tab: &[u32],
+    tab: &mut [u32],
     vis: &mut [u32],
     found: &mut [u32],
     held: &mut [u32],

@@ -5,6 +5,7 @@ use sheet::Places;
 use steps::AT;
 use steps::LOST;
 use steps::say_wanted;
+ghost use mathlib.Core.Path.{_≡_};
 ghost use lib.ListN.{length};
 ghost use Rattle.words.specs.Words.{words};
 ghost use Rattle.sheet_walk.specs.Parts.{Set, Wide, Lent, Fresh, Stands, Begins, Walks, headIn, armsIn, WalksBoth};
@@ -19,18 +20,18 @@ fn begin(s: &[u8], p: Places, tab: &[u32], m: &mut [u32], vis: &[u32], found: &m
     say_wanted(tab, m, found, 1, 1, 0, p.start, p.end);
 }
 
-// The head: 0, or the refusal's number.
+// The head: 0, or the refusal's number. `tab` is then as it was.
 fn walk_head(
     s: &[u8],
     p: Places,
-    tab: &[u32],
+    tab: &mut [u32],
     m: &mut [u32],
     vis: &mut [u32],
     found: &mut [u32],
     held: &mut [u32],
 ) -> u32
     requires { ⌜ Lent (now s) p (now tab) (now vis) (now found) (now held) × Stands (words (now s)) (now tab) (now m) (now vis) (now found) (p .head) (p .tail) ⌝ }
-    ensures { λ r. ⌜ Walks (words (now (s .entry))) (now (tab .entry)) (now (m .entry)) (now (vis .entry)) (now (found .entry)) (now (m .exit)) (now (vis .exit)) (now (found .exit)) (p .tail) (headIn (words (now (s .entry))) p (now (tab .entry))) r ⌝ }
+    ensures { λ r. ⌜ (now (tab .exit) ≡ now (tab .entry)) × Walks (words (now (s .entry))) (now (tab .entry)) (now (m .entry)) (now (vis .entry)) (now (found .entry)) (now (m .exit)) (now (vis .exit)) (now (found .exit)) (p .tail) (headIn (words (now (s .entry))) p (now (tab .entry))) r ⌝ }
 {
     let tail = p.tail;
     let h = tail * 4;
@@ -48,7 +49,7 @@ fn walk_head(
 fn walk_tail(
     s: &[u8],
     p: Places,
-    tab: &[u32],
+    tab: &mut [u32],
     m: &mut [u32],
     vis: &mut [u32],
     found: &mut [u32],
@@ -73,7 +74,7 @@ fn walk_tail(
 pub fn walk_both(
     s: &[u8],
     p: Places,
-    tab: &[u32],
+    tab: &mut [u32],
     m: &mut [u32],
     vis: &mut [u32],
     found: &mut [u32],

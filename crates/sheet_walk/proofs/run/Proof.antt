@@ -35,7 +35,7 @@ run-spec =
     (record { set = tabled (c .before .before .before .before) .set; wide = record { names = q .names; room = q .room }; pairs = omega (arith, q .pairs, c .before .before .before .before .before .before .held .given) }, record { unseen = q .unseen }))
     (λ c. search needs) (λ c. search needs) (λ c. search needs) (λ c. search needs) (λ c. search needs) (λ c. search needs)  -- same-length-5
     (λ c.  -- returns-3
-    let k = c .before .before .before .before .before .before in
+    let k = c .before .before .before .before .before .before .before .before in
     let e = k .before .before .before .before .before in
     let q = e .before .before .before .before .before .before .before .before .before .before .before .before .before .before .before .before .before .before .before .before .before .before .before .before .before .pre in
     let x = k .walk-all .ensures in
