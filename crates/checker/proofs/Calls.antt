@@ -1,5 +1,5 @@
 -- Demand 3 on what two check calls leave: entries that are written as words read back, so each call's lists are the definition's, of which
--- `apart-sheets` compares the parts; and the part's findings stand in the list where `in-lists` says.
+-- `apart-sheets` compares the parts; and the part's findings stand in the list where `in-lists` says, after those of the sort keys.
 use Prim.Native.Nat.{ℕ, _-_}
 use native.Mathlib.Omega.{arith}
 use mathlib.Core.Path.{_≡_, refl, _∙_, ap, ap₂}
@@ -18,7 +18,7 @@ use Rattle.sheet.specs.Read.{accepted, readSheet}
 use Rattle.semantics.specs.Log.{Finding, finding, found, missing, Write, write, findsIn, findOf}
 use Rattle.semantics.specs.Resolve.{log}
 use Rattle.semantics.specs.Lists
-use Rattle.theorems.specs.Site.{Site, Stands, newRoot, partLog}
+use Rattle.theorems.specs.Site.{Site, Stands, newRoot, keysLog, partLog}
 use Rattle.theorems.specs.With.{partFindings}
 use Rattle.theorems.specs.InLists.{kindsBefore, kindsAfter}
 use Rattle.theorems.specs.Sheets.{AgreeSheets}
@@ -124,11 +124,12 @@ pieces-taken a b c d =
     ap₂ _++_ (ap (take (length b)) (drop-at a (b ++ (c ++ d)) (length a) refl) ∙ take-at b (c ++ d) (length b) refl) last
 
 part-found : (warns : Bool) (s : Statement) (p : Site) → Stands s p → partIn warns s p (Lists.findings warns s) ≡ partFindings warns s p
-unfolding partIn findsIn
+unfolding partIn findsIn partLog
 part-found warns s p q =
     let h = in-lists warns s p q in
-    let n : length (findsIn (log warns s)) - length (findsIn (partLog warns s p)) ≡ length (findsIn (h .before)) = rw (h .log, pick-append findOf (h .before) (partLog warns s p)) (simp length-append (omega arith)) in
-    rw (n, h .findings, h .found) (pieces-taken (findsIn (h .before)) (findsIn (partLog warns s p)) (kindsBefore warns s p) (kindsAfter warns s p))
+    let a = findsIn (h .before) ++ findsIn (keysLog warns s p) in
+    let n : length (findsIn (log warns s)) - length (findsIn (partLog warns s p)) ≡ length a = rw (h .log) (simp (pick-append findOf, length-append) (omega arith)) in
+    rw (n, h .findings, h .found, ← append-assoc (findsIn (h .before)) (findsIn (keysLog warns s p))) (pieces-taken a (findsIn (partLog warns s p)) (kindsBefore warns s p) (kindsAfter warns s p))
 
 module _ {warns : Bool} {s₁ s₂ : List ℕ} {st₁ st₂ : Statement} {p₁ p₂ : Site} (h : AgreeSheets warns s₁ s₂ st₁ st₂ p₁ p₂) where
   same-lists : SameLists warns st₁ st₂ p₁ p₂ (newRoot warns st₁ p₁) (newRoot warns st₂ p₂) (listsOf warns st₁) (listsOf warns st₂)
@@ -140,6 +141,7 @@ module _ {warns : Bool} {s₁ s₂ : List ℕ} {st₁ st₂ : Statement} {p₁ p
         sameVisits = e .sameVisits;
         sameAnswers = e .sameAnswers;
         sameScopes = e .sameScopes;
+        sameKeyScopes = e .sameKeyScopes;
         sameBindings = e .sameBindings;
       }
 

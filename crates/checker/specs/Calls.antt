@@ -1,4 +1,4 @@
--- "Before and after a WITH" (document 01) on what two check calls leave: the flat words of the lent lists, read as entries. For two sheets
+-- "Before and after a WITH" (document 01, with sort keys as document 02, CR 1 has it) on what two check calls leave: the flat words of the lent lists, read as entries. For two sheets
 -- that agree `apart-calls` says that call 1 leaves these lists, call 2 those, and the parts that are compared are the same.
 use Prim.Native.Nat.{ℕ, _-_}
 use mathlib.Core.Path.{_≡_}
@@ -13,8 +13,8 @@ use Rattle.semantics.specs.Log.{Finding, Answer, found, missing, Write, write, 
 use Rattle.semantics.specs.Resolve.{log}
 use Rattle.semantics.specs.Lists
 use Rattle.semantics.specs.Lists.{answerFor}
-use Rattle.theorems.specs.Compare.{blankScope, blankFinding, numberScope, numberEntry, from, moved}
-use Rattle.theorems.specs.Site.{Site, partLog}
+use Rattle.theorems.specs.Compare.{blankScope, blankFinding, numberScope, numberEntry, from, besides, moved}
+use Rattle.theorems.specs.Site.{Site, partLog, keyScopes}
 use Rattle.theorems.specs.InLists.{kindsAfter}
 use Rattle.finding.specs.Flat.{findingsOf}
 use Rattle.checker.specs.Checked.{Lent, answerIn, leftIn}
@@ -76,4 +76,5 @@ pub record SameLists (warns : Bool) (s₁ s₂ : Statement) (p₁ p₂ : Site) (
   pub sameVisits : answersIn (partLog warns s₁ p₁) ≡ answersIn (partLog warns s₂ p₂)
   pub sameAnswers : (i : ℕ) (a : Answer) → List·Memᴰ (write i a) (answersIn (partLog warns s₁ p₁)) → answerFor i (first .recorded) ≡ answerFor i (second .recorded)
   pub sameScopes : map (numberScope (moved r₁ r₂)) (map blankScope (drop r₁ (first .scopes))) ≡ map blankScope (drop r₂ (second .scopes))
-  pub sameBindings : map (numberEntry (moved r₁ r₂)) (from r₁ (first .bindings)) ≡ from r₂ (second .bindings)
+  pub sameKeyScopes : keyScopes warns s₁ p₁ ≡ keyScopes warns s₂ p₂
+  pub sameBindings : map (numberEntry (moved r₁ r₂)) (besides r₁ (keyScopes warns s₁ p₁) (from r₁ (first .bindings))) ≡ besides r₂ (keyScopes warns s₂ p₂) (from r₂ (second .bindings))

@@ -21,12 +21,12 @@ ofReading set es at = []
 ofReading remove es at = []
 ofReading delete es at = []
 
--- a WITH's filter, after projections and flag
+-- a WITH's filter, after projections and flag; sort keys are no conditions
 unfoldable pub ofClause : Clause → ℕ → List Cond
 ofClause (opening o a b s) at = []
 ofClause (reading r a b es) at = ofReading r es at
-ofClause (with' a b ps f) at = condEs f (at + 3 + length (countedWords writeProjection ps) + 1)
-ofClause (return a b ps) at = []
+ofClause (with' a b ps f ks) at = condEs f (at + 3 + length (countedWords writeProjection ps) + 1)
+ofClause (return a b ps ks) at = []
 ofClause (unwind a b v e) at = []
 ofClause (call a b es ys) at = []
 

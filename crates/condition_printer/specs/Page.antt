@@ -2,6 +2,7 @@
 use Prim.Native.Nat.{ℕ, _<_, _≤_}
 use mathlib.Core.Path.{_≡_}
 use mathlib.Core.Bool.{true, cond}
+use mathlib.Core.Logic.{_⊎_}
 use mathlib.Core.List.{List, [], _∷_, _++_, flatMap}
 use lib.Dec.{leb}
 use lib.ListN.{length, drop}
@@ -77,6 +78,10 @@ PutArm ws names at k old new next end = Put (readArm (tables ws names 0 0) (drop
 
 abbrev pub PutArms : List ℕ → ℕ → ℕ → ℕ → ℕ → List ℕ → List ℕ → ℕ → ℕ → Type 0
 PutArms ws names n at k old new next end = Put (many (readArm (tables ws names 0 0)) n (drop at ws)) (rowWords writeArm) (textOf (inRow writeArm ofArm) at) ws at k old new next end
+
+-- the kinds of a WITH, without and with sort keys
+abbrev pub IsWith : ℕ → Type 0
+IsWith kind = (kind ≡ 3) ⊎ (kind ≡ 12)
 
 -- where the condition of a clause stands: the tree there is the clause's, and ends no later
 pub record Stands (ws : List ℕ) (names at q : ℕ) : Type 0 where

@@ -16,7 +16,7 @@ ghost use Rattle.heads.specs.Got.{many, isOk};
 ghost use Rattle.heads.specs.Answer.{tables};
 ghost use Rattle.clauses.specs.Read.{readClause, readArm};
 ghost use Rattle.condition_text.specs.Write.{Ready};
-ghost use Rattle.condition_printer.specs.Page.{Placed, PutClause, PutClauses, PutArm, PutArms};
+ghost use Rattle.condition_printer.specs.Page.{IsWith, Placed, PutClause, PutClauses, PutArm, PutArms};
 
 // Where a clause's condition stands, or none.
 pub enum Place {
@@ -26,7 +26,7 @@ pub enum Place {
 
 // Of a WITH: its filter, after projections and flag.
 fn filter_of(s: &[u8], names: u32, at: usize) -> Place
-    requires { ⌜ (isOk (readClause (tables (words (now s)) names 0 0) (drop at (words (now s)))) ≡ true) × ((getD (words (now s)) at 0 ≡ 3) × (at ≤ length (words (now s)))) ⌝ }
+    requires { ⌜ (isOk (readClause (tables (words (now s)) names 0 0) (drop at (words (now s)))) ≡ true) × (IsWith (getD (words (now s)) at 0) × (at ≤ length (words (now s)))) ⌝ }
     ensures { λ r. ⌜ Placed (words (now (s .entry))) names at r ⌝ }
 {
     let p = at + 3;
@@ -49,6 +49,9 @@ fn place_of(s: &[u8], names: u32, at: usize) -> Place
         return Place::At(at + 3);
     }
     if kind == 3 {
+        return filter_of(s, names, at);
+    }
+    if kind == 12 {
         return filter_of(s, names, at);
     }
     Place::No

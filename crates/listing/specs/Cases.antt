@@ -1,4 +1,5 @@
--- Document 01's cases that are marked +, and its traps, one table: from bytes to use ids, refusals, lists and the listing.
+-- Document 01's cases that are marked +, and its traps, and a sort key of document 02 (CR 1), one table: from bytes to use ids, refusals,
+-- lists and the listing.
 use Prim.Native.Nat.{ℕ}
 use mathlib.Core.Path.{_≡_, refl}
 use mathlib.Core.Bool.{true, false}
@@ -171,6 +172,15 @@ traps =
     ∷ 0 ∷ 15 ∷ 8 ∷ 7 ∷ 1 ∷ 3 ∷ 0 ∷ 15 ∷ 11 ∷ 7 ∷ 1 ∷ 3 ∷ 0 ∷ 15 ∷ 12 ∷ 7 ∷ 1 ∷ 3
     ∷ 147 ∷ 7 ∷ 133 ∷ 5 ∷ 108 ∷ 5 ∷ 0 ∷ 0 ∷ 0 ∷ 99 ∷ []
 
+-- `MATCH (a) RETURN a ORDER BY b`
+abbrev pub sortKey : List ℕ
+sortKey =
+    1 ∷ 97 ∷ 1 ∷ 98
+    ∷ 1 ∷ 0 ∷ 1 ∷ 7 ∷ 8
+    ∷ 1 ∷ 0 ∷ 9 ∷ 0 ∷ 1 ∷ 0 ∷ 1 ∷ 1 ∷ 6 ∷ 9 ∷ 1 ∷ 1 ∷ 0
+    ∷ 13 ∷ 10 ∷ 29 ∷ 1 ∷ 0 ∷ 7 ∷ 1 ∷ 1 ∷ 8 ∷ 1
+    ∷ 32 ∷ 2 ∷ 28 ∷ 1 ∷ 23 ∷ 2 ∷ 0 ∷ 0 ∷ 0 ∷ 29 ∷ []
+
 abbrev pub cases : List Case
 cases =
     -- 40 zero bytes are accepted; 36, 42 and 8,196 bytes are not
@@ -217,6 +227,9 @@ cases =
     ∷ case (bytesOf traps) itsFindings (finds (finding 1001 0 0 4 0 0 ∷ finding 2007 0 0 2 1 1 ∷ finding 2007 0 0 2 1 1 ∷ finding 2007 0 0 2 1 1 ∷ []))
     -- every message
     ∷ case (bytesOf everyMessage) itsListing (text (bytes "findings 12\nE1002 0 0 variable `a` shadows an earlier binding\nE1001 0 0 unresolved variable `seat`\nE2008 10 13 variable `r` used in node-pattern position but has kind `Relationship`; expected `Node`\nE2008 13 18 variable `a` used in relationship-pattern position but has kind `Node`; expected `Relationship`\nE2008 0 0 variable `a` used as path binder but has kind `Node`; expected `Path`\nE2007 0 0 variable `a` has kind `Node` but is used in an arithmetic expression; only `Value` variables are valid here\nE2007 0 0 variable `p` has kind `Path` and does not support property access; use `nodes()` or `relationships()` to extract graph elements first\nE5010 0 0 cannot index non-list expression of type `Int`; list indexing and slicing require a list target\nE5010 0 0 cannot slice non-list expression of type `String`; list indexing and slicing require a list target\nE5010 0 0 cannot iterate over non-list expression of type `Map`; list indexing and slicing require a list target\nE5011 0 0 list-predicate iterable must be a list but found `Int`; ANY/ALL/NONE/SINGLE require a `LIST<T>` source\nE2011 0 0 list-predicate WHERE clause requires a `Bool` predicate but found `String`\n"))
+    -- a sort key that is misspelt
+    ∷ case (bytesOf sortKey) itsFindings (finds (finding 1001 0 0 2 0 0 ∷ []))
+    ∷ case (bytesOf sortKey) itsListing (text (bytes "findings 1\nE1001 0 0 unresolved variable `b`\n"))
     ∷ []
 
 pub cases-hold : map given cases ≡ map expected cases

@@ -15,7 +15,7 @@ use Rattle.heads.specs.declared.Maybe.{Maybe}
 use Rattle.heads.specs.declared.Maybe.the-variants as maybe
 use Rattle.expr.specs.Tree.{Expr, var, unresolved, node, predicate, comprehension, Exprs, done, more, mark, Steps, end, part, elem}
 use Rattle.expr.specs.Well.{WellE, Wells, WellS, WellPattern}
-use Rattle.clauses.specs.Tree.{Clause, opening, reading, with', return, unwind, call, exprs}
+use Rattle.clauses.specs.Tree.{Clause, opening, reading, with', return, unwind, call, exprs, keysOf}
 use Rattle.clauses.specs.Tree as clause
 use Rattle.clauses.specs.Read.{maxDepth}
 use Rattle.clauses.specs.Well.{Each, WellMany, WellClause}
@@ -28,7 +28,7 @@ use Rattle.semantics.specs.World.{World, worldOf}
 use Rattle.semantics.specs.Kinds.{Setting, general, arithmetic, property, boolean, listed, passes, isArithmetic, leafTypes, Pair, both, plain, typeOf, settings, atType, atRow, misplaced, rowFor, kindsE, kindsEs, kindsS, kindsC, kinds}
 use Rattle.told.specs.Pushed as pushed
 use Rattle.told.specs.Pushed.{IsType, Pushed}
-use Rattle.told.proofs.Trees.{kindOf, reading-well, done-well, row-well}
+use Rattle.told.proofs.Trees.{kindOf, reading-well, done-well, row-well, keys-well}
 use Rattle.told.proofs.Rows.{All, nil, cons, join, both-true, RowIn, row-in}
 
 -- Types are at most Path's.
@@ -184,8 +184,10 @@ module _ (warns : Bool) (st : Statement) (rows : Each (WellRow (length (st .name
   unfolding kindsC WellClause WellMany WellPattern
   gives-C (opening o a b s) h = gives-S s maxDepth (h .2 .1)
   gives-C (reading r a b es) h = gives-Es es (kindOf r) maxDepth plain (reading-well (anyBinder size) r es (h .1)) (tt, tt)
-  gives-C (with' a b ps f) h = gives-Es (exprs ps f) 0 maxDepth plain (row-well (anyBinder size) ps f (h .1 .1) (h .4)) (tt, tt)
-  gives-C (return a b ps) h = gives-Es (exprs ps done) 0 maxDepth plain (row-well (anyBinder size) ps done (h .1 .1) (done-well (anyBinder size))) (tt, tt)
+  gives-C (with' a b ps f ks) h =
+      join (gives-Es (exprs ps f) 0 maxDepth plain (row-well (anyBinder size) ps f (h .1 .1) (h .4)) (tt, tt)) (gives-Es (keysOf ks) 0 maxDepth plain (keys-well (anyBinder size) ks (h .5)) (tt, tt))
+  gives-C (return a b ps ks) h =
+      join (gives-Es (exprs ps done) 0 maxDepth plain (row-well (anyBinder size) ps done (h .1 .1) (done-well (anyBinder size))) (tt, tt)) (gives-Es (keysOf ks) 0 maxDepth plain (keys-well (anyBinder size) ks (h .2)) (tt, tt))
   gives-C (unwind a b v e) h = gives-E e maxDepth general (h .3) tt
   gives-C (call a b es ys) h = gives-Es es 0 maxDepth plain (reading-well (anyBinder size) clause.delete es (h .1)) (tt, tt)
 

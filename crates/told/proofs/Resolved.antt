@@ -1,19 +1,20 @@
 -- The resolve walk's findings are pushes that there are: E1001 at an Unresolved, whose name is within the table; E1002 at a path, whose
--- variable has a row, and at a yield. All else that the walk says is no finding.
+-- variable has a row, and at a yield. All else that the walk says is no finding, whichever names are hushed.
 use Prim.Native.Nat.{ℕ, _-_, _<_}
 use mathlib.Core.Path.{_≡_, refl}
 use mathlib.Core.Bool.{Bool, true, false, not, _&&_}
-use mathlib.Core.List.{List, [], _∷_, flatMap, reverseAux}
+use mathlib.Core.List.{List, [], _∷_, _++_, flatMap, reverseAux}
 use mathlib.Core.Option.{Option, none, some}
 use lib.ListN.{length}
 use borrow.Author.Tests.{not-true}
 use Rattle.scope.specs.Graph.{comprehensionScope, returnScope, callScope}
+use Rattle.heads.specs.Answer.{isIn}
 use Rattle.heads.specs.declared.Maybe.{Maybe}
 use Rattle.heads.specs.declared.Maybe.the-variants as maybe
 use Rattle.expr.specs.Tree.{Expr, var, unresolved, node, predicate, comprehension, Exprs, done, more, mark, Steps, end, part, elem}
 use Rattle.expr.specs.Well.{WellE, Wells, WellS, WellPattern}
 use Rattle.expr.specs.Binders.{binder, bindersE, binders, bindersS}
-use Rattle.clauses.specs.Tree.{Projection, projection, Yield, yield, Clause, opening, reading, with', return, unwind, call, Arm, arm, exprs}
+use Rattle.clauses.specs.Tree.{Projection, projection, Yield, yield, Clause, opening, reading, with', return, unwind, call, Arm, arm, exprs, keysOf}
 use Rattle.clauses.specs.Read.{maxDepth}
 use Rattle.clauses.specs.Binders.{bindersP, bindersC, bindersA}
 use Rattle.clauses.specs.Well.{Each, WellAlias, WellYield, WellMany, WellClause, WellArm}
@@ -24,10 +25,10 @@ use Rattle.sheet.specs.Write.{WellStatement}
 use Rattle.semantics.specs.Log.{Finding, Event, open', bind, carry, answer, find, findsIn, logs}
 use Rattle.semantics.specs.World as Walk
 use Rattle.semantics.specs.World.{World, rowOf, rowName, variable, opens, starName, nameOf, bytesOf, yieldName, worldOf}
-use Rattle.semantics.specs.Resolve.{Pair, pair, State, lookup, binds, sayIf, enter, bindName, leave, standing, useVar, useName, bindAnew, bindNew, bindPath, bindElem, resolve, resolves, bindPattern, carriedBy, carryAll, bindAll, barrier, fresh, yields, clause, clauses, arms, start, run, log}
+use Rattle.semantics.specs.Resolve.{Pair, pair, State, lookup, binds, sayIf, enter, bindName, leave, standing, useVar, useName, visit, bindAnew, bindNew, bindPath, bindElem, resolve, resolves, bindPattern, carriedBy, carryAll, bindAll, barrier, fresh, yields, aliases, sortBy, clause, clauses, arms, start, run, log}
 use Rattle.told.specs.Pushed as pushed
 use Rattle.told.specs.Pushed.{Pushed}
-use Rattle.told.proofs.Trees.{kindOf, reading-well, done-well, row-well}
+use Rattle.told.proofs.Trees.{kindOf, reading-well, done-well, row-well, keys-well}
 use Rattle.told.proofs.Rows.{All, nil, cons, join, cut, names-in}
 
 -- what is said is no finding, or one of the pushes
@@ -71,64 +72,74 @@ module _ (warns : Bool) (st : Statement) where
   fine-if true f s p k = cons (p refl) k
   fine-if false f s p k = k
 
-  fine-name : (x : ℕ) (o : Option ℕ) (s : State) → x < size → Says s → Says (useName w x o s)
-  unfolding useName worldOf bytesOf
-  fine-name x (some v) s h k = cons tt k
-  fine-name x none s h k = fine-if (not (starName (bytesOf st x))) _ _ (λ e. pushed.unresolved h (not-true (starName (bytesOf st x)) e)) (cons tt k)
+  -- the statement's World, but for the names that are hushed
+  module _ (hushed : ℕ → Bool) where
+    abbrev w' : World
+    w' = record { id = w .id; isStar = w .isStar; isId = w .isId; hushed = hushed; row = w .row; warns = w .warns }
 
-  fine-var : (v : ℕ) (o : Option Row) (s : State) → Says s → Says (useVar w v o s)
-  unfolding useVar
-  fine-var v none s k = k
-  fine-var v (some (row i x j a b)) s k = cons tt k
+    fine-name : (x : ℕ) (o : Option ℕ) (s : State) → x < size → Says s → Says (useName w' x o s)
+    unfolding useName worldOf bytesOf
+    fine-name x (some v) s h k = cons tt k
+    fine-name x none s h k = fine-if (not (starName (bytesOf st x))) _ _ (λ e. pushed.unresolved h (not-true (starName (bytesOf st x)) e)) (cons tt k)
 
-  fine-anew : (a b x v j : ℕ) (s : State) → x < size → Says s → Says (bindAnew w a b x v j s)
-  unfolding bindAnew
-  fine-anew a b x v j s h k = fine-if (w .warns && binds (s .cur) x (s .visible)) _ (bindName x v j s) (λ e. pushed.shadows h) (cons tt k)
+    fine-visit : (b : Bool) (x : ℕ) (o : Option ℕ) (s : State) → x < size → Says s → Says (visit w' b x o s)
+    unfolding visit
+    fine-visit true x o s h k = k
+    fine-visit false x o s h k = fine-name x o s h k
 
-  fine-path : (p : Maybe) (s : State) → Named (binder p) → Says s → Says (bindPath w (variable p) s)
-  unfolding bindPath variable binder nameOf worldOf
-  fine-path (maybe.Var v) s (cons h g) k = fine-anew 0 0 (nameOf w v) v pathKind s h k
-  fine-path maybe.Nothing s g k = k
+    fine-var : (v : ℕ) (o : Option Row) (s : State) → Says s → Says (useVar w' v o s)
+    unfolding useVar
+    fine-var v none s k = k
+    fine-var v (some (row i x j a b)) s k = cons tt k
 
-  fine-new : (o : Option ℕ) (x v j : ℕ) (s : State) → Says s → Says (bindNew w o x v j s)
-  unfolding bindNew
-  fine-new none x v j s k = cons tt k
-  fine-new (some u) x v j s k = k
+    fine-anew : (a b x v j : ℕ) (s : State) → x < size → Says s → Says (bindAnew w' a b x v j s)
+    unfolding bindAnew
+    fine-anew a b x v j s h k = fine-if (w' .warns && binds (s .cur) x (s .visible)) _ (bindName x v j s) (λ e. pushed.shadows h) (cons tt k)
 
-  fine-elem : (j : ℕ) (p : Maybe) (s : State) → Says s → Says (bindElem w j (variable p) s)
-  unfolding bindElem variable
-  fine-elem j (maybe.Var v) s k = fine-new (lookup (nameOf w v) (s .visible)) (nameOf w v) v j s k
-  fine-elem j maybe.Nothing s k = k
+    fine-path : (p : Maybe) (s : State) → Named (binder p) → Says s → Says (bindPath w' (variable p) s)
+    unfolding bindPath variable binder nameOf worldOf
+    fine-path (maybe.Var v) s (cons h g) k = fine-anew 0 0 (nameOf w' v) v pathKind s h k
+    fine-path maybe.Nothing s g k = k
 
-  mutual
-    unfolding resolve WellE bindersE
+    fine-new : (o : Option ℕ) (x v j : ℕ) (s : State) → Says s → Says (bindNew w' o x v j s)
+    unfolding bindNew
+    fine-new none x v j s k = cons tt k
+    fine-new (some u) x v j s k = k
 
-    fine-E : (t : Expr) (room : ℕ) (s : State) → WellE (anyBinder size) t room → Named (bindersE t) → Says s → Says (resolve w t s)
-    fine-E (var v) room s h g k = fine-var v (w .row v) s k
-    fine-E (unresolved x) room s h g k = fine-name x (lookup x (s .visible)) s (h .1) k
-    fine-E (node f es) room s h g k = fine-Es es 0 (room - 1) s (h .5) g k
-    fine-E (predicate p) room s h g k = k
-    fine-E (comprehension a b p es) room s h g k =
-        let i = cut (bindersS p) g in
-        let t = enter comprehensionScope a b s in
-        fine-Es es 0 (room - 1) (bindPattern w p t) (h .6) (i .1) (fine-S p (room - 1) t (h .3) (i .0) (cons tt k))
+    fine-elem : (j : ℕ) (p : Maybe) (s : State) → Says s → Says (bindElem w' j (variable p) s)
+    unfolding bindElem variable
+    fine-elem j (maybe.Var v) s k = fine-new (lookup (nameOf w' v) (s .visible)) (nameOf w' v) v j s k
+    fine-elem j maybe.Nothing s k = k
 
-    fine-Es : (t : Exprs) (kind room : ℕ) (s : State) → Wells (anyBinder size) kind t room → Named (binders t) → Says s → Says (resolves w t s)
-    fine-Es done kind room s h g k = k
-    fine-Es (more e es) kind room s h g k =
-        let i = cut (bindersE e) g in
-        fine-Es es kind room (resolve w e s) (h .1) (i .1) (fine-E e room s (h .0) (i .0) k)
-    fine-Es (mark m es) kind room s h g k = fine-Es es kind room s (h .2) g k
+    mutual
+      unfolding resolve WellE bindersE
 
-    fine-S : (t : Steps) (room : ℕ) (s : State) → WellS (anyBinder size) t room → Named (bindersS t) → Says s → Says (bindPattern w t s)
-    fine-S end room s h g k = k
-    fine-S (part p r) room s h g k =
-        let i = cut (binder p) g in
-        fine-S r room (bindPath w (variable p) s) (h .2) (i .1) (fine-path p s (i .0) k)
-    fine-S (elem j a b v es r) room s h g k =
-        let i = cut (binders es) (cut (binder v) g .1) in
-        let t = bindElem w j (variable v) s in
-        fine-S r room (resolves w es t) (h .6) (i .1) (fine-Es es 0 room t (h .5) (i .0) (fine-elem j v s k))
+      fine-E : (t : Expr) (room : ℕ) (s : State) → WellE (anyBinder size) t room → Named (bindersE t) → Says s → Says (resolve w' t s)
+      fine-E (var v) room s h g k = fine-var v (w' .row v) s k
+      fine-E (unresolved x) room s h g k = fine-visit (hushed x) x (lookup x (s .visible)) s (h .1) k
+      fine-E (node f es) room s h g k = fine-Es es 0 (room - 1) s (h .5) g k
+      fine-E (predicate p) room s h g k = k
+      fine-E (comprehension a b p es) room s h g k =
+          let i = cut (bindersS p) g in
+          let t = enter comprehensionScope a b s in
+          fine-Es es 0 (room - 1) (bindPattern w' p t) (h .6) (i .1) (fine-S p (room - 1) t (h .3) (i .0) (cons tt k))
+
+      fine-Es : (t : Exprs) (kind room : ℕ) (s : State) → Wells (anyBinder size) kind t room → Named (binders t) → Says s → Says (resolves w' t s)
+      fine-Es done kind room s h g k = k
+      fine-Es (more e es) kind room s h g k =
+          let i = cut (bindersE e) g in
+          fine-Es es kind room (resolve w' e s) (h .1) (i .1) (fine-E e room s (h .0) (i .0) k)
+      fine-Es (mark m es) kind room s h g k = fine-Es es kind room s (h .2) g k
+
+      fine-S : (t : Steps) (room : ℕ) (s : State) → WellS (anyBinder size) t room → Named (bindersS t) → Says s → Says (bindPattern w' t s)
+      fine-S end room s h g k = k
+      fine-S (part p r) room s h g k =
+          let i = cut (binder p) g in
+          fine-S r room (bindPath w' (variable p) s) (h .2) (i .1) (fine-path p s (i .0) k)
+      fine-S (elem j a b v es r) room s h g k =
+          let i = cut (binders es) (cut (binder v) g .1) in
+          let t = bindElem w' j (variable v) s in
+          fine-S r room (resolves w' es t) (h .6) (i .1) (fine-Es es 0 room t (h .5) (i .0) (fine-elem j v s k))
 
   yield-name : (x : ℕ) (o : Option ℕ) → x < size → WellAlias (anyBinder size) o → yieldName x o < size
   unfolding yieldName WellAlias
@@ -139,7 +150,7 @@ module _ (warns : Bool) (st : Statement) where
   unfolding yields Each WellYield
   fine-yields a b [] s h k = k
   fine-yields a b (yield x y v ∷ ys) s h k =
-      fine-yields a b ys (bindAnew w a b (yieldName x y) v valueKind s) (h .1) (fine-anew a b (yieldName x y) v valueKind s (yield-name x y (h .0 .0) (h .0 .1)) k)
+      fine-yields a b ys (bindAnew w a b (yieldName x y) v valueKind s) (h .1) (fine-anew (w .hushed) a b (yieldName x y) v valueKind s (yield-name x y (h .0 .0) (h .0 .1)) k)
 
   fine-carries : (ps : List Pair) (s : State) → Says s → Says (carryAll w ps s)
   unfolding carryAll
@@ -158,15 +169,20 @@ module _ (warns : Bool) (st : Statement) where
   row-named (projection a e ∷ ps) f g i = let j = cut (bindersE e) g in join (j .0) (row-named ps f (j .1) i)
 
   fine-C : (t : Clause) (s : State) → WellClause (anyBinder size) t → Named (bindersC t) → Says s → Says (clause w t s)
-  unfolding clause WellClause WellMany WellPattern bindersC binders barrier fresh
-  fine-C (opening o a b p) s h g k = fine-S p maxDepth (enter (opens o) a b s) (h .2 .1) g (cons tt k)
-  fine-C (reading r a b es) s h g k = fine-Es es (kindOf r) maxDepth s (reading-well (anyBinder size) r es (h .1)) g k
-  fine-C (with' a b ps f) s h g k =
-      let i = cut (flatMap bindersP ps) g in
+  unfolding clause WellClause WellMany WellPattern bindersC binders barrier fresh sortBy
+  fine-C (opening o a b p) s h g k = fine-S (w .hushed) p maxDepth (enter (opens o) a b s) (h .2 .1) g (cons tt k)
+  fine-C (reading r a b es) s h g k = fine-Es (w .hushed) es (kindOf r) maxDepth s (reading-well (anyBinder size) r es (h .1)) g k
+  fine-C (with' a b ps f ks) s h g k =
+      let i = cut (flatMap bindersP ps ++ binders f) g in
+      let j = cut (flatMap bindersP ps) (i .0) in
       let c = carriedBy w ps (s .visible) in
-      fine-binds c _ (cons tt (fine-carries c _ (cons tt (fine-Es (exprs ps f) 0 maxDepth s (row-well (anyBinder size) ps f (h .1 .1) (h .4)) (row-named ps f (i .0) (i .1)) k))))
-  fine-C (return a b ps) s h g k =
-      fine-Es (exprs ps done) 0 maxDepth (leave s (enter returnScope a b s)) (row-well (anyBinder size) ps done (h .1 .1) (done-well (anyBinder size))) (row-named ps done g nil) (cons tt k)
+      let r = fine-Es (w .hushed) (exprs ps f) 0 maxDepth s (row-well (anyBinder size) ps f (h .1 .1) (h .4)) (row-named ps f (j .0) (j .1)) k in
+      fine-Es (w .hushed) (keysOf ks) 0 maxDepth _ (keys-well (anyBinder size) ks (h .5)) (i .1) (fine-binds c _ (cons tt (fine-carries c _ (cons tt r))))
+  fine-C (return a b ps ks) s h g k =
+      let i = cut (flatMap bindersP ps) g in
+      let t = leave s (enter returnScope a b s) in
+      let r = fine-Es (w .hushed) (exprs ps done) 0 maxDepth t (row-well (anyBinder size) ps done (h .1 .1) (done-well (anyBinder size))) (row-named ps done (i .0) nil) (cons tt k) in
+      fine-Es (λ x. isIn x (aliases ps)) (keysOf ks) 0 maxDepth _ (keys-well (anyBinder size) ks (h .2)) (i .1) r
   fine-C (unwind a b v e) s h g k = cons tt (cons tt k)
   fine-C (call a b es ys) s h g k = fine-yields a b ys (enter callScope a b s) (h .2 .1) (cons tt k)
 

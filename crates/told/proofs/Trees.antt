@@ -1,12 +1,13 @@
--- Rows of expressions of a clause are well-formed: those of a Where, Set, Remove or Delete, and projections with others after them.
+-- Rows of expressions of a clause are well-formed: those of a Where, Set, Remove or Delete, projections with others after them, and sort
+-- keys.
 use Prim.Native.Nat.{ℕ}
 use mathlib.Core.List.{List, [], _∷_}
 use Rattle.heads.specs.Head.{Tables}
 use Rattle.expr.specs.Tree.{Exprs, done}
 use Rattle.expr.specs.Well.{WellE, Wells}
-use Rattle.clauses.specs.Tree.{Projection, projection, Reading, where', set, remove, delete, exprs}
+use Rattle.clauses.specs.Tree.{Projection, projection, Reading, where', set, remove, delete, Keys, unsorted, sorted, exprs, keysOf}
 use Rattle.clauses.specs.Read.{maxDepth}
-use Rattle.clauses.specs.Well.{Each, WellProjection, WellReading}
+use Rattle.clauses.specs.Well.{Each, WellProjection, WellReading, WellKeys}
 
 -- which marks stand among the expressions
 abbrev pub kindOf : Reading → ℕ
@@ -31,3 +32,8 @@ module _ (w : Tables) where
   unfolding exprs Each WellProjection WellE
   row-well [] f h g = g
   row-well (projection a e ∷ ps) f h g = (h .0 .1, row-well ps f (h .1) g)
+
+  pub keys-well : (ks : Keys) → WellKeys w ks → Wells w 0 (keysOf ks) maxDepth
+  unfolding WellKeys keysOf
+  keys-well unsorted h = done-well
+  keys-well (sorted es) h = reading-well delete es h

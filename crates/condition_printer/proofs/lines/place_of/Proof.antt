@@ -2,6 +2,7 @@
 use native.Mathlib.Omega.{arith}
 use borrow.Author.Needs.{needs}
 use mathlib.Core.Path.{sym, _∙_}
+use mathlib.Core.Logic.{inl, inr, ⊎-elim}
 use Rattle.words.specs.Words.{words}
 use Rattle.words.proofs.Words.{length-words}
 use Rattle.condition.proofs.Basics.{fact}
@@ -17,9 +18,12 @@ place-of-spec =
     (λ c κs. search needs)  -- word-requires
     (λ c. let b = c .before .before .before in omega (arith, stands c .within, b .good .0, length-words (b .args .s .now)))  -- add-t6
     (λ c. stands c)  -- returns
-    (λ c κs. let b = c .before .before .before .before in (b .pre .0, (sym (c .before .before .word .ensures) ∙ c .if2 .taken, b .pre .1)))  -- filter-of-requires
+    (λ c κs. let b = c .before .before .before .before in (b .pre .0, (inl (sym (c .before .before .word .ensures) ∙ c .if2 .taken), b .pre .1)))  -- filter-of-requires
     (λ c. c .filter-of .ensures)  -- returns-2
-    (λ c.  -- returns-3
-    let b = c .before .before .before .before in
+    (λ c κs. let b = c .before .before .before .before .before in (b .pre .0, (inr (sym (c .before .before .before .word .ensures) ∙ c .if3 .taken), b .pre .1)))  -- filter-of-requires-2
+    (λ c. c .filter-of2 .ensures)  -- returns-3
+    (λ c.  -- returns-4
+    let b = c .before .before .before .before .before in
     let a = b .args in
-    other-kind (words (a .s .now)) (a .names) (a .at) (b .pre .0) (λ e. c .before .if1 .left (c .before .before .word .ensures ∙ e)) (λ e. c .if2 .left (c .before .before .word .ensures ∙ e))))
+    let w = c .before .before .before .word .ensures in
+    other-kind (words (a .s .now)) (a .names) (a .at) (b .pre .0) (λ e. c .before .before .if1 .left (w ∙ e)) (⊎-elim (λ e. c .before .if2 .left (w ∙ e)) (λ e. c .if3 .left (w ∙ e)))))
