@@ -1,6 +1,6 @@
 //! A sheet to the Rust's statement, or its refusal 1 to 7, as document 01 says.
 use crate::format::{Read, Reader, check, span_of};
-use cyrs_hir::{Binding, Statement, VarId, VarKind};
+use cyrs_hir::{Binding, Clause, Statement, VarId, VarKind};
 use smol_str::SmolStr;
 
 pub const TRAILER: usize = 10;
@@ -8,6 +8,28 @@ pub const TRAILER: usize = 10;
 pub struct Sheet {
     pub names: Vec<String>,
     pub statement: Statement,
+}
+
+impl Sheet {
+    fn clauses(&mut self) -> impl Iterator<Item = &mut Clause> {
+        self.statement.clauses.iter_mut().chain(self.statement.unions.iter_mut().flat_map(|arm| &mut arm.clauses))
+    }
+
+    /// Whether a WITH or a RETURN has a sort key.
+    pub fn has_keys(&self) -> bool {
+        let mut clauses = self.statement.clauses.iter().chain(self.statement.unions.iter().flat_map(|arm| &arm.clauses));
+        clauses.any(|clause| matches!(clause, Clause::With { order_by, .. } | Clause::Return { order_by, .. } if !order_by.is_empty()))
+    }
+
+    /// Takes all sort keys out.
+    pub fn without_keys(mut self) -> Self {
+        for clause in self.clauses() {
+            if let Clause::With { order_by, .. } | Clause::Return { order_by, .. } = clause {
+                order_by.clear();
+            }
+        }
+        self
+    }
 }
 
 pub fn read(bytes: &[u8]) -> Read<Sheet> {
