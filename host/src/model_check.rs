@@ -31,7 +31,10 @@ fn main() {
         }
     }
     println!("{} sheets, {} accepted, {} refused; warnings on and off", tally.accepted + tally.refused, tally.accepted, tally.refused);
-    println!("{} of the accepted have sort keys, which are taken out for the Rust; {} have a twin with empty ones", tally.keyed, tally.twins);
+    println!(
+        "{} of the accepted have sort keys, which are taken out for the Rust; {} have a twin with empty ones",
+        tally.keyed, tally.twins
+    );
     println!("{} sheets differ", tally.differ);
     if tally.differ > 0 {
         std::process::exit(1);

@@ -32,7 +32,13 @@ pub fn twin(bytes: &[u8], keys: Keys) -> Option<Vec<u8>> {
     copy.repeat(trailer[7], Copy::arm).ok()?;
     let backs = [head + made_head.len(), head - bindings + made_head.len(), made_head.len(), 0].map(|back| (back + copy.made.len()) as u32);
     let counts = [trailer[1], trailer[3], clauses, trailer[7]];
-    let made = [&sections[..head], &made_head, &copy.made, &backs.iter().zip(&counts).flat_map(|(b, c)| [*b, *c]).collect::<Vec<_>>(), &trailer[8..]];
+    let made = [
+        &sections[..head],
+        &made_head,
+        &copy.made,
+        &backs.iter().zip(&counts).flat_map(|(b, c)| [*b, *c]).collect::<Vec<_>>(),
+        &trailer[8..],
+    ];
     let made: Vec<u8> = made.concat().iter().flat_map(|word| word.to_le_bytes()).collect();
     (made.len() <= 8192).then_some(made)
 }

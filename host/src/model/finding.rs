@@ -27,11 +27,20 @@ impl Finding {
             (1002, _) => format!("variable `{name}` shadows an earlier binding"),
             (2007, 1) => {
                 let kind = KINDS[self.two];
-                format!("variable `{name}` has kind `{kind}` but is used in an arithmetic expression; only `Value` variables are valid here")
+                format!(
+                    "variable `{name}` has kind `{kind}` but is used in an arithmetic expression; only `Value` variables are valid here"
+                )
             }
-            (2007, _) => format!("variable `{name}` has kind `Path` and does not support property access; {}", "use `nodes()` or `relationships()` to extract graph elements first"),
+            (2007, _) => format!(
+                "variable `{name}` has kind `Path` and does not support property access; {}",
+                "use `nodes()` or `relationships()` to extract graph elements first"
+            ),
             (2008, place) => {
-                let (used, wanted) = [("as path binder", "Path"), ("in node-pattern position", "Node"), ("in relationship-pattern position", "Relationship")][place - 1];
+                let (used, wanted) = [
+                    ("as path binder", "Path"),
+                    ("in node-pattern position", "Node"),
+                    ("in relationship-pattern position", "Relationship"),
+                ][place - 1];
                 format!("variable `{name}` used {used} but has kind `{}`; expected `{wanted}`", KINDS[self.two])
             }
             (2011, _) => format!("list-predicate WHERE clause requires a `Bool` predicate but found `{}`", TYPES[self.two]),
@@ -39,7 +48,10 @@ impl Finding {
                 let verb = ["index", "slice", "iterate over"][taken - 1];
                 format!("cannot {verb} non-list expression of type `{}`; list indexing and slicing require a list target", TYPES[self.two])
             }
-            _ => format!("list-predicate iterable must be a list but found `{}`; ANY/ALL/NONE/SINGLE require a `LIST<T>` source", TYPES[self.two]),
+            _ => format!(
+                "list-predicate iterable must be a list but found `{}`; ANY/ALL/NONE/SINGLE require a `LIST<T>` source",
+                TYPES[self.two]
+            ),
         }
     }
 }

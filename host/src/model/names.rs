@@ -130,7 +130,14 @@ impl<'a> Names<'a> {
     }
 
     /// What goes over a WITH, then a barrier and the new Root. Its sort keys see the new names, and behind these the old ones.
-    fn with(&mut self, projections: &'a [Projection], filter: Option<&'a Expr>, keys: &'a [OrderItem], span: (u32, u32), current: usize) -> usize {
+    fn with(
+        &mut self,
+        projections: &'a [Projection],
+        filter: Option<&'a Expr>,
+        keys: &'a [OrderItem],
+        span: (u32, u32),
+        current: usize,
+    ) -> usize {
         let exprs = projections.iter().map(|projection| &projection.expr).chain(filter);
         exprs.for_each(|expr| self.expr(expr, Place::at(current)));
         let pairs: Vec<(String, u32)> = projections.iter().filter_map(|projection| self.carried(projection, current)).collect();
