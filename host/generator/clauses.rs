@@ -371,7 +371,7 @@ impl Writer<'_> {
     /// None, a few or many keys, often a name alone or in a comprehension.
     fn keys(&mut self, plan: Plan) {
         let down = matches!(plan, Down(_));
-        let count = if !down && self.random.one_in(6) { 0 } else { self.count(plan, 2).max(1) };
+        let count = if !down && self.random.one_in(6) { 0 } else { self.count(plan, 2).max(1 + self.random.below(3)) };
         self.put([count]);
         for plan in self.divide(plan, count) {
             match plan {

@@ -182,6 +182,10 @@ pub trait Reader: Sized {
     }
 
     fn key(&mut self) -> Read<OrderItem> {
+        self.any_key()
+    }
+
+    fn any_key(&mut self) -> Read<OrderItem> {
         Ok(OrderItem { expr: self.expr(1)?, descending: false, span: HirSpan::empty(HirOffset::new(0)) })
     }
 
@@ -241,7 +245,7 @@ pub trait Reader: Sized {
             5 => Expr::String(some_text()),
             6 => Expr::Param(some_text()),
             7 => Expr::Var(VarId(self.word()?)),
-            8 => Expr::Unresolved(self.name()?),
+            8 => self.unresolved()?,
             9 => {
                 let prop = self.name()?;
                 Expr::Prop { target: self.boxed(depth)?, prop }
@@ -308,6 +312,10 @@ pub trait Reader: Sized {
             25 => Expr::ExistsSubqueryDeferred { span: HirSpan::empty(HirOffset::new(0)) },
             _ => return Err(5),
         })
+    }
+
+    fn unresolved(&mut self) -> Read<Expr> {
+        Ok(Expr::Unresolved(self.name()?))
     }
 
     fn boxed(&mut self, depth: u32) -> Read<Box<Expr>> {

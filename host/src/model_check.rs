@@ -1,8 +1,9 @@
 //! Compares the model with the Rust, on sheets from a seed; see README.md.
+use cyrs_hir::{Clause, ScopeKind, Statement, VarId, YieldItem};
 use generator::{Random, one};
 use theirs::answers::Answers;
 use theirs::sheet::{self, Sheet};
-use theirs::twin::{Keys, twin};
+use theirs::twin::{Keys, called, twin};
 
 #[derive(Default)]
 struct Tally {
@@ -10,6 +11,8 @@ struct Tally {
     refused: usize,
     keyed: usize,
     twins: usize,
+    projected: usize,
+    called: usize,
     differ: usize,
 }
 
@@ -34,6 +37,10 @@ fn main() {
     println!(
         "{} of the accepted have sort keys, which are taken out for the Rust; {} have a twin with empty ones",
         tally.keyed, tally.twins
+    );
+    println!(
+        "{} have a RETURN with keys, which are projections for the Rust; {} WITHs with keys are a Call for it",
+        tally.projected, tally.called
     );
     println!("{} sheets differ", tally.differ);
     if tally.differ > 0 {
@@ -66,8 +73,18 @@ fn compare(bytes: &[u8], tally: &mut Tally) -> Result<(), String> {
     }
     tally.keyed += 1;
     let keyed = [false, true].map(|warnings| Answers::model(&sheet, warnings));
+    with_a_call(&sheet, tally)?;
     let out = twin(bytes, Keys::Out).and_then(|made| sheet::read(&made).ok()).ok_or("the sort keys can't be taken out")?;
-    let sheet = sheet.without_keys();
+    let returned = sheet.without_keys(false);
+    if let Some(made) = twin(bytes, Keys::Projected).filter(|_| returned.has_keys()) {
+        tally.projected += 1;
+        let made = sheet::read(&made).map_err(|cause| format!("with sort keys as projections it is refused {cause}"))?;
+        for warnings in [false, true] {
+            let (rust, model) = (Answers::rust(&made, warnings), Answers::model(&returned, warnings));
+            same(&rust, &model, &made.names).map_err(|what| what + " with a RETURN's sort keys as projections")?;
+        }
+    }
+    let sheet = returned.without_keys(true);
     for (warnings, keyed) in [false, true].into_iter().zip(&keyed) {
         let rust = Answers::rust(&sheet, warnings);
         same(&rust, &Answers::model(&sheet, warnings), &sheet.names)?;
@@ -75,6 +92,85 @@ fn compare(bytes: &[u8], tally: &mut Tally) -> Result<(), String> {
         around_keys(&rust, keyed, &sheet)?;
     }
     Ok(())
+}
+
+/// WITHs that are looked at in a head or an arm.
+const WITHS: usize = 8;
+
+/// A WITH's sort keys see what the Rust shows to a Delete after a Call, in place of the WITH, that yields the carried pairs: these first,
+/// and then what was visible before. All other answers must be equal too, but for the barrier.
+fn with_a_call(sheet: &Sheet, tally: &mut Tally) -> Result<(), String> {
+    for clauses in std::iter::once(&sheet.statement.clauses).chain(sheet.statement.unions.iter().map(|arm| &arm.clauses)) {
+        let sorted = |clause: &Clause| matches!(clause, Clause::With { order_by, .. } if !order_by.is_empty());
+        for at in (0..clauses.len()).filter(|at| sorted(&clauses[*at])).take(WITHS) {
+            let before = part(sheet, &clauses[..at]).without_keys(true).statement.clauses;
+            let with = part(sheet, &[&before[..], &clauses[at..=at]].concat());
+            let call = part(sheet, &[before, called(&clauses[at], carried(&with))].concat());
+            tally.called += 1;
+            let (rust, model) = (Answers::rust(&call, true), Answers::model(&with, true));
+            holds("the listing with a Call for a WITH", rust.listing() == model.listing())?;
+            let (rust, model) = (rust.lists(&sheet.names), model.lists(&sheet.names));
+            holds("the recorded uses with a Call for a WITH", entries(&rust, "recorded").eq(entries(&model, "recorded")))?;
+            let barrier = entries(&model, "scopes").enumerate().filter(|(_, scope)| scope.starts_with("7 ")).last().expect("a barrier").0;
+            let moved = |list| moved(&rust, list, barrier, 0) == moved(&model, list, barrier, 1);
+            holds("the scopes with a Call for a WITH", moved("scopes"))?;
+            holds("the bindings with a Call for a WITH", moved("bindings"))?;
+        }
+    }
+    Ok(())
+}
+
+/// A statement of some clauses with a sheet's tables.
+fn part(sheet: &Sheet, clauses: &[Clause]) -> Sheet {
+    let mut statement = Statement::new(sheet.statement.span);
+    statement.bindings = sheet.statement.bindings.clone();
+    statement.clauses = clauses.to_vec();
+    Sheet { names: sheet.names.clone(), statement }
+}
+
+/// What the last WITH carries in the Rust, each name once, with its last variable.
+fn carried(sheet: &Sheet) -> Vec<YieldItem> {
+    let Answers::Rust(ran) = Answers::rust(sheet, false) else { return Vec::new() };
+    let barriers = ran.resolved.scope_graph.iter().filter_map(|scope| match &scope.kind {
+        ScopeKind::WithBarrier { projected } => Some(projected),
+        _ => None,
+    });
+    let mut yields: Vec<YieldItem> = Vec::new();
+    for (name, variable) in barriers.last().expect("a barrier") {
+        match yields.iter_mut().find(|other| other.name == *name) {
+            Some(other) => other.var = VarId(variable.0),
+            None => yields.push(YieldItem { name: name.clone(), alias: None, var: *variable }),
+        }
+    }
+    yields
+}
+
+/// The entries of a list without what the barrier and the new Root, or the Call, have of their own. Scopes from `barrier` on count less by
+/// so many.
+fn moved(text: &str, list: &str, barrier: usize, more: usize) -> Vec<Vec<String>> {
+    let number = |scope: &str| match scope.parse::<usize>() {
+        Ok(scope) if scope > barrier => scope - more,
+        Ok(scope) => scope,
+        Err(_) => usize::MAX,
+    };
+    let mut all = Vec::new();
+    for (at, entry) in entries(text, list).enumerate() {
+        let mut fields: Vec<String> = entry.split(' ').map(str::to_owned).collect();
+        let scope = if list == "scopes" { at } else { number(&fields[0]) };
+        if list == "scopes" {
+            if (barrier..=barrier + more).contains(&scope) {
+                continue;
+            }
+            fields[1] = number(&fields[1]).to_string();
+        } else {
+            fields[0] = scope.to_string();
+            if scope == barrier {
+                fields.truncate(3);
+            }
+        }
+        all.push(fields);
+    }
+    all
 }
 
 /// Every answer is equal.

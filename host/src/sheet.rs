@@ -11,21 +11,20 @@ pub struct Sheet {
 }
 
 impl Sheet {
-    fn clauses(&mut self) -> impl Iterator<Item = &mut Clause> {
-        self.statement.clauses.iter_mut().chain(self.statement.unions.iter_mut().flat_map(|arm| &mut arm.clauses))
-    }
-
     /// Whether a WITH or a RETURN has a sort key.
     pub fn has_keys(&self) -> bool {
         let mut clauses = self.statement.clauses.iter().chain(self.statement.unions.iter().flat_map(|arm| &arm.clauses));
         clauses.any(|clause| matches!(clause, Clause::With { order_by, .. } | Clause::Return { order_by, .. } if !order_by.is_empty()))
     }
 
-    /// Takes all sort keys out.
-    pub fn without_keys(mut self) -> Self {
-        for clause in self.clauses() {
-            if let Clause::With { order_by, .. } | Clause::Return { order_by, .. } = clause {
-                order_by.clear();
+    /// Takes the sort keys of a WITH out, and if `all` those of a RETURN too.
+    pub fn without_keys(mut self, all: bool) -> Self {
+        let clauses = self.statement.clauses.iter_mut().chain(self.statement.unions.iter_mut().flat_map(|arm| &mut arm.clauses));
+        for clause in clauses {
+            match clause {
+                Clause::With { order_by, .. } => order_by.clear(),
+                Clause::Return { order_by, .. } if all => order_by.clear(),
+                _ => (),
             }
         }
         self

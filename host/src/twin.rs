@@ -1,7 +1,7 @@
-//! A sheet with the same clauses and other sort keys, made on its words.
+//! A sheet with the same clauses and other sort keys, made on its words; and a WITH with sort keys as clauses without.
 use crate::format::{Read, Reader};
 use crate::sheet::{TRAILER, places, read, word};
-use cyrs_hir::{Clause, OrderItem, UnionArm, VarId};
+use cyrs_hir::{Clause, Expr, HirId, OrderItem, UnionArm, VarId, YieldItem};
 use smol_str::SmolStr;
 
 /// What becomes of sort keys.
@@ -13,9 +13,12 @@ pub enum Keys {
     Out,
     /// As that, and the keys are a Delete before the clause.
     Deleted,
+    /// A RETURN's keys are projections without alias, and in them a name that is an alias of the clause is a Param; a WITH's are left out.
+    Projected,
 }
 
 const DELETE: u32 = 10;
+const PARAM: u32 = 6;
 /// Kinds 12 and 13 are this much more than 3 and 4.
 const SORTED: u32 = 9;
 
@@ -25,7 +28,8 @@ pub fn twin(bytes: &[u8], keys: Keys) -> Option<Vec<u8>> {
     let words: Vec<u32> = bytes.chunks(4).map(word).collect();
     let (sections, trailer) = words.split_at(words.len() - TRAILER);
     let [bindings, head, arms] = places(sections.len(), trailer).ok()?;
-    let mut copy = Copy { words: &sections[head..arms], names, keys, made: Vec::new(), keys_at: 0, more: 0 };
+    let mut copy =
+        Copy { words: &sections[head..arms], names, keys, made: Vec::new(), aliases: Vec::new(), in_keys: false, keys_at: 0, more: 0 };
     copy.repeat(trailer[5], Copy::clause).ok()?;
     let (made_head, clauses) = (std::mem::take(&mut copy.made), trailer[5] + std::mem::take(&mut copy.more));
     copy.words = &sections[arms..];
@@ -49,6 +53,9 @@ struct Copy<'a> {
     names: usize,
     keys: Keys,
     made: Vec<u32>,
+    /// The aliases of the clause, and whether its keys are being read.
+    aliases: Vec<u32>,
+    in_keys: bool,
     /// Where the clause's count of keys stands in `made`.
     keys_at: usize,
     /// Clauses that were added.
@@ -83,18 +90,47 @@ impl Reader for Copy<'_> {
 
     fn keys_if(&mut self, sorted: bool) -> Read<Vec<OrderItem>> {
         self.keys_at = self.made.len();
+        self.in_keys = true;
         if sorted { self.counted(Self::key) } else { Ok(Vec::new()) }
+    }
+
+    fn key(&mut self) -> Read<OrderItem> {
+        if self.keys == Keys::Projected {
+            self.made.push(0);
+        }
+        self.any_key()
+    }
+
+    fn alias(&mut self) -> Read<Option<SmolStr>> {
+        let alias = self.below(self.names + 1)? as u32;
+        self.aliases.extend(alias.checked_sub(1));
+        Ok(None)
+    }
+
+    fn unresolved(&mut self) -> Read<Expr> {
+        let name = self.below(self.names)? as u32;
+        if self.keys == Keys::Projected && self.in_keys && self.aliases.contains(&name) {
+            self.made.truncate(self.made.len() - 2);
+            self.made.push(PARAM);
+        }
+        Ok(Expr::Null)
     }
 
     fn clause(&mut self) -> Read<Clause> {
         let at = self.made.len();
+        self.aliases.clear();
+        self.in_keys = false;
         let clause = self.any_clause()?;
         match (self.made[at], self.keys) {
             (3 | 4, Keys::Empty) => {
                 self.made[at] += SORTED;
                 self.made.push(0);
             }
-            (12 | 13, Keys::Out | Keys::Deleted) => {
+            (13, Keys::Projected) => {
+                self.made[at] -= SORTED;
+                self.made[at + 3] += self.made.remove(self.keys_at);
+            }
+            (12 | 13, Keys::Out | Keys::Deleted | Keys::Projected) => {
                 self.made[at] -= SORTED;
                 let keys = self.made.split_off(self.keys_at);
                 if self.keys == Keys::Deleted {
@@ -115,4 +151,16 @@ impl Reader for Copy<'_> {
         self.more = before;
         Ok(arm)
     }
+}
+
+/// A Delete of a WITH's projections and filter, a Call that yields, and a Delete of its sort keys.
+pub fn called(with: &Clause, yields: Vec<YieldItem>) -> Vec<Clause> {
+    let Clause::With { projections, filter, order_by, span, .. } = with else { return Vec::new() };
+    let (id, span) = (HirId::DUMMY, *span);
+    let delete = |targets| Clause::Delete { id, targets, detach: false, span };
+    vec![
+        delete(projections.iter().map(|projection| projection.expr.clone()).chain(filter.clone()).collect()),
+        Clause::Call { id, procedure: SmolStr::new(""), args: Vec::new(), yields, optional: false, span },
+        delete(order_by.iter().map(|key| key.expr.clone()).collect()),
+    ]
 }
