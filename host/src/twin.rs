@@ -29,11 +29,11 @@ pub fn twin(bytes: &[u8], keys: Keys) -> Option<Vec<u8>> {
     let (sections, trailer) = words.split_at(words.len() - TRAILER);
     let [bindings, head, arms] = places(sections.len(), trailer).ok()?;
     let mut copy =
-        Copy { words: &sections[head..arms], names, keys, made: Vec::new(), aliases: Vec::new(), in_keys: false, keys_at: 0, more: 0 };
-    copy.repeat(trailer[5], Copy::clause).ok()?;
+        Copier { words: &sections[head..arms], names, keys, made: Vec::new(), aliases: Vec::new(), in_keys: false, keys_at: 0, more: 0 };
+    copy.repeat(trailer[5], Copier::clause).ok()?;
     let (made_head, clauses) = (std::mem::take(&mut copy.made), trailer[5] + std::mem::take(&mut copy.more));
     copy.words = &sections[arms..];
-    copy.repeat(trailer[7], Copy::arm).ok()?;
+    copy.repeat(trailer[7], Copier::arm).ok()?;
     let backs = [head + made_head.len(), head - bindings + made_head.len(), made_head.len(), 0].map(|back| (back + copy.made.len()) as u32);
     let counts = [trailer[1], trailer[3], clauses, trailer[7]];
     let made = [
@@ -48,7 +48,7 @@ pub fn twin(bytes: &[u8], keys: Keys) -> Option<Vec<u8>> {
 }
 
 /// Reads a section and puts what it reads, changed, at the end of `made`.
-struct Copy<'a> {
+struct Copier<'a> {
     words: &'a [u32],
     names: usize,
     keys: Keys,
@@ -62,7 +62,7 @@ struct Copy<'a> {
     more: u32,
 }
 
-impl Reader for Copy<'_> {
+impl Reader for Copier<'_> {
     fn word(&mut self) -> Read<u32> {
         let (first, rest) = self.words.split_first().ok_or(5u32)?;
         self.words = rest;
