@@ -4,7 +4,8 @@
     tools/conditions.py [--bin DIR] [OPERATORS [TEXTS]]
 
 Printed from sheets and read back are all trees of up to two operators over all 22 signs, whose brackets are found by brute force, and all
-trees of up to OPERATORS operators (3) over one sign of each level. Read are TEXTS (1,000) texts with spare brackets and as many with a
+trees of up to OPERATORS operators (3) over one sign of each level; they stand in a WHERE and in the filter of a WITH, without sort keys and
+with, in head and arm. Read are TEXTS (1,000) texts with spare brackets and as many with a
 change somewhere. DIR is where the programs are (target/bin). The exit status is 0 if nothing differs.
 """
 import random
@@ -118,7 +119,7 @@ def trees(operators, unary, binary):
                 yield from ((sign, x, y) for sign in binary)
 
 
-# ---- sheets of WHERE clauses
+# ---- sheets of clauses with conditions
 
 def words(tree, at):
     """The words of an expression that begins at a word, and its tree with atoms by their places."""
@@ -132,22 +133,44 @@ def words(tree, at):
     return [15, BINARY.index(tree[0])] + first + second, (tree[0], x, y)
 
 
+# What stands before and after a condition in its clause: a WHERE, a WITH, one with no sort key, and one with a key that has a sign.
+CLAUSES = [([2, 0, 0], []), ([3, 0, 0, 0, 1], []), ([12, 0, 0, 0, 1], [0]), ([12, 0, 0, 1, 0, 1, 1], [1, 15, 6, 1, 1])]
+# No condition: a RETURN whose sort key has a sign.
+RETURN = [13, 0, 0, 0, 1, 15, 6, 1, 1]
+HALF, MOST = 1000, 2038
+
+
 def sheets(shapes):
-    """Sheets that hold these conditions, as many as fit each, with their trees."""
-    head, placed = [], []
+    """Sheets that hold these conditions, as many as fit each, with their trees: in each of the clauses in turn, in the head and, when it is
+    half full, in an arm."""
+    head, arm, placed = [], [], []
+
+    def clause(n, shape):
+        before, after = CLAUSES[n % len(CLAUSES)]
+        in_arm = len(head) >= HALF
+        at = len(head) + in_arm * (3 + len(sum(arm, []))) + len(before)
+        expression, tree = words(shape, at)
+        return in_arm, before + expression + after, tree
 
     def made():
-        n = len(head)
-        return struct.pack("<%dI" % (n + 10), *head, n, 0, n, 0, n, len(placed), 0, 0, 0, 0), list(placed)
+        arms = [0, 0, len(arm)] + sum(arm, []) if arm else []
+        whole = len(head) + len(arms)
+        trailer = [whole, 0, whole, 0, whole, len(placed) - len(arm) + 1, len(arms), int(bool(arm)), 0, 0]
+        return struct.pack("<%dI" % (whole + 10), *head, *arms, *trailer), list(placed)
 
-    for shape in shapes:
-        expression, tree = words(shape, len(head) + 3)
-        if len(head) + 3 + len(expression) > 2038:
+    head += RETURN
+    for n, shape in enumerate(shapes):
+        in_arm, body, tree = clause(n, shape)
+        if len(head) + in_arm * (3 + len(sum(arm, []))) + len(body) > MOST:
             yield made()
-            head.clear()
+            head[:] = RETURN
+            arm.clear()
             placed.clear()
-            expression, tree = words(shape, 3)
-        head += [2, 0, 0] + expression
+            in_arm, body, tree = clause(n, shape)
+        if in_arm:
+            arm.append(body)
+        else:
+            head += body
         placed.append(tree)
     if placed:
         yield made()

@@ -6,8 +6,8 @@ can arise, and accepted ones beside them.
     tools/refusals.py N SEED     writes N random and damaged sheets and their refusals to standard output's file names
                                  random.stdin and random.stdout in the current folder
 
-The expected refusals come from the decoder below, which is written from document 01 and shares nothing with the Rattle code. A sheet of
-the first kind also says which refusal it is made for, and the two are compared here.
+The expected refusals come from the decoder below, which is written from documents 01 and 02 and shares nothing with the Rattle code. A
+sheet of the first kind also says which refusal it is made for, and the two are compared here.
 """
 import random
 import struct
@@ -16,7 +16,7 @@ import sys
 DEPTH = 48
 
 
-# ---- a decoder written from document 01
+# ---- a decoder written from document 01, and from document 02 (CR 1) for sort keys
 
 class Refused(Exception):
     pass
@@ -114,17 +114,17 @@ class Section:
             self.expr(1)
 
     def clause(self):
-        kind = self.word(1, 12)
+        kind = self.word(1, 14)
         self.span()
         if kind == 1:
             self.word(0, 2)
             self.pattern(1)
         elif kind == 2:
             self.expr(1)
-        elif kind == 3:
+        elif kind in (3, 12):
             self.projections()
             self.exprs(self.word(0, 2), 1)
-        elif kind == 4:
+        elif kind in (4, 13):
             self.projections()
         elif kind == 5:
             self.binders.append(self.word())
@@ -145,6 +145,8 @@ class Section:
                 self.name()
                 self.alias()
                 self.word()
+        if kind in (12, 13):
+            self.exprs(self.word(), 1)
 
     def arm(self):
         self.span()
@@ -278,6 +280,9 @@ CLAUSES = {
     "Unwind": [5, 0, 0, 1] + NULL, "Create": [6, 0, 0] + pattern((None, [node(1)])), "Merge": [7, 0, 0] + pattern(),
     "Set": [8, 0, 0, 3, 1] + NULL * 2 + [2, 3] + NULL, "Remove": [9, 0, 0, 2, 1] + NULL + [2], "Delete": [10, 0, 0, 2] + NULL * 2,
     "Call": [11, 0, 0, 1] + NULL + [2, 0, 0, 5, 1, 2, 6],
+    "With keys": [12, 0, 0, 2, 0, 7, 1, 2, 8, 0, 0, 2, 8, 1] + NULL, "With no key": [12, 0, 0, 0, 0, 0],
+    "With filter, key": [12, 0, 0, 1, 1] + NULL + [1] + NULL + [1, 22, 3, 4, 0] + pattern((1, [node(1, NULL)])) + NULL,
+    "Return keys": [13, 1, 2, 2, 0] + NULL + [1] + NULL + [2, 8, 0, 20] + pattern((None, [node(1)])), "Return no key": [13, 0, 0, 0, 0],
 }
 
 
@@ -352,8 +357,11 @@ def made():
                 worse = list(body)
                 worse[n] = 2**32 - 1
                 yield None, placed([worse])
-        for kind in (0, 12, 13, 2**32 - 1):
+        for kind in (0, 12, 13, 14, 15, 2**32 - 1):
             yield 5, placed([[kind, 0, 0]])
+        for kind in (0, 14, 15, 2**31 + 12):
+            yield 5, placed([[kind, 0, 0, 0, 0, 0]])
+            yield 5, placed([[kind, 0, 0, 0, 0]])
         for code in (0, 26, 2**32 - 1):
             yield 5, placed([where([code])])
         for worse in ([9, 2] + NULL, [8, 2], [11, 4] + NULL * 3, [15, 20] + NULL * 2, [16, 2] + NULL, [17, 4, 0], [21, 2] + NULL * 4,
@@ -371,6 +379,20 @@ def made():
         yield 5, placed([[3, 0, 0, 1, 3] + NULL + [0]])
         yield 5, placed([[3, 0, 0, 0, 2] + NULL * 2])
         yield 5, placed([[4, 0, 0, 1, 3] + NULL])
+        yield 5, placed([[12, 0, 0, 1, 3] + NULL + [0, 0]])
+        yield 5, placed([[12, 0, 0, 0, 2] + NULL * 2 + [0]])
+        yield 5, placed([[13, 0, 0, 1, 3] + NULL + [0]])
+        for sorted_clause in ([12, 0, 0, 0, 0], [13, 0, 0, 0]):
+            yield 5, placed([sorted_clause])
+            yield 5, placed([sorted_clause + [2] + NULL])
+            yield 5, placed([sorted_clause + [1, 26]])
+            yield 5, placed([sorted_clause + [1, 8, 2]])
+            yield 5, placed([sorted_clause + [1, 22, 1, 0, 0, 0] + NULL])
+            yield 5, placed([sorted_clause + [0]] + [NULL], counts={2: 1} if where_it_stands == "head" else None)
+            yield 5, placed([sorted_clause + [2**32 - 1] + NULL * 3])
+            yield 6, placed([sorted_clause + [2**32 - 1] + NULL * 3 + deep(49)])
+            yield 6, placed([sorted_clause + [2] + deep(49) + [99]])
+            yield 5, placed([sorted_clause + [2, 99] + deep(49)])
         yield 5, placed([[11, 0, 0, 0, 1, 2, 0, 0]])
         yield 5, placed([[11, 0, 0, 0, 1, 0, 3, 0]])
         # 6: by each way down; a missing word at depth 49 is 5; an unknown code there is 6; the earlier word decides
@@ -398,7 +420,8 @@ def made():
         yield 6, placed([where([24, 1] + NULL + [1] + deep(48))])
         yield 0, placed([[6, 0, 0] + outer])
         yield 6, placed([[6, 0, 0] + pattern((None, [node(None, deep(49))]))])
-        for clause in ([5, 0, 0, 1], [10, 0, 0, 1], [4, 0, 0, 1, 0], [3, 0, 0, 0, 1], [9, 0, 0, 1, 1], [8, 0, 0, 1, 3]):
+        for clause in ([5, 0, 0, 1], [10, 0, 0, 1], [4, 0, 0, 1, 0], [3, 0, 0, 0, 1], [9, 0, 0, 1, 1], [8, 0, 0, 1, 3], [12, 0, 0, 0, 0, 1],
+                       [12, 0, 0, 0, 1] + NULL + [1], [13, 0, 0, 0, 1], [13, 0, 0, 0, 2] + NULL):
             yield 0, placed([clause + deep(48)])
             yield 6, placed([clause + deep(49)])
         # 7: each binder, also where the walks don't look; yields and Var are free; 5 and 6 anywhere come first
@@ -409,7 +432,9 @@ def made():
                        where([22, 0, 0, 0] + pattern() + [20] + unbound), where([18, 18, 20] + unbound),
                        where([20] + pattern((None, [node(1, [20] + unbound)]))), [6, 0, 0] + pattern((None, [node(None, [20] + unbound)])),
                        [3, 0, 0, 1, 0, 20] + unbound + [0], [3, 0, 0, 0, 1, 20] + unbound, [4, 0, 0, 1, 1, 20] + unbound,
-                       [8, 0, 0, 1, 3, 20] + unbound, [9, 0, 0, 1, 1, 20] + unbound, [10, 0, 0, 1, 20] + unbound):
+                       [8, 0, 0, 1, 3, 20] + unbound, [9, 0, 0, 1, 1, 20] + unbound, [10, 0, 0, 1, 20] + unbound,
+                       [12, 0, 0, 0, 0, 1, 20] + unbound, [12, 0, 0, 0, 0, 2, 22, 0, 0, 0] + unbound + NULL * 2, [13, 0, 0, 0, 1, 20] + unbound,
+                       [13, 0, 0, 1, 1] + NULL + [1, 22, 0, 0, 0] + pattern((2, [])) + NULL):
             yield 7, placed([clause])
             yield 7, placed([clause, where(NULL)])
             yield 5, placed([clause, where([99])])
@@ -499,12 +524,15 @@ def random_pattern(rng, depth):
 def random_clause(rng):
     e = lambda: random_expr(rng, 1)
     projections = lambda n: [n] + [w for _ in range(n) for w in [rng.randrange(4)] + e()]
-    kind = rng.randrange(1, 12)
+    kind = rng.randrange(1, 14)
+    keys = lambda n: [n] + [w for _ in range(n) for w in e()]
     body = {
         1: lambda: [rng.randrange(2)] + random_pattern(rng, 1), 2: e, 3: lambda: projections(rng.randrange(3)) + rng.choice([[0], [1] + e()]),
         4: lambda: projections(rng.randrange(3)), 5: lambda: [rng.choice([1, 2, 2, 3])] + e(), 6: lambda: random_pattern(rng, 1),
         7: lambda: random_pattern(rng, 1), 8: lambda: [3, 1] + e() + e() + [2, 3] + e(), 9: lambda: [2, 2, 1] + e(), 10: lambda: [1] + e(),
         11: lambda: [1] + e() + [1, rng.randrange(3), rng.randrange(4), rng.randrange(9)],
+        12: lambda: projections(rng.randrange(3)) + rng.choice([[0], [1] + e()]) + keys(rng.randrange(3)),
+        13: lambda: projections(rng.randrange(3)) + keys(rng.randrange(3)),
     }[kind]()
     return [kind, 5, 6] + body
 
@@ -517,7 +545,7 @@ def random_sheet(rng):
         b = bytearray(s)
         for _ in range(rng.randrange(1, 3)):
             at = rng.randrange(len(b) // 4)
-            b[4 * at:4 * at + 4] = struct.pack("<I", rng.choice([0, 1, 2, 3, 4, 5, 20, 22, 24, rng.randrange(30), 2**32 - 1]))
+            b[4 * at:4 * at + 4] = struct.pack("<I", rng.choice([0, 1, 2, 3, 4, 5, 12, 13, 20, 22, 24, rng.randrange(30), 2**32 - 1]))
         s = bytes(b)
     return s
 

@@ -315,6 +315,10 @@ class Writer:
             return [self.name(name) + 1] + self.expr(one, 1)
         return [0] + self.expr(t, 1)
 
+    def order_by(self, t):
+        (keys,) = takes(t, "expression*")
+        return [len(keys)] + self.each(self.expr, keys, 1)
+
     def item(self, t, items):
         if t.head not in items:
             raise Bad(t.line, "%s is none of %s" % (t, ", ".join(items)))
@@ -334,11 +338,12 @@ class Writer:
             span, one = takes(t, "span", "expression")
             return [2] + self.span(span) + self.expr(one, 1)
         if head == "With":
-            span, ps, by = takes(t, "span", "projection*", "Filter?")
-            return [3] + self.span(span) + [len(ps)] + self.each(self.projection, ps) + [len(by)] + self.marked(by, 1)
+            span, ps, by, keys = takes(t, "span", "projection*", "Filter?", "OrderBy?")
+            ws = self.span(span) + [len(ps)] + self.each(self.projection, ps) + [len(by)] + self.marked(by, 1)
+            return [12 if keys else 3] + ws + self.each(self.order_by, keys)
         if head == "Return":
-            span, ps = takes(t, "span", "projection*")
-            return [4] + self.span(span) + [len(ps)] + self.each(self.projection, ps)
+            span, ps, keys = takes(t, "span", "projection*", "OrderBy?")
+            return [13 if keys else 4] + self.span(span) + [len(ps)] + self.each(self.projection, ps) + self.each(self.order_by, keys)
         if head == "Unwind":
             span, v, one = takes(t, "span", "number", "expression")
             return [5] + self.span(span) + [self.binder(v)] + self.expr(one, 1)
@@ -462,6 +467,9 @@ class Reader:
         alias = self.alias()
         return shown("As", *alias, self.expr()) if alias else self.expr()
 
+    def order_by(self, sorted_by_keys):
+        return [shown("OrderBy", *self.times(self.word(), self.expr))] if sorted_by_keys else []
+
     def item(self, items):
         number = self.word(len(items) + 1)
         if not number:
@@ -473,16 +481,16 @@ class Reader:
         return shown("Yield", self.name(), *self.alias(), self.variable())
 
     def clause(self):
-        kind, span = self.word(12), self.span()
+        kind, span = self.word(14), self.span()
         if kind == 1:
             return shown("OptionalMatch" if self.word(2) else "Match", span, *self.pattern())
         if kind == 2:
             return shown("Where", span, self.expr())
-        if kind == 3:
+        if kind in (3, 12):
             ps = self.times(self.word(), self.projection)
-            return shown("With", span, *ps, *self.marked(self.word(2), "Filter"))
-        if kind == 4:
-            return shown("Return", span, *self.times(self.word(), self.projection))
+            return shown("With", span, *ps, *self.marked(self.word(2), "Filter"), *self.order_by(kind == 12))
+        if kind in (4, 13):
+            return shown("Return", span, *self.times(self.word(), self.projection), *self.order_by(kind == 13))
         if kind == 5:
             return shown("Unwind", span, self.variable(), self.expr())
         if kind in OPENINGS.values():

@@ -12,6 +12,10 @@ enum Plan {
 }
 use Plan::{Down, Words};
 
+/// Kinds of clauses, as often as each is written; the second row has sort keys.
+const KINDS: [u32; 15] = [1, 1, 2, 3, 3, 3, 4, 5, 6, 7, 8, 9, 10, 11, 11];
+const SORTED: [u32; 20] = [1, 1, 1, 2, 3, 4, 5, 6, 7, 8, 9, 10, 11, 11, 12, 12, 12, 12, 13, 13];
+
 /// Writes clauses at the end of its words.
 pub struct Writer<'a> {
     pub random: &'a mut Random,
@@ -20,10 +24,14 @@ pub struct Writer<'a> {
     pub rows: &'a [Row],
     /// Names that were bound lately.
     pub seen: Vec<u32>,
+    /// The aliases of the projections that were written last.
+    pub aliases: Vec<u32>,
     /// How deep an expression of the next clause goes at least, if it should.
     pub down_to: Option<u32>,
     /// Whether a variable without a binding may be bound.
     pub unbound: bool,
+    /// Whether a WITH and a RETURN may have sort keys.
+    pub sorted: bool,
 }
 
 impl Writer<'_> {
@@ -215,14 +223,7 @@ impl Writer<'_> {
                 let filters = self.flag(2);
                 self.divided(depth, plan, 2 + filters);
             }
-            22 => {
-                self.put([22]);
-                self.span();
-                let filters = self.flag(2);
-                let plans = self.divide(plan, 2 + filters);
-                self.pattern(depth, plans[0]);
-                self.exprs(depth, &plans[1..]);
-            }
+            22 => self.comprehension(depth, plan),
             23 => {
                 self.put([23]);
                 let filters = self.flag(2);
@@ -285,7 +286,7 @@ impl Writer<'_> {
     /// A clause of about so many words.
     pub fn clause(&mut self, words: u32) {
         let plan = self.down_to.take().map_or(Words(words), Down);
-        let kind = self.random.pick(&[1, 1, 2, 3, 3, 3, 4, 5, 6, 7, 8, 9, 10, 11, 11]);
+        let kind = self.random.pick(if self.sorted { &SORTED[..] } else { &KINDS });
         self.put([kind]);
         self.span();
         match kind {
@@ -295,13 +296,8 @@ impl Writer<'_> {
             }
             2 => self.expr(1, plan),
             3 => self.with(plan),
-            4 => {
-                let count = self.count(plan, 3);
-                self.put([count]);
-                for plan in self.divide(plan, count) {
-                    self.projection(plan);
-                }
-            }
+            4 => drop(self.projections(plan)),
+            12 | 13 => self.with_keys(kind, plan),
             5 => match self.binder(4) {
                 Some(variable) => {
                     self.put([variable]);
@@ -329,12 +325,76 @@ impl Writer<'_> {
     }
 
     fn with(&mut self, plan: Plan) {
+        let carried = self.projections_and_filter(plan);
+        self.over_with(carried);
+    }
+
+    /// Projections and a filter; the names that a WITH of these carries.
+    fn projections_and_filter(&mut self, plan: Plan) -> Vec<u32> {
         let count = self.count(plan, 3);
         self.put([count]);
         let plans = self.divide(plan, count + 1);
         let carried = plans[1..].iter().filter_map(|plan| self.projection(*plan)).collect();
         self.maybe_expr(1, plans[0], 3);
-        if self.random.one_in(4) { self.seen.extend::<Vec<u32>>(carried) } else { self.seen = carried }
+        carried
+    }
+
+    fn projections(&mut self, plan: Plan) -> Vec<u32> {
+        let count = self.count(plan, 3);
+        self.put([count]);
+        let plans = self.divide(plan, count);
+        plans.into_iter().filter_map(|plan| self.projection(plan)).collect()
+    }
+
+    /// Mostly the carried names alone are seen after a WITH.
+    fn over_with(&mut self, carried: Vec<u32>) {
+        if self.random.one_in(4) { self.seen.extend(carried) } else { self.seen = carried }
+    }
+
+    /// A WITH or a RETURN with sort keys, which often have names of three sorts: those seen before, the carried ones, and the aliases.
+    fn with_keys(&mut self, kind: u32, plan: Plan) {
+        let plans = self.divide(plan, 2);
+        self.aliases.clear();
+        let carried = if kind == 12 { self.projections_and_filter(plans[0]) } else { self.projections(plans[0]) };
+        let before = self.seen.clone();
+        self.seen.extend(&carried);
+        for _ in 0..2 {
+            self.seen.extend(&self.aliases);
+        }
+        self.keys(plans[1]);
+        self.seen = before;
+        if kind == 12 {
+            self.over_with(carried);
+        }
+    }
+
+    /// None, a few or many keys, often a name alone or in a comprehension.
+    fn keys(&mut self, plan: Plan) {
+        let down = matches!(plan, Down(_));
+        let count = if !down && self.random.one_in(6) { 0 } else { self.count(plan, 2).max(1 + self.random.below(3)) };
+        self.put([count]);
+        for plan in self.divide(plan, count) {
+            match plan {
+                Words(words) if self.names > 0 && self.random.one_in(2) => match self.random.below(8) {
+                    0 | 1 => self.comprehension(2, Words(words.max(12))),
+                    _ => {
+                        let name = self.name();
+                        self.put([8, name]);
+                    }
+                },
+                _ => self.expr(1, plan),
+            }
+        }
+    }
+
+    /// A pattern comprehension whose parts have this depth.
+    fn comprehension(&mut self, depth: u32, plan: Plan) {
+        self.put([22]);
+        self.span();
+        let filters = self.flag(2);
+        let plans = self.divide(plan, 2 + filters);
+        self.pattern(depth, plans[0]);
+        self.exprs(depth, &plans[1..]);
     }
 
     /// Often a variable or a name by itself. The name that a WITH carries, if it does.
@@ -342,6 +402,7 @@ impl Writer<'_> {
         let alias = self.alias(2);
         let alone = !matches!(plan, Down(_)) && !self.random.one_in(4);
         self.put([alias]);
+        self.aliases.extend(alias.checked_sub(1));
         if !alone {
             self.expr(1, plan);
             return None;

@@ -48,8 +48,17 @@ pub fn sheet(random: &mut Random) -> Sheet {
     let (names, rows) = tables(random, room);
     let mut sections = [names.iter().flat_map(|name| name_words(name)).collect(), rows.concat(), Vec::new(), Vec::new()];
     let left = room - sections[0].len() - sections[1].len();
-    let mut writer =
-        Writer { words: Vec::new(), names: names.len() as u32, rows: &rows, seen: Vec::new(), down_to, unbound: random.one_in(64), random };
+    let mut writer = Writer {
+        words: Vec::new(),
+        names: names.len() as u32,
+        rows: &rows,
+        seen: Vec::new(),
+        aliases: Vec::new(),
+        down_to,
+        unbound: random.one_in(64),
+        sorted: random.one_in(3),
+        random,
+    };
     let arms = arms(&mut writer, left, &mut sections[3]);
     let clauses = head(&mut writer, left - sections[3].len(), filled, &mut sections[2]);
     let counts = [names.len() as u32, rows.len() as u32, clauses, arms];

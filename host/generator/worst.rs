@@ -25,6 +25,17 @@ pub const FAMILIES: [Family; 12] = [
     Family { name: "280 properties", make: properties },
 ];
 
+/// The same with sort keys.
+pub const SORTED: [Family; 7] = [
+    Family { name: "336 yields, a WITH of none, 500 keys of the first", make: keys_before },
+    Family { name: "336 yields, a WITH of none, 500 keys of another name", make: keys_nowhere },
+    Family { name: "170 yields, a WITH of them, 300 keys of the first", make: keys_after },
+    Family { name: "300 aliases, 400 keys of the last", make: keys_alias },
+    Family { name: "300 aliases, 400 keys of another name", make: keys_no_alias },
+    Family { name: "a WITH of none, 130 comprehensions as keys", make: keys_with_patterns },
+    Family { name: "140 WITHs of one key each", make: keys_one_each },
+];
+
 /// The kilobytes that the sheets of a family have.
 pub const KILOBYTES: [u32; 4] = [1, 2, 4, 8];
 
@@ -153,6 +164,63 @@ fn properties(share: Share) -> Vec<u8> {
     let mut head = vec![1, 0, 9, 0, 1, 0, elements];
     head.extend((0..elements).flat_map(|_| [1, 0, 9, 0, 1, 7, 0]));
     sheet(&numbered(1), bound(1, NODE), head, 1)
+}
+
+/// A WITH of no projection with so many keys.
+fn with_keys(count: u32, one: impl Fn(u32) -> Vec<u32>) -> Vec<u32> {
+    [12, 0, 9, 0, 0, count].into_iter().chain((0..count).flat_map(one)).collect()
+}
+
+fn keys_before(share: Share) -> Vec<u8> {
+    let keys = with_keys(share.of(500), |_| vec![8, 1]);
+    sheet(&numbered(2), Vec::new(), [call(share.of(336), 1, 0), keys].concat(), 2)
+}
+
+fn keys_nowhere(share: Share) -> Vec<u8> {
+    let keys = with_keys(share.of(500), |_| vec![8, 1]);
+    sheet(&numbered(2), Vec::new(), [call(share.of(336), 0, 0), keys].concat(), 2)
+}
+
+/// Yields of a name each, which the WITH carries.
+fn keys_after(share: Share) -> Vec<u8> {
+    let (yields, keys) = (share.of(170), share.of(300));
+    let mut head: Vec<u32> = [11, 0, 9, 0, yields].into_iter().chain((0..yields).flat_map(|n| [n, 0, 0])).collect();
+    head.extend([12, 0, 9, yields]);
+    head.extend((0..yields).flat_map(|n| [0, 8, n]));
+    head.extend([0, keys]);
+    head.extend((0..keys).flat_map(|_| [8, 0]));
+    sheet(&numbered(yields), Vec::new(), head, 2)
+}
+
+/// A RETURN of numbers with an alias each, and keys that all are one name.
+fn aliases(share: Share, is_alias: bool) -> Vec<u8> {
+    let (aliases, keys) = (share.of(300), share.of(400));
+    let mut head = vec![13, 0, 9, aliases];
+    head.extend((0..aliases).flat_map(|n| [n + 1, 3]));
+    head.push(keys);
+    head.extend((0..keys).flat_map(|_| [8, aliases - u32::from(is_alias)]));
+    sheet(&numbered(aliases + 1), Vec::new(), head, 1)
+}
+
+fn keys_alias(share: Share) -> Vec<u8> {
+    aliases(share, true)
+}
+
+fn keys_no_alias(share: Share) -> Vec<u8> {
+    aliases(share, false)
+}
+
+/// Each binds a node and uses it.
+fn keys_with_patterns(share: Share) -> Vec<u8> {
+    let keys = with_keys(share.of(130), |_| vec![22, 0, 9, 0, 1, 0, 1, 1, 0, 9, 1, 0, 0, 8, 0]);
+    sheet(&numbered(1), bound(1, NODE), keys, 1)
+}
+
+/// After a yield, WITHs that carry it, each with it as its key.
+fn keys_one_each(share: Share) -> Vec<u8> {
+    let withs = share.of(140);
+    let head = [11, 0, 9, 0, 1, 0, 0, 0].into_iter().chain((0..withs).flat_map(|_| [12, 0, 9, 1, 0, 8, 0, 0, 1, 8, 0])).collect();
+    sheet(&numbered(1), Vec::new(), head, withs + 1)
 }
 
 const LETTERS: &[u8] = b"abcdefghijklmnopqrstuvwxyzABCDEFGHIJKLMNOPQRSTUVWXYZ0123456789_";

@@ -1,14 +1,18 @@
-//! Times the C function and the Rust's whole job, plain and tuned, on the same sheets in one run, and prints two tables; see README.md.
-use generator::worst::{FAMILIES, Family, KILOBYTES};
+//! Times the C function and the Rust's whole job, plain and tuned, on the same sheets in one run, and prints two tables; then the C
+//! function alone on sheets with sort keys and the same ones without, and prints two more; see README.md.
+use generator::worst::{FAMILIES, Family, KILOBYTES, SORTED};
 use generator::{Random, one};
 use std::collections::HashSet;
 use std::hint::black_box;
+use theirs::answers::Answers;
+use theirs::twin::{Keys, twin};
 use theirs::{lists, sheet, tuned};
 
 /// Bytes of a sheet, about.
 const SIZES: [usize; 8] = [100, 200, 400, 800, 1600, 3000, 6500, 8192];
-/// Different sheets of each size.
+/// Different sheets of each size without sort keys, and with.
 const SHEETS: usize = 4096;
+const KEYED: usize = 512;
 /// Bytes of the sheets on which the three jobs take turns.
 const TURN: usize = 1 << 18;
 /// How often each turn is timed, of which the least counts: with different sheets, and with one that is repeated.
@@ -56,14 +60,38 @@ impl Jobs {
         tuned::answer(bytes, true)
     }
 
-    /// Ends the run unless all three give the same, and tells how many findings that has.
+    /// Ends the run unless all three give the same, with sort keys ours and the model; tells how many findings that has.
     fn compare(&mut self, bytes: &[u8]) -> Option<usize> {
-        let plain = Self::plain(bytes).map(String::into_bytes);
-        let equal = self.ours(bytes).map(<[u8]>::to_vec) == plain && Self::tuned(bytes) == plain;
+        let read = sheet::read(bytes);
+        let ours = self.ours(bytes).map(<[u8]>::to_vec);
+        let expected = match &read {
+            Ok(sheet) if sheet.has_keys() => Ok(Answers::model(sheet, true).listing()),
+            _ => Self::plain(bytes),
+        };
+        let expected = expected.map(String::into_bytes);
+        let equal = ours == expected && (read.is_ok_and(|sheet| sheet.has_keys()) || Self::tuned(bytes) == expected);
         assert!(equal, "the answers differ on the sheet {bytes:02x?}");
-        let text = String::from_utf8(plain.ok()?).expect("a text");
+        let text = String::from_utf8(expected.ok()?).expect("a text");
         let (_, count) = text.lines().next()?.split_once(' ')?;
         Some(count.parse().expect("findings and their number"))
+    }
+
+    /// Nanoseconds that ours takes for a byte of each row's sheets; the rows take turns, a part of each that has as many sheets.
+    fn ours_a_byte<const N: usize>(&mut self, rows: [&[&[u8]]; N], rounds: usize) -> [f64; N] {
+        let many = TURN / rows[0][0].len();
+        let mut sums = [0.0; N];
+        for at in (0..rows[0].len()).step_by(many) {
+            let mut least = [f64::INFINITY; N];
+            for _ in 0..rounds {
+                for (row, least) in rows.iter().zip(&mut least) {
+                    let turn = &row[at..row.len().min(at + many)];
+                    black_box(turn.iter().flat_map(|bytes| bytes.iter()).fold(0u8, |sum, byte| sum ^ byte));
+                    *least = least.min(time(turn, |bytes| self.ours(bytes).is_ok()));
+                }
+            }
+            sums = std::array::from_fn(|row| sums[row] + least[row]);
+        }
+        std::array::from_fn(|row| sums[row] / rows[row].iter().map(|bytes| bytes.len()).sum::<usize>() as f64)
     }
 
     /// Nanoseconds a sheet, the mean over all of them: ours, the Rust's and the tuned Rust's. A turn's sheets are read once before it, so
@@ -111,27 +139,58 @@ impl Row {
     }
 }
 
-/// Accepted sheets of seed 1 that have about each size, the same ones in every run.
-fn by_size(jobs: &mut Jobs) -> [Row; 8] {
-    let mut rows = SIZES.map(|_| Row::default());
+/// Sheets with sort keys, and of each the same sheet with its keys left out, and with its keys as a Delete before the clause.
+#[derive(Default)]
+struct Sorted {
+    keyed: Row,
+    out: Row,
+    deleted: Row,
+}
+
+impl Sorted {
+    /// Takes a sheet if it has sort keys and its twins aren't too long.
+    fn push(&mut self, bytes: &[u8], jobs: &mut Jobs) {
+        let read = sheet::read(bytes).is_ok_and(|sheet| sheet.has_keys());
+        if let (true, Some(out), Some(deleted)) = (read, twin(bytes, Keys::Out), twin(bytes, Keys::Deleted)) {
+            for (row, bytes) in [(&mut self.keyed, bytes), (&mut self.out, &out), (&mut self.deleted, &deleted)] {
+                row.push(bytes, jobs.compare(bytes).expect("an accepted sheet"));
+            }
+        }
+    }
+
+    fn rows(&self) -> [Vec<&[u8]>; 3] {
+        [&self.keyed, &self.out, &self.deleted].map(Row::sheets)
+    }
+}
+
+/// Accepted sheets of seed 1 that have about each size, the same ones in every run: without sort keys, and with.
+fn by_size(jobs: &mut Jobs) -> ([Row; 8], [Sorted; 8]) {
+    let (mut rows, mut sorted) = (SIZES.map(|_| Row::default()), SIZES.map(|_| Sorted::default()));
     let mut random = Random::new(1);
     let mut drawn = 0;
-    while rows.iter().any(|row| row.ends.len() < SHEETS) {
+    while rows.iter().any(|row| row.ends.len() < SHEETS) || sorted.iter().any(|row| row.keyed.ends.len() < KEYED) {
         let bytes = one(&mut random);
         drawn += 1;
         let findings = jobs.compare(&bytes);
-        let fits = SIZES.iter().zip(&mut rows).find(|(size, row)| row.ends.len() < SHEETS && bytes.len().abs_diff(**size) * 12 <= **size);
-        if let (Some((_, row)), Some(findings)) = (fits, findings) {
-            row.push(&bytes, findings);
+        let fits = |size: &usize| bytes.len().abs_diff(*size) * 12 <= *size;
+        let (Some(findings), Some(at)) = (findings, SIZES.iter().position(fits)) else { continue };
+        if sheet::read(&bytes).is_ok_and(|sheet| sheet.has_keys()) {
+            if sorted[at].keyed.ends.len() < KEYED {
+                sorted[at].push(&bytes, jobs);
+            }
+        } else if rows[at].ends.len() < SHEETS {
+            rows[at].push(&bytes, findings);
         }
     }
-    println!("The three answers are equal on all {drawn} sheets of seed 1 that were drawn to get {SHEETS} of each size.\n");
-    rows
+    println!(
+        "The answers are equal on all {drawn} sheets of seed 1 that were drawn to get {SHEETS} of each size, and {KEYED} with sort keys.\n"
+    );
+    (rows, sorted)
 }
 
 fn main() {
     let mut jobs = Jobs { page: vec![0; 1 << 21] };
-    let rows = by_size(&mut jobs);
+    let (rows, sorted) = by_size(&mut jobs);
     println!("| about, bytes | findings | ours, ns | Rust, ns | tuned Rust, ns | Rust / ours | tuned / ours |");
     println!("|---|---|---|---|---|---|---|");
     for (size, row) in SIZES.iter().zip(&rows) {
@@ -146,6 +205,36 @@ fn main() {
     for family in &FAMILIES {
         println!("| {} | {} |", family.name, growth(&mut jobs, family));
     }
+    println!(
+        "\n| about, bytes | findings | with keys, ns a byte | other sheets | keys left out | keys as a Delete | with keys / as a Delete |"
+    );
+    println!("|---|---|---|---|---|---|---|");
+    for (size, (row, sorted)) in SIZES.iter().zip(rows.iter().zip(&sorted)) {
+        let [keyed, out, deleted] = sorted.rows();
+        let findings =
+            [&sorted.keyed, &sorted.out, &sorted.deleted].map(|row| format!("{:.1}", row.findings as f64 / KEYED as f64)).join(" ");
+        let [keyed, others, out, deleted] = jobs.ours_a_byte([&keyed, &row.sheets()[..KEYED], &out, &deleted], ROUNDS);
+        println!("| {size} | {findings} | {keyed:.2} | {others:.2} | {out:.2} | {deleted:.2} | {:.2} |", keyed / deleted);
+    }
+    println!("\n| at 1, 2, 4 and 8 KB | with keys, µs | with keys, ns a byte | as a Delete, ns a byte |");
+    println!("|---|---|---|---|");
+    for family in &SORTED {
+        println!("| {} | {} |", family.name, sorted_growth(&mut jobs, family));
+    }
+}
+
+/// The times of a family's sheets with sort keys, the four sizes in each column.
+fn sorted_growth(jobs: &mut Jobs, family: &Family) -> String {
+    let times = KILOBYTES.map(|kilobytes| {
+        let bytes = family.sheet(kilobytes);
+        let deleted = twin(&bytes, Keys::Deleted).expect("an accepted sheet whose twin isn't too long");
+        jobs.compare(&bytes).expect("an accepted sheet");
+        jobs.compare(&deleted).expect("an accepted sheet");
+        let many = TURN / bytes.len();
+        let [keyed, deleted] = jobs.ours_a_byte([&vec![bytes.as_slice(); many], &vec![deleted.as_slice(); many]], REPEATED);
+        [keyed * bytes.len() as f64 / 1000.0, keyed, deleted]
+    });
+    [0, 1, 2].map(|column| times.map(|times| format!("{:.1}", times[column])).join(" ")).join(" | ")
 }
 
 /// The times of a family's sheets and their ratios, the four sizes in each column.

@@ -1,8 +1,8 @@
-//! One sheet through the archives and through the Rust. Every call is lent buffers with room around them, and what it may not alter is
-//! looked at after it.
-use cyrs_hir::{HirOffset, ScopeGraph, ScopeId};
+//! One sheet through the archives and through the Rust or, where it has sort keys, the model. Every call is lent buffers with room around
+//! them, and what it may not alter is looked at after it.
 use ours::Lists;
-use theirs::{lists, sheet, sheet::Sheet};
+use theirs::answers::Answers;
+use theirs::sheet::{self, Sheet};
 
 /// Bytes before and after a lent sheet or page.
 const MARGIN: usize = 64;
@@ -17,6 +17,7 @@ pub struct Tally {
     pub sheets: usize,
     pub differ: usize,
     refused: [usize; 8],
+    keyed: usize,
     entries: [usize; 5],
     messages: usize,
     bytes: usize,
@@ -39,6 +40,7 @@ impl Tally {
             self.sheets - accepted,
             &self.refused[1..]
         );
+        println!("{} of the accepted have sort keys and are compared with the model, the others with the Rust", self.keyed);
         println!("entries: {:?} (scopes, bindings, carried, recorded, findings)", self.entries);
         println!("listings: {} messages in {} bytes; {} lookups, {} offsets", self.messages, self.bytes, self.lookups, self.offsets);
         println!("a page a byte short: {}, a list a word short: {}", self.tens, self.eights);
@@ -64,10 +66,15 @@ impl Comparison {
         Self { tally: Tally::default(), page: vec![BLANK; PAGE + 2 * MARGIN], words, lists: Lists::new(words) }
     }
 
-    /// In what a sheet's answers differ from the Rust's, if they do.
+    /// In what a sheet's answers differ from what is expected, if they do.
     pub fn compare(&mut self, bytes: &[u8]) -> Result<(), String> {
+        self.compare_as(bytes, bytes)
+    }
+
+    /// The same for a sheet of which is expected what is of another.
+    pub fn compare_as(&mut self, bytes: &[u8], other: &[u8]) -> Result<(), String> {
         self.tally.sheets += 1;
-        let compared = self.both(bytes);
+        let compared = self.both(bytes, other);
         if compared.is_err() {
             self.tally.differ += 1;
             self.page.fill(BLANK);
@@ -76,14 +83,15 @@ impl Comparison {
         compared
     }
 
-    fn both(&mut self, bytes: &[u8]) -> Result<(), String> {
+    fn both(&mut self, bytes: &[u8], other: &[u8]) -> Result<(), String> {
         let mut room = vec![BLANK; MARGIN];
         room.extend(bytes);
         room.extend([BLANK; MARGIN]);
         let lent = room.clone();
         let sheet = &lent[MARGIN..MARGIN + bytes.len()];
-        match sheet::read(bytes) {
+        match sheet::read(other) {
             Ok(read) => {
+                self.tally.keyed += usize::from(read.has_keys());
                 self.accepted(sheet, &read, false)?;
                 self.accepted(sheet, &read, true)?;
             }
@@ -115,23 +123,23 @@ impl Comparison {
     }
 
     fn accepted(&mut self, sheet: &[u8], read: &Sheet, warnings: bool) -> Result<(), String> {
-        let ran = lists::run(&read.statement, warnings);
-        let text = lists::listing(&ran.findings);
+        let answers = Answers::new(read, warnings);
+        let text = answers.listing();
         self.listing(sheet, text.len() + MARGIN, warnings, Ok(&text))?;
         self.listing(sheet, text.len(), warnings, Ok(&text))?;
         self.listing(sheet, text.len() - 1, warnings, Err(10))?;
         self.tally.tens += 1;
-        self.tally.messages += ran.findings.len();
+        self.tally.messages += answers.findings();
         self.tally.bytes += text.len();
         self.short_lists(sheet, warnings)?;
         self.lists.lend(sheet.len() / 4, None);
         holds("check's answer", self.lists.check(sheet, warnings) == Ok(()))?;
         holds("check altered a word past a count", self.lists.kept(false))?;
-        holds("the lists", self.lists.text() == lists::lists(&ran, &read.names))?;
+        holds("the lists", self.lists.text() == answers.lists(&read.names))?;
         for (sum, count) in self.tally.entries.iter_mut().zip(self.lists.entries()) {
             *sum += count;
         }
-        self.graph(&ran.resolved.scope_graph, &read.names)
+        self.graph(&answers, &read.names)
     }
 
     /// One list, another one each time, with a word less than it needs.
@@ -142,21 +150,19 @@ impl Comparison {
         holds("check altered a list and refused with 8", self.lists.kept(true))
     }
 
-    fn graph(&mut self, graph: &ScopeGraph, names: &[String]) -> Result<(), String> {
-        let scopes = graph.len();
+    fn graph(&mut self, answers: &Answers, names: &[String]) -> Result<(), String> {
+        let spans = answers.spans();
+        let scopes = spans.len();
         let step = (scopes * names.len()).div_ceil(ASKED).max(1);
         for at in (0..scopes * names.len()).step_by(step) {
             let (scope, name) = ((at % scopes) as u32, at / scopes);
-            let theirs = graph.resolve_at(ScopeId(scope), &names[name]).map(|v| v.0);
-            holds("a lookup", self.lists.lookup(scope, name as u32) == Ok(theirs))?;
+            holds("a lookup", self.lists.lookup(scope, name as u32) == Ok(answers.lookup(scope, &names[name])))?;
             self.tally.lookups += 1;
         }
         holds("a lookup from a scope that isn't there", self.lists.lookup(scopes as u32, 0) == Err(9))?;
-        for scope in graph.iter().step_by(scopes.div_ceil(ASKED / 4)) {
-            let (start, end) = (u32::from(scope.span.start()), u32::from(scope.span.end()));
+        for (start, end) in spans.into_iter().step_by(scopes.div_ceil(ASKED / 4)) {
             for offset in [start, end, start.wrapping_sub(1), end.wrapping_add(1)] {
-                let theirs = graph.scope_at_offset(HirOffset::new(offset)).map(|s| s.0);
-                holds("an offset", self.lists.scope_at_offset(offset) == Ok(theirs))?;
+                holds("an offset", self.lists.scope_at_offset(offset) == Ok(answers.scope_at_offset(offset)))?;
                 self.tally.offsets += 1;
             }
         }

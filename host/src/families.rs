@@ -1,6 +1,6 @@
 //! Families of short sheets, each of them whole: README.md says which sheets are in it.
 use crate::grammar::Grammar;
-use crate::several::{depths, spans, steps, uses};
+use crate::several::{depths, key_depths, keys, spans, steps, uses};
 use generator::{Sheet, to_bytes};
 
 /// Takes each sheet of a family.
@@ -17,7 +17,7 @@ const fn family(name: &'static str, words: usize, sheets: fn(Each)) -> Family {
     Family { name, words, sheets }
 }
 
-pub const FAMILIES: [Family; 20] = [
+pub const FAMILIES: [Family; 22] = [
     family("lengths", 2048, lengths),
     family("trailers", 10, trailers),
     family("few-words", 14, few_words),
@@ -35,9 +35,11 @@ pub const FAMILIES: [Family; 20] = [
     family("arms", 64, arms),
     family("whole-arms", 64, whole_arms),
     family("depths", 1024, depths),
+    family("key-depths", 1024, key_depths),
     family("spans", 96, spans),
     family("uses", 96, uses),
     family("steps", 160, steps),
+    family("keys", 160, keys),
 ];
 
 pub const MAX: u32 = u32::MAX;
@@ -187,7 +189,7 @@ pub fn tables() -> Sheet {
 fn rows(each: Each) {
     let mut row = tables();
     row.counts[2] = 1;
-    let (kind, first, next) = (up_to(12), [up_to(26), vec![MAX]].concat(), [0, 1, 2, 3, 7, 8, MAX]);
+    let (kind, first, next) = (up_to(14), [up_to(26), vec![MAX]].concat(), [0, 1, 2, 3, 7, 8, MAX]);
     for length in 0..=5 {
         let mut alphabets = vec![&kind[..], &[0], &[1], &first];
         alphabets.extend(vec![&next[..]; length]);

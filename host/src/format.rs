@@ -1,8 +1,8 @@
-//! The sections with clauses as document 01 says, read into the Rust's types. Where words, names and binders come from and go to is the
-//! reader's: `sheet` has one, `tuned` another.
+//! The sections with clauses as document 01 says, and document 02 of sort keys, read into the Rust's types. Where words, names and binders
+//! come from and go to is the reader's: `sheet` has one, `tuned` another, and `twin` a third.
 use cyrs_hir::{
-    BinOp, Clause, Direction, Expr, HirId, HirOffset, HirSpan, ListPredKind, MapProjectionItem, Pattern, PatternElement, PatternPart,
-    Projection, RelLength, RemoveItem, SetItem, ShortestPath, UnaryOp, UnionArm, VarId, YieldItem,
+    BinOp, Clause, Direction, Expr, HirId, HirOffset, HirSpan, ListPredKind, MapProjectionItem, OrderItem, Pattern, PatternElement,
+    PatternPart, Projection, RelLength, RemoveItem, SetItem, ShortestPath, UnaryOp, UnionArm, VarId, YieldItem,
 };
 use smol_str::SmolStr;
 
@@ -119,25 +119,36 @@ pub trait Reader: Sized {
     }
 
     fn arm(&mut self) -> Read<UnionArm> {
+        self.any_arm()
+    }
+
+    fn any_arm(&mut self) -> Read<UnionArm> {
         let span = self.span()?;
         Ok(UnionArm { id: ID, all: false, clauses: self.counted(Self::clause)?, span })
     }
 
     fn clause(&mut self) -> Read<Clause> {
+        self.any_clause()
+    }
+
+    /// Kinds 12 and 13 are 3 and 4 with sort keys; neither of the Rust's passes reads these.
+    fn any_clause(&mut self) -> Read<Clause> {
         let kind = self.word()?;
-        check((1..=11).contains(&kind), 5)?;
+        check((1..=13).contains(&kind), 5)?;
         let (id, span) = (ID, self.span()?);
         Ok(match kind {
             1 => Clause::Match { id, optional: self.flag()?, pattern: self.pattern(1)?, span },
             2 => Clause::Where { id, predicate: self.expr(1)?, span },
-            3 => {
+            3 | 12 => {
                 let projections = self.counted(Self::projection)?;
                 let filter = self.optional()?;
-                Clause::With { id, projections, filter, order_by: Vec::new(), skip: None, limit: None, span }
+                let order_by = self.keys_if(kind == 12)?;
+                Clause::With { id, projections, filter, order_by, skip: None, limit: None, span }
             }
-            4 => {
+            4 | 13 => {
                 let projections = self.counted(Self::projection)?;
-                Clause::Return { id, projections, distinct: false, order_by: Vec::new(), skip: None, limit: None, span }
+                let order_by = self.keys_if(kind == 13)?;
+                Clause::Return { id, projections, distinct: false, order_by, skip: None, limit: None, span }
             }
             5 => {
                 let bind = self.binder()?;
@@ -164,6 +175,18 @@ pub trait Reader: Sized {
     fn projection(&mut self) -> Read<Projection> {
         let alias = self.alias()?;
         Ok(Projection { expr: self.expr(1)?, alias, span: HirSpan::empty(HirOffset::new(0)) })
+    }
+
+    fn keys_if(&mut self, sorted: bool) -> Read<Vec<OrderItem>> {
+        if sorted { self.counted(Self::key) } else { Ok(Vec::new()) }
+    }
+
+    fn key(&mut self) -> Read<OrderItem> {
+        self.any_key()
+    }
+
+    fn any_key(&mut self) -> Read<OrderItem> {
+        Ok(OrderItem { expr: self.expr(1)?, descending: false, span: HirSpan::empty(HirOffset::new(0)) })
     }
 
     fn set_item(&mut self) -> Read<SetItem> {
@@ -222,7 +245,7 @@ pub trait Reader: Sized {
             5 => Expr::String(some_text()),
             6 => Expr::Param(some_text()),
             7 => Expr::Var(VarId(self.word()?)),
-            8 => Expr::Unresolved(self.name()?),
+            8 => self.unresolved()?,
             9 => {
                 let prop = self.name()?;
                 Expr::Prop { target: self.boxed(depth)?, prop }
@@ -289,6 +312,10 @@ pub trait Reader: Sized {
             25 => Expr::ExistsSubqueryDeferred { span: HirSpan::empty(HirOffset::new(0)) },
             _ => return Err(5),
         })
+    }
+
+    fn unresolved(&mut self) -> Read<Expr> {
+        Ok(Expr::Unresolved(self.name()?))
     }
 
     fn boxed(&mut self, depth: u32) -> Read<Box<Expr>> {

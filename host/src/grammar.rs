@@ -2,19 +2,20 @@
 
 /// A rule is what can stand in a place: choices, of which no two begin with the same word. A choice is words and rules in a row; after `!`
 /// nothing more is put, since what is before it is wrong or will lack words.
-const RULES: [(&str, &str); 37] = [
+const RULES: [(&str, &str); 38] = [
     ("arm", "span clauses"),
     ("clauses", "0 | 1 clause | 2 clause clause | max clause !"),
     (
         "clause",
         "1 span match | 2 span expr | 3 span with | 4 span projections | 5 span var expr | 6 span pattern | 7 span pattern | 8 span set |
-         9 span remove | 10 span list | 11 span call | 0 ! | 12 ! | max !",
+         9 span remove | 10 span list | 11 span call | 12 span with keys | 13 span projections keys | 0 ! | 14 ! | max !",
     ),
     ("match", "0 pattern | 1 pattern | 2 !"),
     ("with", "0 filter | 1 projection filter | 2 projection projection filter | max projection !"),
     ("filter", "0 | 1 expr | 2 !"),
     ("projections", "0 | 1 projection | 2 projection projection | max projection !"),
     ("projection", "0 expr | 1 expr | 2 expr | 3 expr | 4 ! | max !"),
+    ("keys", "0 | 1 expr | 2 expr expr | max expr !"),
     ("set", "0 | 1 set_item | 2 set_item set_item | max set_item !"),
     ("set_item", "1 expr expr | 2 | 3 expr | 0 ! | 4 !"),
     ("remove", "0 | 1 remove_item | 2 remove_item remove_item | max remove_item !"),

@@ -1,6 +1,7 @@
-//! The Rust's answers for a row of sheets on standard input, each after its byte length as a little-endian word.
+//! The Rust's answers for a row of sheets on standard input, each after its byte length as a little-endian word; the model's for sheets
+//! with sort keys.
 use std::io::{Read, Write, stdin, stdout};
-use theirs::{lists, sheet};
+use theirs::{answers::Answers, sheet};
 
 fn main() -> std::io::Result<()> {
     let warnings = std::env::args().nth(1).as_deref() != Some("0");
@@ -28,8 +29,8 @@ fn answer(bytes: &[u8], warnings: bool) -> String {
         Ok(sheet) => sheet,
         Err(cause) => return format!("refused {cause}\n"),
     };
-    let ran = lists::run(&sheet.statement, warnings);
-    let text = lists::listing(&ran.findings);
+    let answers = Answers::new(&sheet, warnings);
+    let text = answers.listing();
     let text = if text.len() <= PAGE { text } else { "refused 10\n".to_owned() };
-    text + &lists::lists(&ran, &sheet.names)
+    text + &answers.lists(&sheet.names)
 }

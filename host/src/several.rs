@@ -1,5 +1,6 @@
 //! Families of sheets with deep expressions or several clauses.
 use crate::families::{Each, MAX, product, put, sheet, tables, up_to};
+use generator::Sheet;
 
 /// What stands before and after an expression within another.
 const AROUND: [(&[u32], &[u32]); 30] = [
@@ -36,19 +37,32 @@ const AROUND: [(&[u32], &[u32]); 30] = [
 ];
 
 pub fn depths(each: Each) {
+    for (outer, inner) in AROUND.iter().flat_map(|outer| AROUND.iter().map(move |inner| (outer, inner))) {
+        deep(&[2, 0, 1], *outer, *inner, each);
+    }
+}
+
+/// The same in a sort key of a WITH and of a RETURN, all ways alike.
+pub fn key_depths(each: Each) {
+    for around in AROUND {
+        deep(&[12, 0, 1, 0, 0, 1], around, around, each);
+        deep(&[13, 0, 1, 0, 1], around, around, each);
+    }
+}
+
+/// A clause that begins so and goes on with an expression at depth 47 to 50.
+fn deep(clause: &[u32], outer: (&[u32], &[u32]), inner: (&[u32], &[u32]), each: Each) {
     let mut leaves: Vec<Vec<u32>> = vec![Vec::new(), vec![7, 0], vec![8, 0]];
     leaves.extend([up_to(26), vec![MAX]].concat().iter().map(|code| vec![*code]));
     let mut deep = tables();
     deep.counts[2] = 1;
-    for (outer, inner) in AROUND.iter().flat_map(|outer| AROUND.iter().map(move |inner| (outer, inner))) {
-        for depth in 47..=50 {
-            for leaf in &leaves {
-                let before = [&[2, 0, 1][..], &outer.0.repeat(depth - 2), inner.0].concat();
-                deep.sections[2] = [&before[..], leaf, inner.1, &outer.1.repeat(depth - 2)].concat();
-                put(&deep, each);
-                deep.sections[2] = [&before[..], leaf].concat();
-                put(&deep, each);
-            }
+    for depth in 47..=50 {
+        for leaf in &leaves {
+            let before = [clause, &outer.0.repeat(depth - 2), inner.0].concat();
+            deep.sections[2] = [&before[..], leaf, inner.1, &outer.1.repeat(depth - 2)].concat();
+            put(&deep, each);
+            deep.sections[2] = [&before[..], leaf].concat();
+            put(&deep, each);
         }
     }
 }
@@ -136,13 +150,60 @@ const STEPS: [(u32, &[u32]); 36] = [
     (11, &[1, 8, 0, 2, 1, 1, 9, 0, 0, 8]),
 ];
 
+/// Projections of a WITH or a RETURN with sort keys: none; a; a variable AS b; another AS a; a AS b; *; a, b; numbers AS a and AS b; a
+/// number AS *; two under one name
+const PROJECTIONS: [&[u32]; 10] = [
+    &[0],
+    &[1, 0, 8, 0],
+    &[1, 2, 7, 0],
+    &[1, 1, 7, 1],
+    &[1, 2, 8, 0],
+    &[1, 0, 8, 2],
+    &[2, 0, 8, 0, 0, 8, 1],
+    &[2, 1, 3, 2, 3],
+    &[1, 3, 3],
+    &[2, 2, 7, 0, 2, 7, 1],
+];
+
+const KEYS: [&[u32]; 14] = [
+    // none; a; b; *; a bound variable; a, b
+    &[0],
+    &[1, 8, 0],
+    &[1, 8, 1],
+    &[1, 8, 2],
+    &[1, 7, 0],
+    &[2, 8, 0, 8, 1],
+    // a comprehension that binds a node a, and a in it; a path b, and b; a relationship a, with b as filter, then a key a
+    &[1, 22, 0, 1, 0, 1, 0, 1, 1, 0, 1, 1, 0, 0, 8, 0],
+    &[1, 22, 0, 1, 0, 1, 1, 3, 0, 8, 1],
+    &[2, 22, 0, 1, 1, 1, 0, 1, 2, 0, 1, 1, 2, 0, 8, 1, 8, 0, 8, 0],
+    // one within the property of another, a in both; two paths b
+    &[1, 22, 0, 1, 0, 1, 0, 1, 1, 0, 1, 0, 1, 22, 0, 1, 0, 1, 0, 1, 1, 0, 1, 1, 0, 0, 8, 0, 8, 0],
+    &[1, 22, 0, 1, 0, 2, 1, 3, 0, 1, 3, 0, 8, 1],
+    // a variable + a; a pattern predicate; a list predicate over a number
+    &[1, 15, 0, 7, 0, 8, 0],
+    &[1, 20, 1, 0, 1, 1, 0, 1, 1, 0, 1, 8, 1],
+    &[1, 23, 1, 3, 3],
+];
+
+/// A step, or from 36 on a WITH or a RETURN with sort keys.
+fn step(number: u32) -> (u32, Vec<u32>) {
+    let number = number as usize;
+    if let Some((kind, rest)) = STEPS.get(number) {
+        return (*kind, rest.to_vec());
+    }
+    let number = number - STEPS.len();
+    let (keys, projections) = (KEYS[number % KEYS.len()], PROJECTIONS[number / KEYS.len() % PROJECTIONS.len()]);
+    if number < KEYS.len() * PROJECTIONS.len() { (12, [projections, &[0], keys].concat()) } else { (13, [projections, keys].concat()) }
+}
+
 /// The words of some steps, each with the span of its position.
 fn walked(steps: &[u32], from: usize) -> Vec<u32> {
-    let step = |(at, step): (usize, &u32)| {
-        let (kind, rest) = STEPS[*step as usize];
-        [&[kind, (from + at) as u32, (from + at + 1) as u32], rest].concat()
+    let placed = |(at, number): (usize, &u32)| {
+        let (kind, rest) = step(*number);
+        [&[kind, (from + at) as u32, (from + at + 1) as u32], &rest[..]].concat()
     };
-    steps.iter().enumerate().flat_map(step).collect()
+    steps.iter().enumerate().flat_map(placed).collect()
 }
 
 fn arm(steps: &[u32], from: usize) -> Vec<u32> {
@@ -150,9 +211,38 @@ fn arm(steps: &[u32], from: usize) -> Vec<u32> {
     [&span[..], &[steps.len() as u32], &walked(steps, from)].concat()
 }
 
-pub fn steps(each: Each) {
+/// Names `a`, `b` and `*`, their bindings, and no clause.
+fn ground() -> Sheet {
     let rows = [[0, 0, 1, 0, 1], [1, 1, 4, 0, 1], [2, 0, 2, 0, 1], [3, 1, 3, 0, 1], [4, 0, 3, 0, 1]];
-    let mut walk = sheet(&["a", "b", "*"], &rows, &[]);
+    sheet(&["a", "b", "*"], &rows, &[])
+}
+
+pub fn keys(each: Each) {
+    let mut walk = ground();
+    let plain = up_to(STEPS.len() as u32 - 1);
+    let sorted: Vec<u32> = (0..2 * KEYS.len() * PROJECTIONS.len()).map(|number| (STEPS.len() + number) as u32).collect();
+    let rows: [&[&[u32]]; 6] =
+        [&[&sorted], &[&plain, &sorted], &[&plain, &plain, &sorted], &[&sorted, &plain], &[&plain, &sorted, &plain], &[&sorted, &sorted]];
+    for row in rows {
+        walk.counts[2] = row.len() as u32;
+        product(row, |steps| {
+            walk.sections[2] = walked(steps, 0);
+            put(&walk, each);
+        });
+    }
+    walk.counts[3] = 1;
+    for head in 0..=1 {
+        walk.counts[2] = head as u32;
+        product(&[&plain[..], &sorted][1 - head..], |steps| {
+            walk.sections[2] = walked(&steps[..head], 0);
+            walk.sections[3] = arm(&steps[head..], head);
+            put(&walk, each);
+        });
+    }
+}
+
+pub fn steps(each: Each) {
+    let mut walk = ground();
     let all = up_to(STEPS.len() as u32 - 1);
     for length in 0..=4 {
         walk.counts[2] = length as u32;

@@ -1,6 +1,6 @@
 //! A sheet to the Rust's statement, or its refusal 1 to 7, as document 01 says.
 use crate::format::{Read, Reader, check, span_of};
-use cyrs_hir::{Binding, Statement, VarId, VarKind};
+use cyrs_hir::{Binding, Clause, Statement, VarId, VarKind};
 use smol_str::SmolStr;
 
 pub const TRAILER: usize = 10;
@@ -8,6 +8,27 @@ pub const TRAILER: usize = 10;
 pub struct Sheet {
     pub names: Vec<String>,
     pub statement: Statement,
+}
+
+impl Sheet {
+    /// Whether a WITH or a RETURN has a sort key.
+    pub fn has_keys(&self) -> bool {
+        let mut clauses = self.statement.clauses.iter().chain(self.statement.unions.iter().flat_map(|arm| &arm.clauses));
+        clauses.any(|clause| matches!(clause, Clause::With { order_by, .. } | Clause::Return { order_by, .. } if !order_by.is_empty()))
+    }
+
+    /// Takes the sort keys of a WITH out, and if `all` those of a RETURN too.
+    pub fn without_keys(mut self, all: bool) -> Self {
+        let clauses = self.statement.clauses.iter_mut().chain(self.statement.unions.iter_mut().flat_map(|arm| &mut arm.clauses));
+        for clause in clauses {
+            match clause {
+                Clause::With { order_by, .. } => order_by.clear(),
+                Clause::Return { order_by, .. } if all => order_by.clear(),
+                _ => (),
+            }
+        }
+        self
+    }
 }
 
 pub fn read(bytes: &[u8]) -> Read<Sheet> {

@@ -1,4 +1,4 @@
-//! Compares what the archives answer with what the Rust does, on every sheet of some families; see README.md.
+//! Compares what the archives answer with what the Rust does, or the model, on every sheet of some families; see README.md.
 mod comparison;
 mod families;
 mod grammar;
