@@ -1,32 +1,44 @@
--- Nothing is visible any more (`cleared`, `cleared-fits`, `cleared-holds`: an arm, a WITH); a step in a mode that resolves names is one of names
--- alone (`names-step`).
-use Prim.Native.Nat.{ℕ, _≤_}
+-- Of the visible names the first `top` stay (`cut-numbers`, `cut-fits`, `cut-holds`; they descend as all of them did: `below-descends`), or none
+-- (`cleared-fits`, `cleared`: an arm, a WITH); a step in a mode that resolves names is one of names alone (`names-step`).
+use Prim.Native.Nat.{ℕ, zero, suc, _+_, _-_, _≤_}
 use native.Mathlib.Omega.{arith}
 use mathlib.Core.Path.{_≡_, refl, _∙_}
 use mathlib.Core.Bool.{Bool, true, false}
-use mathlib.Core.List.{List, []}
+use mathlib.Core.List.{List, [], _∷_}
 use mathlib.Core.Option.{none}
-use lib.ListN.{length}
-use Rattle.semantics.specs.Resolve.{State, seen, standing}
+use lib.ListN.{length, drop}
+use Rattle.semantics.specs.Resolve.{State, Seen, seen, standing}
 use Rattle.fused.specs.Fused.{Both, Mode, step, told}
 use Rattle.visible.specs.Visible.{seens, Descends}
-use Rattle.steps.specs.Memory.{atOf, lastOf, saidOf, toldOf, lostOf, heldOf}
+use Rattle.visible.proofs.Names.{descends-above}
+use Rattle.steps.specs.Memory.{atOf, topOf, lastOf, saidOf, toldOf, lostOf, heldOf, slotsIn}
 use Rattle.steps.specs.Hold.{Fits, Holds, Left, onNames}
-use Rattle.steps.proofs.Held.{Numbers, unset, store, refit}
+use Rattle.steps.proofs.Held.{Numbers, unset, store, refit, drop-seens}
 use Rattle.walk.specs.Goes.{Goer}
 use Rattle.walk.proofs.Stage.{Rest, Stage}
 
--- ---- with nothing visible
-module _ {tab m vis m' vis' : List ℕ} {cur : ℕ} (size : length m ≡ 64) (p : Left tab m vis m' vis' 0 cur) where
-  pub cleared-numbers : Numbers m m' (atOf m) 0 cur (lastOf m) (saidOf m) (toldOf m) (lostOf m) (heldOf m)
-  cleared-numbers = rw (p .numbers) (store 2 cur (omega arith) size (store 1 0 (omega arith) size unset))
+-- ---- the lower part of a list that descends
+pub descends-drop : (c d : ℕ) (l : List Seen) → Descends c l → Descends c (drop d l)
+unfolding Descends
+descends-drop c zero l h = h
+descends-drop c (suc d) [] h = h
+descends-drop c (suc d) (seen y v p ∷ l) h = descends-drop c d l (descends-above c p l (h .0) (h .1))
 
-  pub cleared-holds : {id : ℕ → ℕ} {found : List ℕ} {s : Both} → Holds id tab m vis found s → Holds id tab m' vis' found (onNames (standing [] cur) s)
-  unfolding seens
-  cleared-holds h =
-      let q = cleared-numbers in
+pub below-descends : (n t u c : ℕ) (vis : List ℕ) → t ≤ u → Descends c (seens n u vis) → Descends c (seens n t vis)
+below-descends n t u c vis h d =
+    let z : u ≡ u - t + t = omega arith in
+    rw (← (drop-seens n (u - t) t vis)) (descends-drop c (u - t) _ (rw z at d))
+
+-- ---- the first names stay visible
+module _ {tab m vis m' vis' : List ℕ} {top cur : ℕ} (size : length m ≡ 64) (p : Left tab m vis m' vis' top cur) where
+  pub cut-numbers : Numbers m m' (atOf m) top cur (lastOf m) (saidOf m) (toldOf m) (lostOf m) (heldOf m)
+  cut-numbers = rw (p .numbers) (store 2 cur (omega arith) size (store 1 top (omega arith) size unset))
+
+  pub cut-holds : {id : ℕ → ℕ} {found : List ℕ} {s : Both} → Holds id tab m vis found s → Holds id tab m' vis' found (onNames (standing (seens (slotsIn tab) top vis) cur) s)
+  cut-holds h =
+      let q = cut-numbers in
       record {
-        visible = rw (q .top);
+        visible = rw (q .top) (p .below);
         cur = q .cur;
         last = q .last ∙ h .last;
         log = rw (q .said) (h .log);
@@ -35,14 +47,19 @@ module _ {tab m vis m' vis' : List ℕ} {cur : ℕ} (size : length m ≡ 64) (p 
       }
 
 -- any number of words may be left of the stack's room
+pub cut-fits : {ws tab m vis found m' vis' : List ℕ} {i k top cur : ℕ} → Fits i k ws tab m vis found → Left tab m vis m' vis' top cur → top ≤ topOf m → Descends cur (seens (slotsIn tab) top vis) → cur ≤ lastOf m → Fits i k ws tab m' vis' found
+cut-fits g p h d l =
+    refit g (cut-numbers (g .size) p) (p .kept) refl (p .tabled) (rw (p .below) d) l (g .last) (g .count) (omega (arith, g .stack))
+
+-- ---- with nothing visible
 pub cleared-fits : {ws tab m vis found m' vis' : List ℕ} {i k cur : ℕ} → Fits i k ws tab m vis found → Left tab m vis m' vis' 0 cur → cur ≤ lastOf m → Fits i k ws tab m' vis' found
 unfolding seens Descends
-cleared-fits g p l =
-    refit g (cleared-numbers (g .size) p) (p .kept) refl (p .tabled) tt l (g .last) (g .count) (omega (arith, g .stack))
+cleared-fits g p l = cut-fits g p (omega arith) tt l
 
 pub cleared : {j : ℕ} {ws tab m₀ vis₀ found₀ : List ℕ} {G : Goer} {c : ℕ} {m vis found m' vis' : List ℕ} (K : Rest) → Left tab m vis m' vis' 0 0 → Stage none j ws tab m₀ vis₀ found₀ G c m vis found (λ id s t. K id s (onNames (standing [] 0) t)) → Stage none j ws tab m₀ vis₀ found₀ G c m' vis' found K
+unfolding seens
 cleared K p o =
-    let q = cleared-numbers (o .size) p in
+    let q = cut-numbers (o .size) p in
     record {
       from = omega (arith, o .from, q .at);
       size = q .size ∙ o .size;
@@ -51,7 +68,7 @@ cleared K p o =
       wrote = o .wrote;
       fit = λ k f. cleared-fits (o .fit k f) p (omega arith);
       keeps = record { kept = tt };
-      on = λ id s h. let n = o .on id s h in record { state = onNames (standing [] 0) (n .state); holds = cleared-holds (o .size) p (n .holds); same = rw (q .at) (n .same) };
+      on = λ id s h. let n = o .on id s h in record { state = onNames (standing [] 0) (n .state); holds = cut-holds (o .size) p (n .holds); same = rw (q .at) (n .same) };
     }
 
 -- a step of names, where names are resolved

@@ -1,25 +1,29 @@
 -- How far clauses have come (walk's Stage, of which nothing is said of what stays below). A walk of expressions passes (`forget`); a walk within
 -- goes on (`went`), refuses (`fell`) or is the last one (`last-one`); a word is passed (`past`, `goes-on`, `in-range`, where `asked` says what it
 -- asks) or refused (`halted`, `stopped`, `stays`); at the end stands the answer (`passed`, `refused`). A loop is a walk of which rounds are left
--- (`begun`, `turn`, `fall`, `over`). `lend` and `still-held` put the same with other pairs held.
+-- (`begun`, `turn`, `fall`, `over`). `lend` and `still-held` put the same with other pairs held. Where no
+-- name is marked none is hushed (`none-hushed`).
 use Prim.Native.Nat.{ℕ, zero, suc, _+_, _-_, _<_, _≤_}
 use native.Mathlib.Omega.{arith}
 use mathlib.Core.Path.{_≡_, refl, ap, sym, _∙_}
+use mathlib.Core.Bool.{Bool, true, false, _&&_}
 use mathlib.Core.List.{List}
 use mathlib.Core.Option.{Option, none}
-use lib.ListN.{length, set, drop}
+use lib.Dec.{eqb, ltb}
+use lib.ListN.{length, getD, set, drop}
+use borrow.Author.Tests.{ltb-true}
 use Rattle.heads.specs.Got.{Got, ok, no, bind, wordIn}
 use Rattle.heads.proofs.Chain.{Chain, step, last, run}
 use Rattle.heads.specs.declared.Word.{Word}
 use Rattle.heads.specs.declared.Word.the-variants as word
 use Rattle.expr.proofs.Inverse.{never, word-gives}
 use Rattle.fused.specs.Fused.{Both, Go, rounds}
-use Rattle.steps.specs.Memory.{atOf}
+use Rattle.steps.specs.Memory.{atOf, slotsIn, hushedIn}
 use Rattle.steps.specs.Hold.{Ready}
 use Rattle.steps.proofs.Held.{lower}
 use Rattle.walk.specs.Goes.{Goer, Walked}
 use Rattle.walk.proofs.Stage.{Rest, Stage, Refuses, start, recast, read, stop}
-use Rattle.clause_parts.specs.Passes.{Passes, Held, Next}
+use Rattle.clause_parts.specs.Passes.{Passes, Unmarked, Held, Next}
 
 pub forget : {i : ℕ} {ws tab m vis found m' vis' found' held : List ℕ} {H : Goer} (a : ℕ) → Walked i ws tab m vis found m' vis' found' H a → Passes 0 ws tab m vis found held m' vis' found' held H a
 forget zero w =
@@ -160,5 +164,13 @@ module _ {ws tab m₀ vis₀ found₀ held₀ : List ℕ} {n : ℕ} {one : Goer}
       passed (recast (λ id s t. last (ok t)) (o .stage) (λ id s t r. ap (λ (k : ℕ). rounds k (one id) t r) z)) (o .kept)
 
 -- the pairs of a WITH have as much room as before
-pub still-held : {ws held held' : List ℕ} {mode : ℕ} → length held' ≡ length held → Held ws held mode → Held ws held' mode
-still-held e h = record { room = omega (arith, h .room, e); resolves = h .resolves }
+pub still-held : {ws tab held held' : List ℕ} {mode : ℕ} → length held' ≡ length held → Held ws tab held mode → Held ws tab held' mode
+still-held e h = record { room = omega (arith, h .room, e); resolves = h .resolves; unmarked = h .unmarked }
+
+-- no name is hushed where none is marked
+pub none-hushed : (tab : List ℕ) → Unmarked tab → (x : ℕ) → hushedIn tab x ≡ false
+none-hushed tab h x = go (ltb x (slotsIn tab)) refl
+  where
+    go : (b : Bool) → ltb x (slotsIn tab) ≡ b → b && eqb (getD tab (16 + x) 0) 1 ≡ false
+    go true e = rw (h x (ltb-true x (slotsIn tab) e))
+    go false e = refl

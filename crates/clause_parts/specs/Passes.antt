@@ -1,16 +1,16 @@
 -- What a walk over parts of clauses asks and leaves. A WITH replaces what is visible, so nothing is said of what stays below.
-use Prim.Native.Nat.{ℕ, zero, suc, _+_, _≤_}
+use Prim.Native.Nat.{ℕ, zero, suc, _+_, _<_, _≤_}
 use mathlib.Core.Path.{_≡_}
 use mathlib.Core.Bool.{true}
 use mathlib.Core.List.{List}
-use lib.ListN.{length, set, drop}
+use lib.ListN.{length, getD, set, drop}
 use Rattle.heads.specs.Got.{no, wordIn}
 use Rattle.heads.specs.Answer.{Ans, wordGot, wordEnd}
 use Rattle.heads.specs.declared.Word.{Word}
 use Rattle.heads.specs.declared.Word.the-variants as word
 use Rattle.fused.specs.Fused.{Both}
 use Rattle.fused.specs.Clauses.{countedRow}
-use Rattle.steps.specs.Memory.{atOf, tablesIn, worldAt, modeOf}
+use Rattle.steps.specs.Memory.{atOf, slotsIn, tablesIn, worldAt, modeOf}
 use Rattle.steps.specs.Hold.{Fit, Holds}
 use Rattle.walk.specs.Goes.{Goer, Comes}
 
@@ -32,10 +32,15 @@ pub record Passes (j : ℕ) (ws tab m vis found held m' vis' found' held' : List
   pub kept : length held' ≡ length held
   pub passes : PassesAs j ws tab m vis found m' vis' found' G r
 
--- what the clauses ask besides: room for the pairs of a WITH, and that names are resolved
-pub record Held (ws held : List ℕ) (mode : ℕ) : Type 0 where
+-- no mark is set in tab
+abbrev pub Unmarked : List ℕ → Type 0
+Unmarked tab = (x : ℕ) → x < slotsIn tab → getD tab (16 + x) 0 ≡ 0
+
+-- what the clauses ask besides: room for the pairs of a WITH and the aliases of a RETURN, that names are resolved, and that none is marked
+pub record Held (ws tab held : List ℕ) (mode : ℕ) : Type 0 where
   pub room : length ws ≤ length held
   pub resolves : modeOf mode .resolves ≡ true
+  pub unmarked : Unmarked tab
 
 -- where the walk stands after a word, which it passes if it is in range
 abbrev pub moved : List ℕ → Word → List ℕ

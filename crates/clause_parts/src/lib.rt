@@ -5,13 +5,13 @@ use heads::word_in;
 use steps::AT;
 use walk::walk_many;
 ghost use mathlib.Core.Path.{_≡_};
-ghost use mathlib.Core.List.{[]};
 ghost use Prim.Native.Nat.{_+_, _*_, _≤_};
 ghost use lib.ListN.{length};
 ghost use Rattle.words.specs.Words.{words};
 ghost use Rattle.steps.specs.Memory.{atOf};
 ghost use Rattle.steps.specs.Hold.{Ready};
-ghost use Rattle.clause_parts.specs.Passes.{Next, Passes, countedAt};
+ghost use Rattle.walk.specs.Goes.{Walked};
+ghost use Rattle.clause_parts.specs.Passes.{Next, countedAt};
 
 // The most levels of an expression.
 pub const DEPTH: u32 = 48;
@@ -49,7 +49,7 @@ pub fn walk_counted(
     mode: u32,
 ) -> u32
     requires { ⌜ (Ready 0 (words (now s)) (now tab) (now m) (now vis) (now found)) ⌝ }
-    ensures { λ r. ⌜ Passes 0 (words (now (s .entry))) (now (tab .entry)) (now (m .entry)) (now (vis .entry)) (now (found .entry)) [] (now (m .exit)) (now (vis .exit)) (now (found .exit)) [] (countedAt (words (now (s .entry))) (now (tab .entry)) mode) r ⌝ }
+    ensures { λ r. ⌜ Walked 48 (words (now (s .entry))) (now (tab .entry)) (now (m .entry)) (now (vis .entry)) (now (found .entry)) (now (m .exit)) (now (vis .exit)) (now (found .exit)) (countedAt (words (now (s .entry))) (now (tab .entry)) mode) r ⌝ }
 {
     let Word::Is(n) = next_word(s, m, 0, 4294967296) else {
         return 5;

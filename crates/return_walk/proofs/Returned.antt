@@ -1,76 +1,78 @@
 -- A RETURN: its projections are walked as rounds, from outside its scope, which is current after them (`opened-cut`, `inner-ready`,
--- `walked-cut`, `return-refused`, `return-passes`).
-use Prim.Native.Nat.{ℕ, zero, suc, _+_, _-_, _≤_}
+-- `walked-cut`, `return-refused`, `return-passes`; `lend`: with other words held).
+use Prim.Native.Nat.{ℕ, zero, suc, _+_, _≤_}
 use native.Mathlib.Omega.{arith}
 use mathlib.Core.Path.{_≡_, refl, _∙_}
-use mathlib.Core.Bool.{true}
-use mathlib.Core.List.{List, [], _∷_, _++_}
+use mathlib.Core.Bool.{Bool, true, false}
+use mathlib.Core.List.{List, [], _++_}
 use lib.ListN.{length, drop}
 use Rattle.heads.specs.Got.{Got, ok, no, bind, wordIn, anyWord}
 use Rattle.heads.specs.Head.{Tables}
-use Rattle.heads.specs.Form.{readForm}
 use Rattle.clauses.specs.Read.{aliasOf}
 use Rattle.semantics.specs.World.{World}
-use Rattle.semantics.specs.Resolve.{Seen, seen, Pair, enter, leave, carries}
+use Rattle.semantics.specs.Resolve.{enter, leave, aliasIn}
 use Rattle.semantics.specs.Kinds.{general}
 use Rattle.fused.specs.Fused.{Both, Mode, Go, rounds, step, told}
-use Rattle.fused.specs.Clauses.{within, directOf, projectionsGo, returned, returnGo}
-use Rattle.visible.specs.Visible.{seens, Descends, Tabled}
-use Rattle.visible.proofs.Names.{descends-above}
+use Rattle.fused.specs.Clauses.{within, aliased, projectionsGo, returned, returnGo}
+use Rattle.visible.specs.Visible.{Tabled}
 use Rattle.steps.specs.Memory.{atOf, topOf, curOf, lastOf, saidOf, toldOf, lostOf, heldOf, slotsIn, tablesIn, worldAt, modeOf}
 use Rattle.steps.specs.Hold.{Fit, Holds, Frame, Steps, Ready, Left, onNames}
-use Rattle.steps.proofs.Held.{Numbers, unset, store, lower, refit, drop-seens, framed, frame-more}
+use Rattle.steps.proofs.Held.{Numbers, unset, store, lower, refit, framed, frame-more}
 use Rattle.steps.proofs.Moved.{left-numbers, left-fits, left-frame, left-holds}
 use Rattle.walk.specs.Goes.{Goer, Walked}
 use Rattle.clause_parts.specs.Passes.{Passes}
-use Rattle.return_walk.specs.Returns.{outputAt, returnedAt, returnAt}
-use Rattle.clause_parts.proofs.Cleared.{names-step}
+use Rattle.return_walk.specs.Returns.{outputAt, hushedAt, outsideAt, returnAt}
+use Rattle.clause_parts.proofs.Cleared.{below-descends, names-step}
 
--- ---- projections whose pairs nobody asks for
-module _ (P : List Pair → Both → List ℕ → Got (Both × List Pair)) (R : Go) (f : Both → Both) (same : (ps : List Pair) (s : Both) (r : List ℕ) → bind (P ps s r) (λ x r2. ok (f (x .0)) r2) ≡ bind (R s r) (λ u r2. ok (f u) r2))
-    (E : List ℕ → Got Both) (c : ℕ → List ℕ → Both → List Pair) where
-  after-expr : (a : ℕ) (r : List ℕ) (g : Got Both) → bind (bind g (λ u r2. P (c a r u) u r2)) (λ x r2. ok (f (x .0)) r2) ≡ bind (bind g (λ u r2. R u r2)) (λ u r2. ok (f u) r2)
-  after-expr a r (ok u r2) = same (c a r u) u r2
-  after-expr a r (no e) = refl
+-- ---- projections whose aliases nobody asks for
+module _ (P : List ℕ → Both → List ℕ → Got (Both × List ℕ)) (R : Go) (f : Both → Both) (same : (xs : List ℕ) (s : Both) (r : List ℕ) → bind (P xs s r) (λ x r2. ok (f (x .0)) r2) ≡ bind (R s r) (λ u r2. ok (f u) r2))
+    (E : List ℕ → Got Both) (c : ℕ → List ℕ) where
+  after-expr : (a : ℕ) (g : Got Both) → bind (bind g (λ u r2. P (c a) u r2)) (λ x r2. ok (f (x .0)) r2) ≡ bind (bind g (λ u r2. R u r2)) (λ u r2. ok (f u) r2)
+  after-expr a (ok u r2) = same (c a) u r2
+  after-expr a (no e) = refl
 
-  after-word : (g : Got ℕ) → bind (bind g (λ a r1. bind (E r1) (λ u r2. P (c a r1 u) u r2))) (λ x r2. ok (f (x .0)) r2) ≡ bind (bind (bind g (λ a r1. E r1)) (λ u r2. R u r2)) (λ u r2. ok (f u) r2)
-  after-word (ok a r) = after-expr a r (E r)
+  after-word : (g : Got ℕ) → bind (bind g (λ a r1. bind (E r1) (λ u r2. P (c a) u r2))) (λ x r2. ok (f (x .0)) r2) ≡ bind (bind (bind g (λ a r1. E r1)) (λ u r2. R u r2)) (λ u r2. ok (f u) r2)
+  after-word (ok a r) = after-expr a (E r)
   after-word (no e) = refl
 
 module _ (w : World) (t : Tables) (m : Mode) (f : Both → Both) where
   abbrev one : Go
   one s r = bind (wordIn 0 (suc (t .names)) r) (λ a r1. within w t m general s r1)
 
-  outputs-as : (n : ℕ) (ps : List Pair) (s : Both) (r : List ℕ) → bind (projectionsGo w t m n ps s r) (λ x r2. ok (f (x .0)) r2) ≡ bind (rounds n one s r) (λ u r2. ok (f u) r2)
+  outputs-as : (n : ℕ) (xs : List ℕ) (s : Both) (r : List ℕ) → bind (projectionsGo w t aliased m n xs s r) (λ x r2. ok (f (x .0)) r2) ≡ bind (rounds n one s r) (λ u r2. ok (f u) r2)
   unfolding projectionsGo rounds
-  outputs-as zero ps s r = refl
-  outputs-as (suc n) ps s r =
-      after-word (projectionsGo w t m n) (rounds n one) f (outputs-as n) (within w t m general s) (λ a r1 u. ps ++ carries w (aliasOf a) (directOf (readForm (t .names) r1)) (u .names .visible)) (wordIn 0 (suc (t .names)) r)
+  outputs-as zero xs s r = refl
+  outputs-as (suc n) xs s r =
+      after-word (projectionsGo w t aliased m n) (rounds n one) f (outputs-as n) (within w t m general s) (λ a. xs ++ aliasIn (aliasOf a)) (wordIn 0 (suc (t .names)) r)
 
 -- ---- a RETURN
-pub descends-drop : (c d : ℕ) (l : List Seen) → Descends c l → Descends c (drop d l)
-unfolding Descends
-descends-drop c zero l h = h
-descends-drop c (suc d) [] h = h
-descends-drop c (suc d) (seen y v p ∷ l) h = descends-drop c d l (descends-above c p l (h .0) (h .1))
+-- what is walked from outside the scope, and then its scope is current
+module _ (ws tab : List ℕ) (mode a b : ℕ) (id : ℕ → ℕ) (s : Both) where
+  abbrev outside : Both
+  outside = step (modeOf mode) (λ y. leave y (enter 8 a b y)) [] s
 
-below-descends : (n t u c : ℕ) (vis : List ℕ) → t ≤ u → Descends c (seens n u vis) → Descends c (seens n t vis)
-below-descends n t u c vis h d =
-    let z : u ≡ u - t + t = omega arith in
-    rw (← (drop-seens n (u - t) t vis)) (descends-drop c (u - t) _ (rw z at d))
+  abbrev ended : Both → List ℕ → Got Both
+  ended u r = ok (returned (modeOf mode) s u) r
 
-counted : (g : Got ℕ) (P : ℕ → List ℕ → Got (Both × List Pair)) (R : ℕ → List ℕ → Got Both) (f : Both → Both) → ((n : ℕ) (r : List ℕ) → bind (P n r) (λ x r2. ok (f (x .0)) r2) ≡ bind (R n r) (λ u r2. ok (f u) r2)) →
-    bind g (λ n r1. bind (P n r1) (λ x r2. ok (f (x .0)) r2)) ≡ bind (bind g (λ n r1. R n r1)) (λ u r2. ok (f u) r2)
-counted (ok n r) P R f h = h n r
-counted (no e) P R f h = refl
+  return-as : (sorts : Bool) (r : List ℕ) → returnAt ws tab mode sorts a b id s r ≡ bind (outsideAt ws tab mode sorts id outside r) ended
+  unfolding returnGo
+  return-as false r = go (anyWord r)
+    where
+      go : (g : Got ℕ) → bind g (λ n r1. bind (projectionsGo (worldAt ws tab id) (tablesIn tab) aliased (modeOf mode) n [] outside r1) (λ x r2. ended (x .0) r2)) ≡ bind (bind g (λ n r1. rounds n (outputAt ws tab mode id) outside r1)) ended
+      go (ok n r1) = outputs-as (worldAt ws tab id) (tablesIn tab) (modeOf mode) (returned (modeOf mode) s) n [] outside r1
+      go (no e) = refl
+  return-as true r = go (anyWord r)
+    where
+      P : ℕ → List ℕ → Got (Both × List ℕ)
+      P n r1 = projectionsGo (worldAt ws tab id) (tablesIn tab) aliased (modeOf mode) n [] outside r1
 
-return-as : (ws tab : List ℕ) (mode a b : ℕ) (id : ℕ → ℕ) (s : Both) (r : List ℕ) →
-    returnAt ws tab mode a b id s r ≡ bind (returnedAt ws tab mode id (step (modeOf mode) (λ y. leave y (enter 8 a b y)) [] s) r) (λ u r2. ok (returned (modeOf mode) s u) r2)
-unfolding returnGo
-return-as ws tab mode a b id s r =
-    counted (anyWord r) (λ n r1. projectionsGo (worldAt ws tab id) (tablesIn tab) (modeOf mode) n [] (step (modeOf mode) (λ y. leave y (enter 8 a b y)) [] s) r1)
-    (λ n r1. rounds n (outputAt ws tab mode id) (step (modeOf mode) (λ y. leave y (enter 8 a b y)) [] s) r1) (returned (modeOf mode) s)
-    (λ n r1. outputs-as (worldAt ws tab id) (tablesIn tab) (modeOf mode) (returned (modeOf mode) s) n [] (step (modeOf mode) (λ y. leave y (enter 8 a b y)) [] s) r1)
+      inner : (g : Got (Both × List ℕ)) → bind g (λ x r2. bind (hushedAt ws tab mode (x .1) id (x .0) r2) ended) ≡ bind (bind g (λ x r2. hushedAt ws tab mode (x .1) id (x .0) r2)) ended
+      inner (ok x r2) = refl
+      inner (no e) = refl
+
+      go : (g : Got ℕ) → bind g (λ n r1. bind (P n r1) (λ x r2. bind (hushedAt ws tab mode (x .1) id (x .0) r2) ended)) ≡ bind (bind g (λ n r1. bind (P n r1) (λ x r2. hushedAt ws tab mode (x .1) id (x .0) r2))) ended
+      go (ok n r1) = inner (P n r1)
+      go (no e) = refl
 
 -- what `leave` asks
 pub opened-cut : {ws tab m vis found m1 vis1 found1 : List ℕ} {F : (ℕ → ℕ) → Both → Both} → Ready 3 ws tab m vis found → Steps 1 ws tab m vis found m1 vis1 found1 F → (10 ≤ length tab) × ((length m1 ≡ 64) × ((topOf m ≤ topOf m1) × Tabled (slotsIn tab) (topOf m1) vis1))
@@ -108,21 +110,21 @@ module _ {ws tab m vis found m1 found1 m2 vis2 : List ℕ} {a b : ℕ} (ready : 
       let b = y .frame .top in
       (omega arith, (g .size, (omega arith, g .tabled)))
 
-  pub return-refused : {m3 vis3 found3 held : List ℕ} (mode e : ℕ) → modeOf mode .resolves ≡ true → (e ≡ 0 → ⊥) → Walked 48 ws tab m2 vis2 found1 m3 vis3 found3 (returnedAt ws tab mode) e → Passes 3 ws tab m vis found held m3 vis3 found3 held (returnAt ws tab mode a b) e
-  return-refused mode zero live q w = absurd (q refl)
-  return-refused mode (suc e) live q w =
+  pub return-refused : {m3 vis3 found3 held held' : List ℕ} (mode e : ℕ) (sorts : Bool) → modeOf mode .resolves ≡ true → (e ≡ 0 → ⊥) → length held' ≡ length held → Walked 48 ws tab m2 vis2 found1 m3 vis3 found3 (outsideAt ws tab mode sorts) e → Passes 3 ws tab m vis found held m3 vis3 found3 held' (returnAt ws tab mode sorts a b) e
+  return-refused mode zero sorts live q k w = absurd (q refl)
+  return-refused mode (suc e) sorts live q k w =
       let z = inner-sizes in
       let at : atOf m2 ≡ atOf m = left-numbers (ready .fit) (x .fit 2 2 (ready .fit)) (x .frame) p .at ∙ x .at in
       record {
         sized = w .sized ∙ z .0;
         seen = w .seen ∙ z .1 .0;
         wrote = w .wrote ∙ x .wrote;
-        kept = refl;
-        passes = λ id s h. return-as ws tab mode a b id s (drop (atOf m) ws) ∙ rw (names-step (modeOf mode) (λ y. leave y (enter 8 a b y)) s live, ← at, w .goes id _ (inner-holds h));
+        kept = k;
+        passes = λ id s h. return-as ws tab mode a b id s sorts (drop (atOf m) ws) ∙ rw (names-step (modeOf mode) (λ y. leave y (enter 8 a b y)) s live, ← at, w .goes id _ (inner-holds h));
       }
 
-  pub return-passes : {m3 vis3 found3 m4 vis4 held : List ℕ} (mode e : ℕ) → modeOf mode .resolves ≡ true → e ≡ 0 → Walked 48 ws tab m2 vis2 found1 m3 vis3 found3 (returnedAt ws tab mode) e → Left tab m3 vis3 m4 vis4 (topOf m) (curOf m1) → Passes 3 ws tab m vis found held m4 vis4 found3 held (returnAt ws tab mode a b) 0
-  return-passes {m3 = m3} {m4 = m4} mode e live none' w l =
+  pub return-passes : {m3 vis3 found3 m4 vis4 held held' : List ℕ} (mode e : ℕ) (sorts : Bool) → modeOf mode .resolves ≡ true → e ≡ 0 → length held' ≡ length held → Walked 48 ws tab m2 vis2 found1 m3 vis3 found3 (outsideAt ws tab mode sorts) e → Left tab m3 vis3 m4 vis4 (topOf m) (curOf m1) → Passes 3 ws tab m vis found held m4 vis4 found3 held' (returnAt ws tab mode sorts a b) 0
+  return-passes {m3 = m3} {m4 = m4} mode e sorts live none' still w l =
       let z = inner-sizes in
       let y = rw none' at (w .goes) in
       let g₀ = y .fit 2 (inner-fits 0 (ready .fit)) in
@@ -135,7 +137,7 @@ module _ {ws tab m vis found m1 found1 m2 vis2 : List ℕ} {a b : ℕ} (ready : 
         sized = q .size ∙ w .sized ∙ z .0;
         seen = l .kept ∙ w .seen ∙ z .1 .0;
         wrote = w .wrote ∙ x .wrote;
-        kept = refl;
+        kept = still;
         passes = record {
           from = omega (arith, q .at, y .from, at);
           fit = λ k f. let g1 = x .fit (2 + k) (2 + k) (lower (omega arith) (omega arith) f) in let g = y .fit (2 + k) (inner-fits k f) in
@@ -153,7 +155,11 @@ module _ {ws tab m vis found m1 found1 m2 vis2 : List ℕ} {a b : ℕ} (ready : 
                   kinds = rw (q .told) (v .holds .kinds);
                   known = rw (q .lost) (v .holds .known);
                 };
-                same = return-as ws tab mode a b id s (drop (atOf m) ws) ∙ rw (names-step (modeOf mode) (λ y. leave y (enter 8 a b y)) s live, ← at, v .same, q .at);
+                same = return-as ws tab mode a b id s sorts (drop (atOf m) ws) ∙ rw (names-step (modeOf mode) (λ y. leave y (enter 8 a b y)) s live, ← at, v .same, q .at);
               };
         };
       }
+
+-- with other words held
+pub lend : {j : ℕ} {ws tab m vis found m' vis' found' l l' held held' : List ℕ} {G : Goer} {r : ℕ} → length held' ≡ length held → Passes j ws tab m vis found l m' vis' found' l' G r → Passes j ws tab m vis found held m' vis' found' held' G r
+lend e x = record { sized = x .sized; seen = x .seen; wrote = x .wrote; kept = e; passes = x .passes }

@@ -30,7 +30,9 @@ use Rattle.sheet.proofs.Accepted.{names-hold, rows-hold}
 use Rattle.semantics.specs.World.{starName, idName, bytesOf, worldOf}
 use Rattle.fused.proofs.ApartStatement.{worldBy, world-same}
 use Rattle.rows.proofs.Found.{row-found}
-use Rattle.steps.specs.Memory.{slotsIn, hushedIn, chainsIn, worldAt}
+use Rattle.steps.specs.Memory.{slotsIn, chainsIn, worldAt}
+use Rattle.clause_parts.specs.Passes.{Unmarked}
+use Rattle.clause_parts.proofs.Passing.{none-hushed}
 use Rattle.steps.specs.Hold.{Fine}
 use Rattle.sheet_walk.specs.Runs.{warnsBy}
 use Rattle.sheet_walk.specs.Parts.{slotsFor, Rowed, namesBy, Settles, Set, Tables, TablesAs, ReadsTables}
@@ -103,10 +105,10 @@ module _ {s : List ℕ} {p : Places} {choice : ℕ} {places ids old tab : List �
   chains : chainsIn tab ≡ chainsIn old
   chains = rw (q .slots) (sym (drop-drop (slotsIn old) 16 tab) ∙ ap (drop (slotsIn old)) (q .behind) ∙ drop-drop (slotsIn old) 16 old)
 
-  unmarked : (x : ℕ) → hushedIn tab x ≡ false
-  unmarked x =
+  unmarked : Unmarked tab
+  unmarked x l =
       let z : getD tab (16 + x) 0 ≡ getD old (16 + x) 0 = sym (getD-drop 16 tab x 0) ∙ ap (λ (l : List ℕ). getD l x 0) (q .behind) ∙ getD-drop 16 old x 0 in
-      rw (q .slots, z) (r .unmarked x)
+      rw z (r .unmarked x (omega (arith, l, q .slots)))
 
   fine : Fine (words s) tab
   fine =
@@ -140,7 +142,7 @@ module _ {s : List ℕ} {p : Places} {choice : ℕ} {places ids old tab : List �
       world-same (worldAt (words s) tab (λ x. useId (getD ns x []))) (worldBy (warnsBy choice) ns (r .rows)) (λ x. refl)
       (λ x. ap (eqb (suc x)) (q .star) ∙ index-is (42 ∷ []) ns apart 42 [] refl x ∙ star-is (getD ns x []))
       (λ x. ap (eqb (suc x)) (q .ident) ∙ index-is (105 ∷ 100 ∷ []) ns apart 105 (100 ∷ []) refl x ∙ id-is (getD ns x []))
-      unmarked
+      (none-hushed tab unmarked)
       (λ v. rw (q .rows, q .bindings) (sym (row-found (p .names) (p .bindings) (p .head) (words s) [] (r .rows) (p .rows) v read (omega (arith, fills, head-long)) once)))
       (q .warns)
 

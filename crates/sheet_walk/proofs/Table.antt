@@ -2,30 +2,21 @@
 use Prim.Native.Nat.{ℕ, _+_, _-_, _*_, _/_, _%_, _<_, _≤_}
 use native.Mathlib.Omega.{arith}
 use mathlib.Core.Path.{_≡_, refl, ap, _∙_}
-use mathlib.Core.Bool.{Bool, true, false, cond, _&&_}
+use mathlib.Core.Bool.{Bool, true, false, cond}
 use mathlib.Core.List.{List, [], _∷_, _++_, append-nil}
-use lib.Dec.{eqb, ltb}
+use lib.Dec.{eqb}
 use lib.ListN.{length, take, drop, getD, set, length-set, length-take, length-drop, List·getD-append}
 use lib.Seq.{getD-set-same, getD-set-other, getD-drop, getD-take, drop-set-lt, drop-at, take-all, length-take-le}
-use borrow.Author.Tests.{ltb-true, eqb-true, eqb-false}
+use borrow.Author.Tests.{eqb-true, eqb-false}
 use borrow.Rule.Slice.PartMut.{putMid, midOf}
 use Rattle.words.proofs.Words.{drop-none}
 use Rattle.tables.specs.Index.{indexOf}
 use Rattle.sheet.specs.declared.trailer.Places.{Places}
 use Rattle.rows.specs.Slot.{slots}
 use Rattle.rows.specs.Rows.{Empty, Indexed}
-use Rattle.steps.specs.Memory.{slotsIn, hushedIn}
 use Rattle.sheet_walk.specs.Parts.{Shift, Clear, HungUp, namesBy, Settles}
 
 -- ---- the chains
-
--- no mark is set where those of the places are 0
-marks-none : (tab : List ℕ) → ((x : ℕ) → x < slotsIn tab → getD tab (16 + x) 0 ≡ 0) → (x : ℕ) → hushedIn tab x ≡ false
-marks-none tab h x = go (ltb x (slotsIn tab)) refl
-  where
-    go : (b : Bool) → ltb x (slotsIn tab) ≡ b → b && eqb (getD tab (16 + x) 0) 1 ≡ false
-    go true e = rw (h x (ltb-true x (slotsIn tab) e))
-    go false e = refl
 
 -- three numbers stored
 abbrev pub hashed : List ℕ → ℕ → ℕ → ℕ → List ℕ
@@ -73,7 +64,7 @@ module _ (tab : List ℕ) (k mult shift : ℕ) where
         let third : getD all 8 0 ≡ shift = front 8 (omega arith) ∙ getD-set-same (set (set tab 1 k) 7 mult) 8 shift 0 (omega (arith, c .long, length-set tab 1 k, length-set (set tab 1 k) 7 mult)) in
         let marks : (x : ℕ) → x < k → getD all (16 + x) 0 ≡ 0 =
         λ x h. front (16 + x) (omega arith) ∙ getD-set-other (set (set tab 1 k) 7 mult) 8 (16 + x) shift 0 (λ e. omega arith) ∙ getD-set-other (set tab 1 k) 7 (16 + x) mult 0 (λ e. omega arith) ∙ getD-set-other tab 1 (16 + x) k 0 (λ e. omega arith) ∙ c .clear (16 + x) in
-        record { same = x .same; slots = first; unmarked = marks-none all (λ x h. marks x (omega (arith, first))); hung = λ e. rw (first, second, third, chains) (x .hung e) }
+        record { same = x .same; slots = first; unmarked = λ x h. marks x (omega (arith, first)); hung = λ e. rw (first, second, third, chains) (x .hung e) }
 
 -- ---- the other numbers
 

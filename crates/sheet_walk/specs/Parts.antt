@@ -21,9 +21,10 @@ use Rattle.fused.specs.Sheet.{begun, headGo, armsGo, sheetGo}
 use Rattle.fused.proofs.ApartStatement.{HasTables, worldBy}
 use Rattle.rows.specs.Slot.{slots}
 use Rattle.rows.specs.Rows.{idAt, Hung}
-use Rattle.steps.specs.Memory.{atOf, saidOf, toldOf, slotsIn, starIn, identIn, warnsIn, rowsIn, bindingsIn, multIn, shiftIn, wantsIn, hushedIn, chainsIn, worldAt, events, findings, kept}
+use Rattle.steps.specs.Memory.{atOf, saidOf, toldOf, slotsIn, starIn, identIn, warnsIn, rowsIn, bindingsIn, multIn, shiftIn, wantsIn, chainsIn, worldAt, events, findings, kept}
 use Rattle.steps.specs.Memory as memory
 use Rattle.steps.specs.Hold.{Fine, Fit, Holds}
+use Rattle.clause_parts.specs.Passes.{Unmarked}
 use Rattle.sheet_walk.specs.Runs.{warnsBy, wantsBy}
 use Rattle.sheet_walk.specs.declared.Ran.{Ran}
 use Rattle.sheet_walk.specs.declared.Ran.the-variants as ran
@@ -50,7 +51,7 @@ pub record Rowed (s : List ℕ) (p : Places) (tab : List ℕ) : Type 0 where
   pub rows : List Row
   pub read : readRows (p .names) (p .bindings) (section (words s) (p .rows) (p .head)) ≡ accepted rows
   pub slots : slotsIn tab ≡ slotsFor (p .names)
-  pub unmarked : (x : ℕ) → hushedIn tab x ≡ false
+  pub unmarked : Unmarked tab
   pub hung : Hung (multIn tab) (shiftIn tab) (p .bindings) (idAt (words s) (p .rows)) (chainsIn tab)
 
 abbrev pub RowedIf : List ℕ → Places → List ℕ → Bool → Type 0
@@ -61,7 +62,7 @@ RowedIf s p tab false = readRows (p .names) (p .bindings) (section (words s) (p 
 pub record HungUp (ws : List ℕ) (rows n k : ℕ) (tab : List ℕ) (r : Bool) : Type 0 where
   pub same : r ≡ distinct isIn (rowIds n (drop rows ws))
   pub slots : slotsIn tab ≡ k
-  pub unmarked : (x : ℕ) → hushedIn tab x ≡ false
+  pub unmarked : Unmarked tab
   pub hung : r ≡ true → Hung (multIn tab) (shiftIn tab) n (idAt ws rows) (chainsIn tab)
 
 -- the names of a sheet, by the table of their places
@@ -89,7 +90,7 @@ pub record Set (s : List ℕ) (p : Places) (tab : List ℕ) : Type 0 where
   pub names : memory.namesIn tab ≡ p .names
   pub rows : rowsIn tab + bindingsIn tab * 5 ≤ p .head
   pub slots : slotsIn tab ≤ p .head + 1
-  pub unmarked : (x : ℕ) → hushedIn tab x ≡ false
+  pub unmarked : Unmarked tab
 
 -- Both tables of a sheet are right, and the lent words hold what the walks go by: the World is that of the names and the bindings.
 pub record Tables (s : List ℕ) (p : Places) (choice : ℕ) (places ids tab : List ℕ) : Type 0 where

@@ -18,12 +18,12 @@ use Rattle.clauses.specs.Read.{aliasOf}
 use Rattle.semantics.specs.Log.{finding, missing, write, find, carry}
 use Rattle.semantics.specs.Log.{answer as answer'}
 use Rattle.semantics.specs.World.{World, Direct, aVar, aName}
-use Rattle.semantics.specs.Resolve.{State, Seen, Pair, pair, lookup, ifRow, ifSome, say, sayIf, useName, useVar, carries, carryAll}
+use Rattle.semantics.specs.Resolve.{State, Seen, Pair, pair, lookup, ifRow, ifSome, say, sayIf, useName, visit, useVar, carries, carryAll}
 use Rattle.fused.specs.Fused.{Both, nameUse}
 use Rattle.visible.specs.Visible.{answer, seens}
 use Rattle.visible.specs.declared.Found.{Found}
 use Rattle.visible.specs.declared.Found.the-variants as found'
-use Rattle.steps.specs.Memory.{atOf, topOf, curOf, lastOf, saidOf, toldOf, lostOf, heldOf, slotsIn, wantsIn, eventOf, worldAt}
+use Rattle.steps.specs.Memory.{atOf, topOf, curOf, lastOf, saidOf, toldOf, lostOf, heldOf, slotsIn, wantsIn, hushedIn, eventOf, worldAt}
 use Rattle.steps.specs.Hold.{Fits, Holds, Costs, Steps, Fine, Roomy, Says, SaysIf, shown, onNames, nameRecord}
 use Rattle.steps.specs.declared.row.Row.the-variants as row'
 use Rattle.steps.proofs.Held.{Numbers, unset, store, lower, refit, instead, as-steps, says-step, says-if, wanted, idle-step, then-steps, more-costs, roomy-in}
@@ -87,6 +87,7 @@ module _ {ws tab m vis found m1 found1 : List ℕ} {F : (ℕ → ℕ) → Both �
         wrote = y .wrote;
         kept = p .kept;
         more = omega (arith, q .held, e);
+        top = omega (arith, q .top, y .frame .top);
         named = λ n. rw (q .held, p .same, e) (names-more v (pairsIn (heldOf m) held) h n);
         fit = λ k f. lower (omega (arith, q .held, e)) (omega (arith, q .held, e)) (kept-fits (y .sized ∙ size) p (y .fit (2 + k + heldOf m * 2) (2 + k + heldOf m * 2) (lower (omega arith) (omega arith) f)));
         goes = λ id s g. kept-holds (y .sized ∙ size) p (y .goes id s g);
@@ -103,6 +104,7 @@ module _ {ws tab m vis found m1 found1 : List ℕ} {F : (ℕ → ℕ) → Both �
         wrote = y .wrote;
         kept = refl;
         more = omega (arith, e);
+        top = y .frame .top;
         named = λ n. rw e n;
         fit = λ k f. lower (omega (arith, e)) (omega (arith, e)) (y .fit (k + heldOf m * 2) (k + heldOf m * 2) (lower (omega arith) (omega arith) f));
         goes = y .goes;
@@ -144,6 +146,11 @@ use-visible w x none s = go (not (w .isStar x))
     go false = refl
 use-visible w x (some v) s = refl
 
+visit-visible : (w : World) (b : Bool) (x : ℕ) (o : Option ℕ) (s : State) → visit w b x o s .visible ≡ s .visible
+unfolding visit
+visit-visible w true x o s = refl
+visit-visible w false x o s = use-visible w x o s
+
 pub looked : {r : Found} {v c : ℕ} (o : Option ℕ) (p : ℕ) → r ≡ answer o p → r ≡ found'.Is v c → o ≡ some v
 looked none p e q = cc
 looked (some u) p e q = cc
@@ -154,21 +161,21 @@ unlooked (some u) p e q = cc
 
 module _ (ws : List ℕ) {tab m vis found : List ℕ} (x : ℕ) where
   module _ {v : ℕ} (q : lookup x (seens (slotsIn tab) (topOf m) vis) ≡ some v) where
-    pub name-found : {m1 found1 : List ℕ} → Steps 1 ws tab m vis found m1 vis found1 (λ id. onNames (λ y. nameRecord (worldAt ws tab id) x (lookup x (y .visible)) y)) → Steps 1 ws tab m vis found m1 vis found1 (λ id. onNames (nameUse (worldAt ws tab id) x))
-    unfolding useName
-    name-found s = instead _ s (λ id t h. let z : lookup x (t .names .visible) ≡ some v = ap (λ l. lookup x l) (sym (h .visible)) ∙ q in rw z)
+    pub name-found : {m1 found1 : List ℕ} → hushedIn tab x ≡ false → Steps 1 ws tab m vis found m1 vis found1 (λ id. onNames (λ y. nameRecord (worldAt ws tab id) x (lookup x (y .visible)) y)) → Steps 1 ws tab m vis found m1 vis found1 (λ id. onNames (nameUse (worldAt ws tab id) x))
+    unfolding useName visit
+    name-found e s = instead _ s (λ id t h. let z : lookup x (t .names .visible) ≡ some v = ap (λ l. lookup x l) (sym (h .visible)) ∙ q in rw (z, e))
 
     pub name-carried : (alias : ℕ) → alias ≡ 0 → (id : ℕ → ℕ) (s : Both) → Holds id tab m vis found s → carries (worldAt ws tab id) (aliasOf alias) (aName x) (nameUse (worldAt ws tab id) x (s .names) .visible) ≡ pair x v ∷ []
     unfolding carries ifSome
     name-carried alias e id s h =
         let z : lookup x (s .names .visible) ≡ some v = ap (λ l. lookup x l) (sym (h .visible)) ∙ q in
-        rw (e, use-visible (worldAt ws tab id) x (lookup x (s .names .visible)) (s .names), z)
+        rw (e, visit-visible (worldAt ws tab id) (hushedIn tab x) x (lookup x (s .names .visible)) (s .names), z)
 
   pub name-missing : (alias : ℕ) → lookup x (seens (slotsIn tab) (topOf m) vis) ≡ none → (id : ℕ → ℕ) (s : Both) → Holds id tab m vis found s → carries (worldAt ws tab id) (aliasOf alias) (aName x) (nameUse (worldAt ws tab id) x (s .names) .visible) ≡ []
   unfolding carries ifSome
   name-missing zero q id s h =
       let z : lookup x (s .names .visible) ≡ none = ap (λ l. lookup x l) (sym (h .visible)) ∙ q in
-      rw (use-visible (worldAt ws tab id) x (lookup x (s .names .visible)) (s .names), z)
+      rw (visit-visible (worldAt ws tab id) (hushedIn tab x) x (lookup x (s .names .visible)) (s .names), z)
   name-missing (suc a) q id s h = refl
 
 pub name-aliased : (w : World) (vis : List Seen) (x alias : ℕ) → (alias ≡ 0 → ⊥) → carries w (aliasOf alias) (aName x) vis ≡ []

@@ -1,6 +1,6 @@
 -- Projections of a WITH, on the way to the pairs that it carries. A Var or a name is its use (`var-within`, `name-within`, paid by two words:
 -- `var-paid`, `name-paid`) and what it adds (`form-ready`, `form-holding`, `direct-passes`), any other expression is walked and carries nothing
--- (`other-passes`), no head is refused (`form-refused`). The alias comes first (`alias-ready`, `alias-holding`, `alias-passes`, `alias-refused`).
+-- (`other-passes`), no head is refused (`form-refused`). The alias comes first (`alias-passes`, `alias-refused`).
 -- A loop of them is a walk of which projections are left (`begun`, `turn`, `fall`, `over`, `goes-in`).
 use Prim.Native.Nat.{ℕ, zero, suc, _+_, _-_, _*_, _<_, _≤_}
 use native.Mathlib.Omega.{arith}
@@ -25,16 +25,17 @@ use Rattle.semantics.specs.Resolve.{Seen, Pair, carries, useVar}
 use Rattle.semantics.specs.Kinds.{general, atRow}
 use Rattle.fused.specs.Fused.{Both, Mode, nameUse, rowGo, rounds, restGo, exprGo}
 use Rattle.fused.specs.Clauses.{within, directForm, directOf, projectionsGo}
-use Rattle.steps.specs.Memory.{atOf, heldOf, namesIn, slotsIn, tablesIn, worldAt, modeOf}
+use Rattle.visible.specs.Visible.{seens}
+use Rattle.steps.specs.Memory.{atOf, topOf, heldOf, namesIn, slotsIn, tablesIn, worldAt, modeOf}
 use Rattle.steps.specs.Hold.{Fit, Holds, Ready, onNames}
-use Rattle.steps.proofs.Held.{lower}
+use Rattle.steps.proofs.Held.{lower, seens-lower}
 use Rattle.walk.specs.Goes.{Walked, exprIn}
 use Rattle.walk.proofs.Paid.{form-paid}
 use Rattle.walk.proofs.Stage.{placed, placed-fit, placed-holds}
 use Rattle.clause_parts.specs.Passes.{Next}
 use Rattle.with_walk.specs.Carries.{pairsIn, InNames, Holding, Adds, Carries, carriedAt, projectionsAt}
-use Rattle.clause_parts.proofs.Passing.{goes-on, stays}
 use Rattle.clause_parts.proofs.Cleared.{names-step}
+use Rattle.with_walk.proofs.Chained.{as-passes, walked-passes, word-passes, word-refused}
 
 -- ---- the two forms of an expression that may be carried are their use
 general-row : (o : Option Row) → atRow general o ≡ []
@@ -66,6 +67,10 @@ unfolding carries
 nothing w none vis = refl
 nothing w (some x) vis = refl
 
+nothing-more : (w : World) (o : Option ℕ) (ps : List Pair) (g : Got Both) → bind {B = Both × List Pair} g (λ u r. ok (u, ps ++ carries w o other (u .names .visible)) r) ≡ bind g (λ u r. ok (u, ps) r)
+nothing-more w o ps (ok u r) = rw (nothing w o (u .names .visible), append-nil ps)
+nothing-more w o ps (no e) = refl
+
 -- two words were read of it, and a name is in range
 module _ {ws : List ℕ} {at p : ℕ} {f : Form} {names slots : ℕ} (l : names ≤ slots) (a : Ans ws at (readForm names (drop at ws)) (ok f (drop p ws)) p) where
   pub var-paid : {v : ℕ} → f ≡ Var v → at + 2 ≤ p
@@ -82,7 +87,7 @@ module _ {ws tab m vis found held : List ℕ} {f : Form} {p : ℕ} (h : Ready 1 
   pub form-holding : Holding 3 ws tab (set m 0 p) held
   form-holding =
       let q = placed m p (h .fit .size) in
-      record { room = o .room; few = omega (arith, q .held, q .at, o .few) }
+      record { room = o .room; few = omega (arith, q .held, q .at, o .few); unmarked = o .unmarked }
 
   pub direct-passes : {m' found' held' : List ℕ} {F : (ℕ → ℕ) → Both → Both} {d : Direct} (alias mode : ℕ) → Adds ws tab (set m 0 p) vis found held m' vis found' held' F alias d → directForm f ≡ d →
       ((id : ℕ → ℕ) (s : Both) → within (worldAt ws tab id) (tablesIn tab) (modeOf mode) general s (drop (atOf m) ws) ≡ ok (F id s) (drop p ws)) → Carries 1 ws tab m vis found held m' vis found' held' (carriedAt ws tab mode alias) 0
@@ -98,6 +103,8 @@ module _ {ws tab m vis found held : List ℕ} {f : Form} {p : ℕ} (h : Ready 1 
         carries = record {
           from = omega (arith, z, a .from);
           paid = omega (arith, x .more, y, z);
+          top = omega (arith, x .top, q .top);
+          below = refl;
           named = λ n. x .named (rw y n);
           fit = λ k b. x .fit k (placed-fit m p (h .fit .size) (a .from) (a .within) (omega (arith, y)) b);
           goes = λ id s b. let c = placed-holds m p (h .fit .size) b in
@@ -122,86 +129,24 @@ module _ {ws tab m vis found held : List ℕ} (alias mode : ℕ) where
 
   pub other-passes : {m' vis' found' : List ℕ} {f : Form} {p : ℕ} (r : ℕ) → Ans ws (atOf m) (readForm (namesIn tab) (drop (atOf m) ws)) (ok f (drop p ws)) p → directForm f ≡ other → Walked 48 ws tab m vis found m' vis' found' (exprIn ws tab 48 mode general) r →
       Carries 1 ws tab m vis found held m' vis' found' held (carriedAt ws tab mode alias) r
-  other-passes {m'} zero a e w =
-      let y = w .goes in
-      let z = y .frame .held in
-      record {
-        sized = w .sized;
-        seen = w .seen;
-        wrote = w .wrote;
-        kept = refl;
-        carries = record {
-          from = y .from;
-          paid = omega (arith, z, y .from);
-          named = λ n. rw z n;
-          fit = λ k b. lower (omega (arith, z)) (omega (arith, z)) (y .fit (1 + k + heldOf m * 2) b);
-          goes = λ id s b. let g = y .goes id s b in
-              record {
-                state = g .state;
-                holds = g .holds;
-                same = rw (g .same, a .same, e, z, nothing (worldAt ws tab id) (aliasOf alias) (g .state .names .visible)) (ap (λ (ps : List Pair). ok (g .state, ps) (drop (atOf m') ws)) (append-nil (pairsIn (heldOf m) held)));
-              };
-        };
-      }
-  other-passes (suc r) a e w =
-      record { sized = w .sized; seen = w .seen; wrote = w .wrote; kept = refl; carries = λ id s b. rw (w .goes id s b) }
+  other-passes r a e w =
+      as-passes (carriedAt ws tab mode alias) r
+      (λ id ps s. rw (a .same, e, nothing-more (worldAt ws tab id) (aliasOf alias) ps (within (worldAt ws tab id) (tablesIn tab) (modeOf mode) general s (drop (atOf m) ws)))) (walked-passes r w)
 
 -- ---- a projection
-pub alias-refused : {ws tab m vis found held m1 : List ℕ} {r : Word} (mode : ℕ) → Next ws 0 (namesIn tab + 1) m m1 r → r ≡ word.No → Carries 0 ws tab m vis found held m1 vis found held (projectionsAt ws tab mode 1) 5
+first-as : (w : World) (t : Tables) (m : Mode) (ps : List Pair) (s : Both) (r : List ℕ) →
+    projectionsGo w t (carries w) m 1 ps s r ≡ bind (wordIn 0 (t .names + 1) r) (λ a r1. bind (within w t m general s r1) (λ u r2. ok (u, ps ++ carries w (aliasOf a) (directOf (readForm (t .names) r1)) (u .names .visible)) r2))
 unfolding projectionsGo
-alias-refused {ws} {tab} {m} mode n q =
-    let z : wordIn 0 (suc (namesIn tab)) (drop (atOf m) ws) ≡ no 5 = ap (λ (k : ℕ). wordIn 0 k (drop (atOf m) ws)) (sym (add-one (namesIn tab))) ∙ rw q at (n .got .same) in
-    rw (stays n q) (record { sized = refl; seen = refl; wrote = refl; kept = refl; carries = λ id s b. rw z })
+first-as w t m ps s r = rw (add-one (t .names))
 
-pub alias-holding : {ws tab m held m1 : List ℕ} {lo hi w : ℕ} {r : Word} → length m ≡ 64 → Holding 0 ws tab m held → Next ws lo hi m m1 r → r ≡ word.Is w → Holding 1 ws tab m1 held
-alias-holding {m = m} size o n q =
-    let p = placed m (atOf m + 1) size in
-    rw (goes-on n q) (record { room = o .room; few = omega (arith, p .held, p .at, o .few) })
+module _ {ws tab m vis found held m1 : List ℕ} {r : Word} (mode : ℕ) (n : Next ws 0 (namesIn tab + 1) m m1 r) where
+  pub alias-refused : r ≡ word.No → Carries 0 ws tab m vis found held m1 vis found held (projectionsAt ws tab mode 1) 5
+  alias-refused q =
+      as-passes (projectionsAt ws tab mode 1) 5 (λ id ps s. first-as (worldAt ws tab id) (tablesIn tab) (modeOf mode) ps s (drop (atOf m) ws)) (word-refused (carriedAt ws tab mode) n q)
 
-pub alias-ready : {ws tab m vis found m1 : List ℕ} {lo hi w : ℕ} {r : Word} → Ready 0 ws tab m vis found → Next ws lo hi m m1 r → r ≡ word.Is w → Ready 1 ws tab m1 vis found
-alias-ready {m = m} h n q =
-    let a = rw q at (n .got) in
-    rw (goes-on n q) (record { fine = h .fine; fit = placed-fit m (atOf m + 1) (h .fit .size) (a .from) (a .within) (omega arith) (h .fit) })
-
-pub alias-passes : {ws tab m vis found held m1 m' vis' found' held' : List ℕ} {w : ℕ} {r : Word} (mode a : ℕ) → Ready 0 ws tab m vis found → Next ws 0 (namesIn tab + 1) m m1 r → r ≡ word.Is w → Carries 1 ws tab m1 vis found held m' vis' found' held' (carriedAt ws tab mode w) a →
-    Carries 0 ws tab m vis found held m' vis' found' held' (projectionsAt ws tab mode 1) a
-unfolding projectionsGo
-alias-passes {ws} {tab} {m} {held = held} {m1} {w = w} mode zero h n q x =
-    let p = placed m (atOf m + 1) (h .fit .size) in
-    let e = goes-on n q in
-    let g = rw q at (n .got) in
-    let y = x .carries in
-    let k7 : heldOf m1 ≡ heldOf m = rw e (p .held) in
-    let k0 : atOf m1 ≡ atOf m + 1 = rw e (p .at) in
-    let z : wordIn 0 (suc (namesIn tab)) (drop (atOf m) ws) ≡ ok w (drop (atOf m + 1) ws) = ap (λ (k : ℕ). wordIn 0 k (drop (atOf m) ws)) (sym (add-one (namesIn tab))) ∙ g .same in
-    record {
-      sized = x .sized ∙ rw e (p .size);
-      seen = x .seen;
-      wrote = x .wrote;
-      kept = x .kept;
-      carries = record {
-        from = omega (arith, y .from, k0);
-        paid = omega (arith, y .paid, k0, k7);
-        named = λ b. y .named (rw k7 b);
-        fit = λ k f. y .fit k (lower {e = 1 + k + heldOf m * 2} {t = 1 + k + heldOf m * 2} (omega (arith, k7)) (omega (arith, k7)) (rw e (placed-fit m (atOf m + 1) (h .fit .size) {c = k + heldOf m * 2} {i = 1 + k + heldOf m * 2} (g .from) (g .within) (omega arith) (lower (omega arith) (omega arith) f))));
-        goes = λ id s b. let c = y .goes id s (rw e (placed-holds m (atOf m + 1) (h .fit .size) b)) in
-            record { state = c .state; holds = c .holds; same = rw z (rw (k0, k7) at (c .same)) };
-      };
-    }
-alias-passes {ws} {tab} {m} {held = held} {m1} {w = w} mode (suc a) h n q x =
-    let p = placed m (atOf m + 1) (h .fit .size) in
-    let e = goes-on n q in
-    let g = rw q at (n .got) in
-    let k7 : heldOf m1 ≡ heldOf m = rw e (p .held) in
-    let k0 : atOf m1 ≡ atOf m + 1 = rw e (p .at) in
-    let z : wordIn 0 (suc (namesIn tab)) (drop (atOf m) ws) ≡ ok w (drop (atOf m + 1) ws) = ap (λ (k : ℕ). wordIn 0 k (drop (atOf m) ws)) (sym (add-one (namesIn tab))) ∙ g .same in
-    record {
-      sized = x .sized ∙ rw e (p .size);
-      seen = x .seen;
-      wrote = x .wrote;
-      kept = x .kept;
-      carries = λ id s b. rw z (rw (k0, k7) at (x .carries id s (rw e (placed-holds m (atOf m + 1) (h .fit .size) b))));
-    }
+  pub alias-passes : {m' vis' found' held' : List ℕ} {w : ℕ} (a : ℕ) → length m ≡ 64 → r ≡ word.Is w → Carries 1 ws tab m1 vis found held m' vis' found' held' (carriedAt ws tab mode w) a → Carries 0 ws tab m vis found held m' vis' found' held' (projectionsAt ws tab mode 1) a
+  alias-passes a size q x =
+      as-passes (projectionsAt ws tab mode 1) a (λ id ps s. first-as (worldAt ws tab id) (tablesIn tab) (modeOf mode) ps s (drop (atOf m) ws)) (word-passes n q size (carriedAt ws tab mode) a (omega arith) x)
 
 -- ---- a loop: of n projections, left are left
 pub record OnPairs (id : ℕ → ℕ) (ws tab m vis found held : List ℕ) (mode left : ℕ) (g : Got (Both × List Pair)) : Type 0 where
@@ -216,6 +161,8 @@ pub record Turning (ws tab m₀ vis₀ found₀ held₀ : List ℕ) (mode n : �
   pub wrote : length found ≡ length found₀
   pub kept : length held ≡ length held₀
   pub paid : heldOf m * 3 + atOf m₀ ≤ heldOf m₀ * 3 + atOf m
+  pub top : topOf m₀ ≤ topOf m
+  pub below : seens (slotsIn tab) (topOf m₀) vis ≡ seens (slotsIn tab) (topOf m₀) vis₀
   pub named : InNames (slotsIn tab) (pairsIn (heldOf m₀) held₀) → InNames (slotsIn tab) (pairsIn (heldOf m) held)
   pub fit : (k : ℕ) → Fit (k + heldOf m₀ * 2) ws tab m₀ vis₀ found₀ → Fit (k + heldOf m * 2) ws tab m vis found
   pub ready : Ready (heldOf m * 2) ws tab m vis found
@@ -230,6 +177,8 @@ begun mode n h =
       wrote = refl;
       kept = refl;
       paid = omega arith;
+      top = omega arith;
+      below = refl;
       named = λ x. x;
       fit = λ k f. f;
       ready = h;
@@ -237,26 +186,26 @@ begun mode n h =
     }
 
 -- one projection, and then the others
-ahead : (w : World) (t : Tables) (m : Mode) (left : ℕ) (ps : List Pair) (s : Both) (r : List ℕ) → 0 < left → projectionsGo w t m left ps s r ≡ bind (projectionsGo w t m 1 ps s r) (λ x r2. projectionsGo w t m (left - 1) (x .1) (x .0) r2)
+ahead : (w : World) (t : Tables) (m : Mode) (left : ℕ) (ps : List Pair) (s : Both) (r : List ℕ) → 0 < left → projectionsGo w t (carries w) m left ps s r ≡ bind (projectionsGo w t (carries w) m 1 ps s r) (λ x r2. projectionsGo w t (carries w) m (left - 1) (x .1) (x .0) r2)
 unfolding projectionsGo
 ahead w t m zero ps s r h = absurd (omega arith)
 ahead w t m (suc n) ps s r h =
     let z : suc n - 1 ≡ n = omega arith in
     rw z (first (wordIn 0 (suc (t .names)) r))
   where
-    second : (a : ℕ) (r1 : List ℕ) (g : Got Both) → bind g (λ u r2. projectionsGo w t m n (ps ++ carries w (aliasOf a) (directOf (readForm (t .names) r1)) (u .names .visible)) u r2)
-        ≡ bind {A = Both × List Pair} (bind g (λ u r2. ok (u, ps ++ carries w (aliasOf a) (directOf (readForm (t .names) r1)) (u .names .visible)) r2)) (λ x r2. projectionsGo w t m n (x .1) (x .0) r2)
+    second : (a : ℕ) (r1 : List ℕ) (g : Got Both) → bind g (λ u r2. projectionsGo w t (carries w) m n (ps ++ carries w (aliasOf a) (directOf (readForm (t .names) r1)) (u .names .visible)) u r2)
+        ≡ bind {A = Both × List Pair} (bind g (λ u r2. ok (u, ps ++ carries w (aliasOf a) (directOf (readForm (t .names) r1)) (u .names .visible)) r2)) (λ x r2. projectionsGo w t (carries w) m n (x .1) (x .0) r2)
     second a r1 (ok u r2) = refl
     second a r1 (no e) = refl
 
-    first : (g : Got ℕ) → bind g (λ a r1. bind (within w t m general s r1) (λ u r2. projectionsGo w t m n (ps ++ carries w (aliasOf a) (directOf (readForm (t .names) r1)) (u .names .visible)) u r2))
-        ≡ bind {A = Both × List Pair} (bind g (λ a r1. bind (within w t m general s r1) (λ u r2. ok (u, ps ++ carries w (aliasOf a) (directOf (readForm (t .names) r1)) (u .names .visible)) r2))) (λ x r2. projectionsGo w t m n (x .1) (x .0) r2)
+    first : (g : Got ℕ) → bind g (λ a r1. bind (within w t m general s r1) (λ u r2. projectionsGo w t (carries w) m n (ps ++ carries w (aliasOf a) (directOf (readForm (t .names) r1)) (u .names .visible)) u r2))
+        ≡ bind {A = Both × List Pair} (bind g (λ a r1. bind (within w t m general s r1) (λ u r2. ok (u, ps ++ carries w (aliasOf a) (directOf (readForm (t .names) r1)) (u .names .visible)) r2))) (λ x r2. projectionsGo w t (carries w) m n (x .1) (x .0) r2)
     first (ok a r1) = second a r1 (within w t m general s r1)
     first (no e) = refl
 
 module _ {ws tab m₀ vis₀ found₀ held₀ : List ℕ} {mode n : ℕ} {m vis found held : List ℕ} {left : ℕ} (o : Turning ws tab m₀ vis₀ found₀ held₀ mode n m vis found held left) where
   pub turn : {m' vis' found' held' : List ℕ} {a : ℕ} → 0 < left → a ≡ 0 → Carries 0 ws tab m vis found held m' vis' found' held' (projectionsAt ws tab mode 1) a → Turning ws tab m₀ vis₀ found₀ held₀ mode n m' vis' found' held' (left - 1)
-  turn h q x =
+  turn {vis' = vis'} h q x =
       let y = rw q at (x .carries) in
       record {
         from = omega (arith, o .from, y .from);
@@ -265,6 +214,8 @@ module _ {ws tab m₀ vis₀ found₀ held₀ : List ℕ} {mode n : ℕ} {m vis 
         wrote = x .wrote ∙ o .wrote;
         kept = x .kept ∙ o .kept;
         paid = omega (arith, o .paid, y .paid);
+        top = omega (arith, o .top, y .top);
+        below = seens-lower (slotsIn tab) (topOf m₀) (topOf m) vis' vis (o .top) (y .below) ∙ o .below;
         named = λ b. y .named (o .named b);
         fit = λ k f. y .fit k (lower (omega arith) (omega arith) (o .fit k f));
         ready = record { fine = o .ready .fine; fit = lower (omega arith) (omega arith) (y .fit 0 (lower (omega arith) (omega arith) (o .ready .fit))) };
@@ -295,13 +246,15 @@ module _ {ws tab m₀ vis₀ found₀ held₀ : List ℕ} {mode n : ℕ} {m vis 
         carries = record {
           from = o .from;
           paid = omega (arith, o .paid);
+          top = o .top;
+          below = o .below;
           named = o .named;
           fit = λ k f. o .fit k (lower (omega arith) (omega arith) f);
           goes = λ id s b. let c = o .on id s b in
-              record { state = c .state; holds = c .holds; same = c .same ∙ ap (λ (l : ℕ). projectionsGo (worldAt ws tab id) (tablesIn tab) (modeOf mode) l (pairsIn (heldOf m) held) (c .state) (drop (atOf m) ws)) z };
+              record { state = c .state; holds = c .holds; same = c .same ∙ ap (λ (l : ℕ). projectionsGo (worldAt ws tab id) (tablesIn tab) (carries (worldAt ws tab id)) (modeOf mode) l (pairsIn (heldOf m) held) (c .state) (drop (atOf m) ws)) z };
         };
       }
 
   -- the next one may be walked
   pub goes-in : Holding 0 ws tab m₀ held₀ → Holding 0 ws tab m held
-  goes-in b = record { room = omega (arith, b .room, o .kept); few = omega (arith, b .few, o .paid) }
+  goes-in b = record { room = omega (arith, b .room, o .kept); few = omega (arith, b .few, o .paid); unmarked = b .unmarked }

@@ -12,7 +12,7 @@ use lib.ListN.{length, getD, set}
 use borrow.Author.Tests.{eqb-true, eqb-false}
 use Rattle.semantics.specs.Log.{bound, bind}
 use Rattle.semantics.specs.World.{World, rowKind, kindOf}
-use Rattle.semantics.specs.Resolve.{State, Pair, pair, say, enter, bindName, bindAll, carryAll, barrier, fresh}
+use Rattle.semantics.specs.Resolve.{State, Pair, pair, say, enter, bindName, bindAll, carryAll, barrier}
 use Rattle.fused.specs.Fused.{Both}
 use Rattle.visible.specs.Visible.{Descends, Tabled, Bound}
 use Rattle.steps.specs.Memory.{atOf, topOf, curOf, heldOf, slotsIn, wantsIn, worldAt, eventOf}
@@ -20,7 +20,7 @@ use Rattle.steps.specs.Hold.{Fine, Fits, Fit, Holds, Costs, Steps, Ready, Roomy
 use Rattle.steps.proofs.Held.{unset, store, lower, refit, says-if, unwanted, roomy-in}
 use Rattle.steps.proofs.Moved.{if-numbers, names}
 use Rattle.with_walk.specs.Carries.{pairsIn, InNames, BindsAll, Rebinds}
-use Rattle.clause_parts.proofs.Cleared.{cleared-numbers, cleared-fits, cleared-holds}
+use Rattle.clause_parts.proofs.Cleared.{below-descends, cut-numbers, cut-fits, cut-holds}
 
 -- ---- names of pairs
 names-split : {slots x : ℕ} (v : ℕ) (ps : List Pair) → InNames slots (ps ++ (pair x v ∷ [])) → InNames slots ps × (x < slots)
@@ -88,7 +88,7 @@ pub record Binding (i : ℕ) (ws tab m₀ vis₀ found₀ held m vis found : Lis
 
 pub none-bound : {ws tab m vis found : List ℕ} (held : List ℕ) → Binding 0 ws tab m vis found held m vis found
 unfolding bindAll pairsIn
-none-bound held = record { all = record { at = refl; sized = refl; seen = refl; wrote = refl; fit = λ i k f h. lower (omega arith) (omega arith) f; goes = λ id s h. h }; top = omega arith }
+none-bound held = record { all = record { at = refl; sized = refl; seen = refl; wrote = refl; pairs = refl; fit = λ i k f h. lower (omega arith) (omega arith) f; goes = λ id s h. h }; top = omega arith }
 
 module _ {ws tab m₀ vis₀ found₀ held m vis found : List ℕ} {i n : ℕ} (b : Binding i ws tab m₀ vis₀ found₀ held m vis found) (l : i < n) (fine : Fine ws tab) (f : Fits n 0 ws tab m₀ vis₀ found₀) (stack : slotsIn tab + (topOf m₀ + n) * 3 ≤ atOf m₀ + 1) where
   bind-fits : Fits (suc (n - i - 1)) 0 ws tab m vis found
@@ -127,6 +127,7 @@ one-bound {ws} {tab} {m₀} {held = held} {m} {i = i} size e b p q w =
         sized = y .sized ∙ a .sized;
         seen = y .seen ∙ a .seen;
         wrote = y .wrote ∙ a .wrote;
+        pairs = y .frame .held ∙ a .pairs;
         fit = λ g k f h. bound-fits z p q (a .fit (suc g) k (lower (omega arith) (omega arith) f) (omega arith)) (omega arith);
         goes = λ id s h. rw (add-one i, bind-one (worldAt ws tab id) (pairsIn i held) (getD held (i * 2) 0) (getD held (i * 2 + 1) 0) (s .names)) (rekind w (y .goes id _ (a .goes id s h)));
       };
@@ -167,37 +168,45 @@ module _ (held : List ℕ) {ws tab m vis found m1 found1 : List ℕ} {a b : ℕ}
       pub root-ready : Fits (heldOf m) (heldOf m * 2) ws tab m3 vis found3
       root-ready = y .fit (heldOf m) (heldOf m * 2) (lower (omega arith) (omega arith) barred-ready)
 
-      pub leave-asks : (10 ≤ length tab) × ((length m3 ≡ 64) × ((0 ≤ topOf m3) × Tabled (slotsIn tab) (topOf m3) vis))
-      leave-asks = let g = ready .fine .long in (omega arith, (root-ready .size, (omega arith, root-ready .tabled)))
+      module _ {top : ℕ} (low : top ≤ topOf m) where
+        still-low : top ≤ topOf m3
+        still-low = omega (arith, x .frame .top, c .frame .top, y .frame .top)
 
-      module _ {m4 vis4 : List ℕ} (l : Left tab m3 vis m4 vis4 0 (curOf m3)) where
-        held-still : heldOf m4 ≡ heldOf m
-        held-still = cleared-numbers (root-ready .size) l .held ∙ y .frame .held ∙ c .frame .held ∙ x .frame .held
+        pub leave-asks : (10 ≤ length tab) × ((length m3 ≡ 64) × ((top ≤ topOf m3) × Tabled (slotsIn tab) (topOf m3) vis))
+        leave-asks = let g = ready .fine .long in (omega arith, (root-ready .size, (still-low, root-ready .tabled)))
 
-        at-still : atOf m4 ≡ atOf m
-        at-still = cleared-numbers (root-ready .size) l .at ∙ y .at ∙ c .at ∙ x .at
+        module _ {m4 vis4 : List ℕ} (l : Left tab m3 vis m4 vis4 top (curOf m3)) where
+          held-still : heldOf m4 ≡ heldOf m
+          held-still = cut-numbers (root-ready .size) l .held ∙ y .frame .held ∙ c .frame .held ∙ x .frame .held
 
-        pub pairs-ask : heldOf m * 2 ≤ length held → InNames (slotsIn tab) (pairsIn (heldOf m) held) → slotsIn tab + heldOf m * 3 ≤ atOf m →
-            ((heldOf m4 * 2 ≤ length held) × (InNames (slotsIn tab) (pairsIn (heldOf m4) held) × (slotsIn tab + (topOf m4 + heldOf m4) * 3 ≤ atOf m4 + 1))) × (Fine ws tab × Fits (heldOf m4) 0 ws tab m4 vis4 found3)
-        pairs-ask h n s =
-            let e = held-still in
-            let d = at-still in
-            let t = cleared-numbers (root-ready .size) l .top in
-            ((omega arith, (rw e n, omega arith)), (ready .fine, lower (omega (arith, e)) (omega arith) (cleared-fits root-ready l (root-ready .cur))))
+          at-still : atOf m4 ≡ atOf m
+          at-still = cut-numbers (root-ready .size) l .at ∙ y .at ∙ c .at ∙ x .at
 
-        pub rebinds : {m5 vis5 found5 : List ℕ} → BindsAll (heldOf m4) ws tab m4 vis4 found3 held m5 vis5 found5 → Rebinds ws tab m vis found held m5 vis5 found5 a b
-        unfolding barrier fresh
-        rebinds z =
-            let e = held-still in
-            let d = at-still in
-            let q = cleared-numbers (root-ready .size) l in
-            let t = q .top in
-            record {
-              at = z .at ∙ d;
-              sized = z .sized ∙ q .size ∙ y .sized ∙ c .sized ∙ x .sized;
-              seen = z .seen ∙ l .kept;
-              wrote = z .wrote ∙ y .wrote ∙ c .wrote ∙ x .wrote;
-              fit = λ k f h. let g = rooted k f in z .fit k k (lower (omega (arith, e)) (omega arith) (cleared-fits g l (g .cur))) (omega arith);
-              goes = λ id s h. let u = y .goes id _ (c .goes id _ (x .goes id s h)) in
-                  rw (u .cur, e, x .frame .held) at (z .goes id _ (cleared-holds (root-ready .size) l u));
-            }
+          cut : {e t : ℕ} → Fits e t ws tab m3 vis found3 → Fits e t ws tab m4 vis4 found3
+          cut g = cut-fits g l still-low (below-descends (slotsIn tab) top (topOf m3) (curOf m3) vis still-low (g .descends)) (g .cur)
+
+          pub pairs-ask : heldOf m * 2 ≤ length held → InNames (slotsIn tab) (pairsIn (heldOf m) held) → slotsIn tab + (top + heldOf m) * 3 ≤ atOf m →
+              ((heldOf m4 * 2 ≤ length held) × (InNames (slotsIn tab) (pairsIn (heldOf m4) held) × (slotsIn tab + (topOf m4 + heldOf m4) * 3 ≤ atOf m4 + 1))) × (Fine ws tab × Fits (heldOf m4) 0 ws tab m4 vis4 found3)
+          pairs-ask h n s =
+              let e = held-still in
+              let d = at-still in
+              let t = cut-numbers (root-ready .size) l .top in
+              ((omega arith, (rw e n, omega arith)), (ready .fine, lower (omega (arith, e)) (omega arith) (cut root-ready)))
+
+          pub rebinds : {m5 vis5 found5 : List ℕ} → BindsAll (heldOf m4) ws tab m4 vis4 found3 held m5 vis5 found5 → Rebinds ws tab m vis found held m5 vis5 found5 a b top
+          unfolding barrier
+          rebinds z =
+              let e = held-still in
+              let d = at-still in
+              let q = cut-numbers (root-ready .size) l in
+              let t = q .top in
+              record {
+                at = z .at ∙ d;
+                sized = z .sized ∙ q .size ∙ y .sized ∙ c .sized ∙ x .sized;
+                seen = z .seen ∙ l .kept;
+                wrote = z .wrote ∙ y .wrote ∙ c .wrote ∙ x .wrote;
+                pairs = z .pairs ∙ e;
+                fit = λ k f h. z .fit k k (lower (omega (arith, e)) (omega arith) (cut (rooted k f))) (omega arith);
+                goes = λ id s h. let u = y .goes id _ (c .goes id _ (x .goes id s h)) in
+                    rw (u .cur, e, x .frame .held) at (z .goes id _ (cut-holds (root-ready .size) l u));
+              }

@@ -1,19 +1,22 @@
 -- What the walk over a WITH asks and leaves: the pairs that it holds, carries and binds.
 use Prim.Native.Nat.{ℕ, zero, suc, _+_, _*_, _<_, _≤_}
 use mathlib.Core.Path.{_≡_}
+use mathlib.Core.Bool.{Bool, false}
 use mathlib.Core.List.{List, [], _∷_, _++_}
 use lib.ListN.{length, getD, set, drop}
-use Rattle.heads.specs.Got.{Got, ok, no, bind}
+use Rattle.heads.specs.Got.{Got, ok, no, bind, anyWord, flag}
 use Rattle.heads.specs.Form.{readForm}
 use Rattle.heads.specs.declared.Form.{Form}
 use Rattle.heads.specs.declared.Form.the-variants.{Var, Unresolved}
 use Rattle.clauses.specs.Read.{aliasOf}
 use Rattle.semantics.specs.World.{Direct, other}
-use Rattle.semantics.specs.Resolve.{Pair, pair, bindAll, carries, barrier, fresh}
-use Rattle.semantics.specs.Kinds.{general}
-use Rattle.fused.specs.Fused.{Both}
+use Rattle.scope.specs.Graph.{rootScope}
+use Rattle.semantics.specs.Resolve.{Seen, seen, State, Pair, pair, enter, standing, bindAll, carries, barrier}
+use Rattle.semantics.specs.Kinds.{general, plain}
+use Rattle.fused.specs.Fused.{Both, rowGo}
 use Rattle.fused.specs.Clauses.{within, directForm, directOf, projectionsGo, withGo}
-use Rattle.steps.specs.Memory.{atOf, topOf, heldOf, namesIn, slotsIn, tablesIn, worldAt, modeOf}
+use Rattle.visible.specs.Visible.{seens}
+use Rattle.steps.specs.Memory.{atOf, topOf, heldOf, namesIn, slotsIn, tablesIn, hushedIn, worldAt, modeOf}
 use Rattle.steps.specs.Hold.{Fits, Fit, Holds, onNames}
 use Rattle.walk.specs.Goes.{Goer}
 use Rattle.with_walk.specs.declared.Direct.{Direct as Direct'}
@@ -39,10 +42,12 @@ unfoldable pub InNames : ℕ → List Pair → Type 0
 InNames slots [] = Unit {0}
 InNames slots (pair x v ∷ ps) = (x < slots) × InNames slots ps
 
--- Three words were read for each pair, j of them before; one word pays for its use, two are left for it.
+-- Three words were read for each pair, j of them before; one word pays for its use, two are left for it. What was visible stays below.
 pub record Carried (j : ℕ) (ws tab m vis found held m' vis' found' held' : List ℕ) (G : Projector) : Type 0 where
   pub from : atOf m ≤ atOf m'
   pub paid : heldOf m' * 3 + atOf m ≤ heldOf m * 3 + j + atOf m'
+  pub top : topOf m ≤ topOf m'
+  pub below : seens (slotsIn tab) (topOf m) vis' ≡ seens (slotsIn tab) (topOf m) vis
   pub named : InNames (slotsIn tab) (pairsIn (heldOf m) held) → InNames (slotsIn tab) (pairsIn (heldOf m') held')
   pub fit : (k : ℕ) → Fit (j + k + heldOf m * 2) ws tab m vis found → Fit (k + heldOf m' * 2) ws tab m' vis' found'
   pub goes : (id : ℕ → ℕ) (s : Both) → Holds id tab m vis found s → ComesHolding id ws tab m' vis' found' held' (G id (pairsIn (heldOf m) held) s (drop (atOf m) ws))
@@ -59,10 +64,11 @@ pub record Carries (j : ℕ) (ws tab m vis found held m' vis' found' held' : Lis
   pub kept : length held' ≡ length held
   pub carries : CarriesAs j ws tab m vis found held m' vis' found' held' G r
 
--- while projections are walked: three words were read for each pair that is held, and j more
+-- while projections are walked: three words were read for each pair that is held, and j more; no name is hushed
 pub record Holding (j : ℕ) (ws tab m held : List ℕ) : Type 0 where
   pub room : length ws ≤ length held
   pub few : heldOf m * 3 + j ≤ atOf m
+  pub unmarked : (x : ℕ) → hushedIn tab x ≡ false
 
 -- a pair was held
 pub record Kept (x v : ℕ) (m held m' held' : List ℕ) : Type 0 where
@@ -77,6 +83,7 @@ pub record Adds (ws tab m vis found held m' vis' found' held' : List ℕ) (F : (
   pub wrote : length found' ≡ length found
   pub kept : length held' ≡ length held
   pub more : heldOf m' ≤ heldOf m + 1
+  pub top : topOf m ≤ topOf m'
   pub named : InNames (slotsIn tab) (pairsIn (heldOf m) held) → InNames (slotsIn tab) (pairsIn (heldOf m') held')
   pub fit : (k : ℕ) → Fit (3 + k + heldOf m * 2) ws tab m vis found → Fit (k + heldOf m' * 2) ws tab m' vis' found'
   pub goes : (id : ℕ → ℕ) (s : Both) → Holds id tab m vis found s → Holds id tab m' vis' found' (F id s)
@@ -94,23 +101,43 @@ pub record BindsAll (n : ℕ) (ws tab m vis found held m' vis' found' : List ℕ
   pub sized : length m' ≡ length m
   pub seen : length vis' ≡ length vis
   pub wrote : length found' ≡ length found
+  pub pairs : heldOf m' ≡ heldOf m
   pub fit : (i k : ℕ) → Fits (n + i) k ws tab m vis found → slotsIn tab + (topOf m + n) * 3 + k ≤ atOf m + 1 → Fits i k ws tab m' vis' found'
   pub goes : (id : ℕ → ℕ) (s : Both) → Holds id tab m vis found s → Holds id tab m' vis' found' (onNames (bindAll (worldAt ws tab id) (pairsIn n held)) s)
 
--- what a WITH leaves
-pub record Rebinds (ws tab m vis found held m' vis' found' : List ℕ) (a b : ℕ) : Type 0 where
+-- a new Root under the barrier, where the pairs are bound above what is seen of the names before
+abbrev pub rootedOn : (List Seen) → (ℕ → ℕ) → (ws tab : List ℕ) → (a b : ℕ) → List Pair → State → State
+rootedOn below id ws tab a b ps y =
+    let w = worldAt ws tab id in
+    let t = barrier w a b ps y in
+    bindAll w ps (enter rootScope b b (standing below (t .cur) t))
+
+-- what a WITH leaves: of the names before it the first `top` are seen below the pairs
+pub record Rebinds (ws tab m vis found held m' vis' found' : List ℕ) (a b top : ℕ) : Type 0 where
   pub at : atOf m' ≡ atOf m
   pub sized : length m' ≡ length m
   pub seen : length vis' ≡ length vis
   pub wrote : length found' ≡ length found
-  pub fit : (k : ℕ) → Fit (2 + k + heldOf m * 2) ws tab m vis found → slotsIn tab + heldOf m * 3 + k ≤ atOf m → Fit k ws tab m' vis' found'
-  pub goes : (id : ℕ → ℕ) (s : Both) → Holds id tab m vis found s →
-      Holds id tab m' vis' found' (onNames (λ y. fresh (worldAt ws tab id) b (pairsIn (heldOf m) held) (barrier (worldAt ws tab id) a b (pairsIn (heldOf m) held) y)) s)
+  pub pairs : heldOf m' ≡ heldOf m
+  pub fit : (k : ℕ) → Fit (2 + k + heldOf m * 2) ws tab m vis found → slotsIn tab + (top + heldOf m) * 3 + k ≤ atOf m → Fit k ws tab m' vis' found'
+  pub goes : (id : ℕ → ℕ) (s : Both) → Holds id tab m vis found s → Holds id tab m' vis' found' (onNames (rootedOn (seens (slotsIn tab) top vis) id ws tab a b (pairsIn (heldOf m) held)) s)
+
+-- pairs are seen in the current scope, without an event
+abbrev pub seenBy : List Pair → State → State
+seenBy [] s = s
+seenBy (pair x v ∷ ps) s = seenBy ps (standing (seen x v (s .cur) ∷ s .visible) (s .cur) s)
+
+pub record SeesAll (n : ℕ) (ws tab m vis found held m' vis' : List ℕ) : Type 0 where
+  pub at : atOf m' ≡ atOf m
+  pub sized : length m' ≡ length m
+  pub seen : length vis' ≡ length vis
+  pub fit : (i k : ℕ) → Fits i k ws tab m vis found → slotsIn tab + (topOf m + n) * 3 + k ≤ atOf m + 1 → Fits i k ws tab m' vis' found
+  pub goes : (id : ℕ → ℕ) (s : Both) → Holds id tab m vis found s → Holds id tab m' vis' found (onNames (seenBy (pairsIn n held)) s)
 
 -- What is walked, in a mode; a WITH has its span from a to b.
 module _ (ws tab : List ℕ) (mode : ℕ) where
   abbrev pub projectionsAt : ℕ → Projector
-  projectionsAt n id ps = projectionsGo (worldAt ws tab id) (tablesIn tab) (modeOf mode) n ps
+  projectionsAt n id ps = projectionsGo (worldAt ws tab id) (tablesIn tab) (carries (worldAt ws tab id)) (modeOf mode) n ps
 
   -- the expression of a projection with the alias
   abbrev pub carriedAt : ℕ → Projector
@@ -118,5 +145,14 @@ module _ (ws tab : List ℕ) (mode : ℕ) where
       bind (within (worldAt ws tab id) (tablesIn tab) (modeOf mode) general s r)
       (λ u r2. ok (u, ps ++ carries (worldAt ws tab id) (aliasOf alias) (directOf (readForm (namesIn tab) r)) (u .names .visible)) r2)
 
-  abbrev pub withAt : (a b : ℕ) → Goer
-  withAt a b id = withGo (worldAt ws tab id) (tablesIn tab) (modeOf mode) a b
+  -- projections and a filter, with the pairs so far
+  abbrev pub filteredAt : Projector
+  filteredAt id ps s r =
+      bind (anyWord r)
+      (λ n r1. bind (projectionsAt n id ps s r1)
+      (λ x r2. bind (flag r2)
+      (λ g r3. bind (rowGo (within (worldAt ws tab id) (tablesIn tab) (modeOf mode)) g plain (x .0) r3) (λ u r4. ok (u, x .1) r4))))
+
+  -- a WITH, sorted or not
+  abbrev pub withAt : Bool → (a b : ℕ) → Goer
+  withAt sorts a b id = withGo (worldAt ws tab id) (tablesIn tab) (modeOf mode) a b sorts

@@ -1,7 +1,9 @@
-// WITH: its projections are walked, and what they carry is held; then it is bound in a new Root, and alone visible.
+// WITH: its projections are walked, and what they carry is held; then it is bound in a new Root, and alone visible. Its sort keys are walked
+// before that, while the names before the WITH are still seen below the pairs.
 use clause_parts::DEPTH;
 use clause_parts::Head;
 use clause_parts::next_word;
+use clause_parts::walk_counted;
 use heads::Form;
 use heads::FormRead;
 use heads::Word;
@@ -28,17 +30,19 @@ use visible::find;
 use walk::walk_expr;
 use walk::walk_row;
 ghost use mathlib.Core.Path.{_≡_};
-ghost use mathlib.Core.Bool.{true};
-ghost use Prim.Native.Nat.{_+_, _*_, _<_, _≤_};
+ghost use mathlib.Core.Bool.{true, false};
+ghost use mathlib.Core.List.{List};
+ghost use Prim.Native.Nat.{ℕ, _+_, _*_, _<_, _≤_};
 ghost use lib.ListN.{length};
 ghost use Rattle.words.specs.Words.{words};
 ghost use Rattle.semantics.specs.World.{rowKind, aVar, aName};
 ghost use Rattle.semantics.specs.Resolve.{useVar, carryAll};
 ghost use Rattle.fused.specs.Fused.{nameUse};
+ghost use Rattle.visible.specs.Visible.{Tabled};
 ghost use Rattle.steps.specs.Memory.{atOf, topOf, heldOf, slotsIn, wantsIn, worldAt};
 ghost use Rattle.steps.specs.Hold.{Ready, Fine, Fits, Costs, Steps, onNames};
 ghost use Rattle.clause_parts.specs.Passes.{Held, Passes};
-ghost use Rattle.with_walk.specs.Carries.{Holding, Carries, Kept, Adds, DirectAs, BindsAll, Rebinds, InNames, pairsIn, carriedAt, projectionsAt, withAt};
+ghost use Rattle.with_walk.specs.Carries.{Holding, Carries, Kept, Adds, DirectAs, BindsAll, Rebinds, SeesAll, InNames, pairsIn, carriedAt, projectionsAt, filteredAt, withAt};
 
 // The two forms of an expression that a WITH may carry.
 pub enum Direct {
@@ -157,7 +161,7 @@ fn walk_carried(
     alias: u32,
     mode: u32,
 ) -> u32
-    requires { ⌜ (alias ≤ slotsIn (now tab)) × ((Held (words (now s)) (now held) mode) × ((Holding 1 (words (now s)) (now tab) (now m) (now held)) × (Ready 1 (words (now s)) (now tab) (now m) (now vis) (now found)))) ⌝ }
+    requires { ⌜ (alias ≤ slotsIn (now tab)) × ((Held (words (now s)) (now tab) (now held) mode) × ((Holding 1 (words (now s)) (now tab) (now m) (now held)) × (Ready 1 (words (now s)) (now tab) (now m) (now vis) (now found)))) ⌝ }
     ensures { λ r. ⌜ Carries 1 (words (now (s .entry))) (now (tab .entry)) (now (m .entry)) (now (vis .entry)) (now (found .entry)) (now (held .entry)) (now (m .exit)) (now (vis .exit)) (now (found .exit)) (now (held .exit)) (carriedAt (words (now (s .entry))) (now (tab .entry)) mode alias) r ⌝ }
 {
     let at = m[AT] as usize;
@@ -189,7 +193,7 @@ fn walk_projection(
     held: &mut [u32],
     mode: u32,
 ) -> u32
-    requires { ⌜ (Held (words (now s)) (now held) mode) × ((Holding 0 (words (now s)) (now tab) (now m) (now held)) × (Ready 0 (words (now s)) (now tab) (now m) (now vis) (now found))) ⌝ }
+    requires { ⌜ (Held (words (now s)) (now tab) (now held) mode) × ((Holding 0 (words (now s)) (now tab) (now m) (now held)) × (Ready 0 (words (now s)) (now tab) (now m) (now vis) (now found))) ⌝ }
     ensures { λ r. ⌜ Carries 0 (words (now (s .entry))) (now (tab .entry)) (now (m .entry)) (now (vis .entry)) (now (found .entry)) (now (held .entry)) (now (m .exit)) (now (vis .exit)) (now (found .exit)) (now (held .exit)) (projectionsAt (words (now (s .entry))) (now (tab .entry)) mode 1) r ⌝ }
 {
     let Word::Is(alias) = next_word(s, m, 0, tab[NAMES] as u64 + 1) else {
@@ -209,7 +213,7 @@ fn walk_projections(
     n: u32,
     mode: u32,
 ) -> u32
-    requires { ⌜ (Held (words (now s)) (now held) mode) × ((Holding 0 (words (now s)) (now tab) (now m) (now held)) × (Ready (heldOf (now m) * 2) (words (now s)) (now tab) (now m) (now vis) (now found))) ⌝ }
+    requires { ⌜ (Held (words (now s)) (now tab) (now held) mode) × ((Holding 0 (words (now s)) (now tab) (now m) (now held)) × (Ready (heldOf (now m) * 2) (words (now s)) (now tab) (now m) (now vis) (now found))) ⌝ }
     ensures { λ r. ⌜ Carries 0 (words (now (s .entry))) (now (tab .entry)) (now (m .entry)) (now (vis .entry)) (now (found .entry)) (now (held .entry)) (now (m .exit)) (now (vis .exit)) (now (found .exit)) (now (held .exit)) (projectionsAt (words (now (s .entry))) (now (tab .entry)) mode n) r ⌝ }
 {
     let mut left = n;
@@ -278,7 +282,7 @@ fn bind_pairs(
     }
 }
 
-// The pairs that are held are carried by a barrier, and bound in a new Root, where nothing else is visible.
+// The pairs that are held are carried by a barrier, and bound in a new Root above the first `top` names that are visible.
 fn bind_with(
     s: &[u8],
     tab: &[u32],
@@ -287,16 +291,59 @@ fn bind_with(
     found: &mut [u32],
     held: &[u32],
     head: Head,
+    top: u32,
 )
-    requires { ⌜ ((heldOf (now m) * 2 ≤ length (now held)) × (InNames (slotsIn (now tab)) (pairsIn (heldOf (now m)) (now held)) × (slotsIn (now tab) + heldOf (now m) * 3 ≤ atOf (now m)))) × Ready (2 + heldOf (now m) * 2) (words (now s)) (now tab) (now m) (now vis) (now found) ⌝ }
-    ensures { λ r. ⌜ Rebinds (words (now (s .entry))) (now (tab .entry)) (now (m .entry)) (now (vis .entry)) (now (found .entry)) (now (held .entry)) (now (m .exit)) (now (vis .exit)) (now (found .exit)) (head .start) (head .end) ⌝ }
+    requires { ⌜ ((heldOf (now m) * 2 ≤ length (now held)) × (InNames (slotsIn (now tab)) (pairsIn (heldOf (now m)) (now held)) × ((top ≤ topOf (now m)) × (slotsIn (now tab) + (top + heldOf (now m)) * 3 ≤ atOf (now m))))) × Ready (2 + heldOf (now m) * 2) (words (now s)) (now tab) (now m) (now vis) (now found) ⌝ }
+    ensures { λ r. ⌜ Rebinds (words (now (s .entry))) (now (tab .entry)) (now (m .entry)) (now (vis .entry)) (now (found .entry)) (now (held .entry)) (now (m .exit)) (now (vis .exit)) (now (found .exit)) (head .start) (head .end) top ⌝ }
 {
     enter(s, tab, m, vis, found, 7, head.start, head.end);
     carry_pairs(s, tab, m, vis, found, held);
     enter(s, tab, m, vis, found, 1, head.end, head.end);
     let root = m[CUR];
-    leave(tab, m, vis, 0, root);
+    leave(tab, m, vis, top, root);
     bind_pairs(s, tab, m, vis, found, held);
+}
+
+// The pairs that are held are seen in the current scope, without an event.
+fn see_pairs(tab: &[u32], m: &mut [u32], vis: &mut [u32], held: &[u32])
+    requires { ⌜ ((10 ≤ length (now tab)) × ((length (now m) ≡ 64) × (heldOf (now m) * 2 ≤ length (now held)))) × (InNames (slotsIn (now tab)) (pairsIn (heldOf (now m)) (now held)) × (Tabled (slotsIn (now tab)) (topOf (now m)) (now vis) × ((topOf (now m) + heldOf (now m) < 4294967296) × (slotsIn (now tab) + (topOf (now m) + heldOf (now m)) * 4 ≤ length (now vis))))) ⌝ }
+    ensures { λ r. ⌜ ((ws found : List ℕ) → SeesAll (heldOf (now (m .entry))) ws (now (tab .entry)) (now (m .entry)) (now (vis .entry)) found (now (held .entry)) (now (m .exit)) (now (vis .exit))) ⌝ }
+{
+    let n = m[HELD] as usize;
+    let cur = m[CUR];
+    let mut i = 0;
+    while i < n {
+        let k = i * 2;
+        let t = bind(vis, tab[SLOTS], m[TOP], held[k], held[k + 1], cur);
+        m[TOP] = t;
+        i += 1;
+    }
+}
+
+// A count, projections, a flag and a filter if it is 1: the pairs that the projections carry are held behind those there are.
+fn walk_filtered(
+    s: &[u8],
+    tab: &[u32],
+    m: &mut [u32],
+    vis: &mut [u32],
+    found: &mut [u32],
+    held: &mut [u32],
+    mode: u32,
+) -> u32
+    requires { ⌜ (Held (words (now s)) (now tab) (now held) mode) × ((Holding 0 (words (now s)) (now tab) (now m) (now held)) × (Ready (heldOf (now m) * 2) (words (now s)) (now tab) (now m) (now vis) (now found))) ⌝ }
+    ensures { λ r. ⌜ Carries 0 (words (now (s .entry))) (now (tab .entry)) (now (m .entry)) (now (vis .entry)) (now (found .entry)) (now (held .entry)) (now (m .exit)) (now (vis .exit)) (now (found .exit)) (now (held .exit)) (filteredAt (words (now (s .entry))) (now (tab .entry)) mode) r ⌝ }
+{
+    let Word::Is(n) = next_word(s, m, 0, 4294967296) else {
+        return 5;
+    };
+    let r = walk_projections(s, tab, m, vis, found, held, n, mode);
+    if r != 0 {
+        return r;
+    }
+    let Word::Is(g) = next_word(s, m, 0, 2) else {
+        return 5;
+    };
+    walk_row(s, tab, m, vis, found, DEPTH, g as usize, mode / 64 * 64)
 }
 
 // WITH.
@@ -310,24 +357,45 @@ pub fn walk_with(
     head: Head,
     mode: u32,
 ) -> u32
-    requires { ⌜ Held (words (now s)) (now held) mode × (Ready 3 (words (now s)) (now tab) (now m) (now vis) (now found)) ⌝ }
-    ensures { λ r. ⌜ Passes 3 (words (now (s .entry))) (now (tab .entry)) (now (m .entry)) (now (vis .entry)) (now (found .entry)) (now (held .entry)) (now (m .exit)) (now (vis .exit)) (now (found .exit)) (now (held .exit)) (withAt (words (now (s .entry))) (now (tab .entry)) mode (head .start) (head .end)) r ⌝ }
+    requires { ⌜ Held (words (now s)) (now tab) (now held) mode × (Ready 3 (words (now s)) (now tab) (now m) (now vis) (now found)) ⌝ }
+    ensures { λ r. ⌜ Passes 3 (words (now (s .entry))) (now (tab .entry)) (now (m .entry)) (now (vis .entry)) (now (found .entry)) (now (held .entry)) (now (m .exit)) (now (vis .exit)) (now (found .exit)) (now (held .exit)) (withAt (words (now (s .entry))) (now (tab .entry)) mode false (head .start) (head .end)) r ⌝ }
 {
-    let Word::Is(n) = next_word(s, m, 0, 4294967296) else {
-        return 5;
-    };
     m[HELD] = 0;
-    let r = walk_projections(s, tab, m, vis, found, held, n, mode);
+    let r = walk_filtered(s, tab, m, vis, found, held, mode);
     if r != 0 {
         return r;
     }
-    let Word::Is(g) = next_word(s, m, 0, 2) else {
-        return 5;
-    };
-    let q = walk_row(s, tab, m, vis, found, DEPTH, g as usize, mode / 64 * 64);
+    bind_with(s, tab, m, vis, found, held, head, 0);
+    0
+}
+
+// WITH and sort keys, which see the pairs in the new Root, and below them the names before.
+pub fn walk_sorted_with(
+    s: &[u8],
+    tab: &[u32],
+    m: &mut [u32],
+    vis: &mut [u32],
+    found: &mut [u32],
+    held: &mut [u32],
+    head: Head,
+    mode: u32,
+) -> u32
+    requires { ⌜ Held (words (now s)) (now tab) (now held) mode × (Ready 3 (words (now s)) (now tab) (now m) (now vis) (now found)) ⌝ }
+    ensures { λ r. ⌜ Passes 3 (words (now (s .entry))) (now (tab .entry)) (now (m .entry)) (now (vis .entry)) (now (found .entry)) (now (held .entry)) (now (m .exit)) (now (vis .exit)) (now (found .exit)) (now (held .exit)) (withAt (words (now (s .entry))) (now (tab .entry)) mode true (head .start) (head .end)) r ⌝ }
+{
+    let top = m[TOP];
+    m[HELD] = 0;
+    let r = walk_filtered(s, tab, m, vis, found, held, mode);
+    if r != 0 {
+        return r;
+    }
+    bind_with(s, tab, m, vis, found, held, head, top);
+    let root = m[CUR];
+    let q = walk_counted(s, tab, m, vis, found, mode);
     if q != 0 {
         return q;
     }
-    bind_with(s, tab, m, vis, found, held, head);
+    leave(tab, m, vis, 0, root);
+    see_pairs(tab, m, vis, held);
     0
 }

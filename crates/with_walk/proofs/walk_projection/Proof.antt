@@ -2,7 +2,8 @@
 use borrow.Author.Needs.{needs}
 use native.Mathlib.Omega.{arith}
 use Rattle.clause_parts.proofs.Passing.{in-range}
-use Rattle.with_walk.proofs.Projected.{alias-refused, alias-holding, alias-ready, alias-passes}
+use Rattle.with_walk.proofs.Chained.{word-holding, word-ready}
+use Rattle.with_walk.proofs.Projected.{alias-refused, alias-passes}
 use Rattle.with_walk.proofs.walk_projection.Statement.{statement}
 use Rattle.with_walk.proofs.walk_projection.Tie as tie
 
@@ -18,9 +19,9 @@ walk-projection-spec =
     (λ c. search needs)  -- enum-told
     (λ c. search needs)  -- same-length
     (λ c. alias-refused (c .before .before .before .before .before .before .before .before .before .before .before .before .before .args .mode) (c .before .before .before .before .next-word .ensures) (c .enum-told .given .1))  -- returns
-    (λ c κs. (omega (arith, in-range (c .before .before .before .before .before .before .before .before .before .next-word .ensures) (c .before .before .before .before .before .alias .given .1) .1, c .before .before .before .before .before .before .before .before .before .before .before .before .before .before .before .before .before .before .pre .1 .1 .fine .places), (c .before .before .before .before .before .before .before .before .before .before .before .before .before .before .before .before .before .before .pre .0, (alias-holding (c .before .before .before .before .before .before .before .before .before .before .before .before .before .before .before .before .before .before .pre .1 .1 .fit .size) (c .before .before .before .before .before .before .before .before .before .before .before .before .before .before .before .before .before .before .pre .1 .0) (c .before .before .before .before .before .before .before .before .before .next-word .ensures) (c .before .before .before .before .before .alias .given .1), alias-ready (c .before .before .before .before .before .before .before .before .before .before .before .before .before .before .before .before .before .before .pre .1 .1) (c .before .before .before .before .before .before .before .before .before .next-word .ensures) (c .before .before .before .before .before .alias .given .1)))))  -- walk-carried-requires
+    (λ c κs. (omega (arith, in-range (c .before .before .before .before .before .before .before .before .before .next-word .ensures) (c .before .before .before .before .before .alias .given .1) .1, c .before .before .before .before .before .before .before .before .before .before .before .before .before .before .before .before .before .before .pre .1 .1 .fine .places), (c .before .before .before .before .before .before .before .before .before .before .before .before .before .before .before .before .before .before .pre .0, (word-holding (c .before .before .before .before .before .before .before .before .before .before .before .before .before .before .before .before .before .before .pre .1 .1 .fit .size) (c .before .before .before .before .before .before .before .before .before .next-word .ensures) (c .before .before .before .before .before .alias .given .1) (omega arith) (c .before .before .before .before .before .before .before .before .before .before .before .before .before .before .before .before .before .before .pre .1 .0), word-ready (c .before .before .before .before .before .before .before .before .before .next-word .ensures) (c .before .before .before .before .before .alias .given .1) (omega arith) (c .before .before .before .before .before .before .before .before .before .before .before .before .before .before .before .before .before .before .pre .1 .1)))))  -- walk-carried-requires
     (λ c. search needs)  -- same-length-2
     (λ c. search needs)  -- same-length-3
     (λ c. search needs)  -- same-length-4
     (λ c. search needs)  -- same-length-5
-    (λ c. alias-passes (c .before .before .before .before .before .before .before .before .before .before .before .before .before .before .before .before .before .before .before .before .before .before .before .before .before .before .before .args .mode) _ (c .before .before .before .before .before .before .before .before .before .before .before .before .before .before .before .before .before .before .before .before .before .before .before .before .before .before .before .pre .1 .1) (c .before .before .before .before .before .before .before .before .before .before .before .before .before .before .before .before .before .before .next-word .ensures) (c .before .before .before .before .before .before .before .before .before .before .before .before .before .before .alias .given .1) (c .before .before .before .before .before .before .before .before .walk-carried .ensures)))  -- returns-2
+    (λ c. alias-passes (c .before .before .before .before .before .before .before .before .before .before .before .before .before .before .before .before .before .before .before .before .before .before .before .before .before .before .before .args .mode) (c .before .before .before .before .before .before .before .before .before .before .before .before .before .before .before .before .before .before .next-word .ensures) _ (c .before .before .before .before .before .before .before .before .before .before .before .before .before .before .before .before .before .before .before .before .before .before .before .before .before .before .before .pre .1 .1 .fit .size) (c .before .before .before .before .before .before .before .before .before .before .before .before .before .before .alias .given .1) (c .before .before .before .before .before .before .before .before .walk-carried .ensures)))  -- returns-2
