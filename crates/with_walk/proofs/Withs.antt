@@ -19,6 +19,7 @@ use Rattle.steps.specs.Hold.{Fit, Holds, Ready, Left, onNames}
 use Rattle.steps.proofs.Held.{Numbers, unset, store, lower, refit}
 use Rattle.walk.specs.Goes.{Walked}
 use Rattle.clause_parts.specs.Passes.{Held, Passes, countedAt}
+use Rattle.clause_parts.proofs.Passing.{none-hushed}
 use Rattle.with_walk.specs.Carries.{pairsIn, InNames, Holding, Carries, ComesHolding, Rebinds, SeesAll, rootedOn, seenBy, filteredAt, withAt}
 use Rattle.clause_parts.proofs.Cleared.{names-step, cut-numbers, cut-holds, cleared-fits}
 use Rattle.with_walk.proofs.Seeing.{renewed, rooted-beside, seen-again}
@@ -69,10 +70,10 @@ module _ (m : List ℕ) (size : length m ≡ 64) where
       record { visible = rw (q .top) (h .visible); cur = q .cur ∙ h .cur; last = q .last ∙ h .last; log = rw (q .said) (h .log); kinds = rw (q .told) (h .kinds); known = rw (q .lost) (h .known) }
 
 pub filter-asks : {ws tab m vis found held : List ℕ} {mode : ℕ} → Held ws tab held mode → Ready 3 ws tab m vis found → Held ws tab held mode × (Holding 0 ws tab (set m 7 0) held × Ready (heldOf (set m 7 0) * 2) ws tab (set m 7 0) vis found)
-filter-asks {m = m} h r =
+filter-asks {tab = tab} {m = m} h r =
     let q = unheld m (r .fit .size) in
     let z = q .held in
-    (h, (record { room = h .room; few = omega (arith, z); unmarked = none-hushed _ (h .unmarked) }, record { fine = r .fine; fit = lower (omega (arith, z)) (omega (arith, z)) (unheld-fit m (r .fit .size) (r .fit)) }))
+    (h, (record { room = h .room; few = omega (arith, z); unmarked = none-hushed tab (h .unmarked) }, record { fine = r .fine; fit = lower (omega (arith, z)) (omega (arith, z)) (unheld-fit m (r .fit .size) (r .fit)) }))
 
 -- ---- what projections and filter leave
 pub record Filtered (mode : ℕ) (ws tab m vis found held m' vis' found' held' : List ℕ) : Type 0 where
