@@ -27,15 +27,15 @@ body-is mode a b k e x = rw e x
 abbrev Not : ℕ → ℕ → Type 0
 Not k n = k ≡ n → ⊥
 
-pub body-none : {ws tab m vis found held : List ℕ} (mode a b k : ℕ) → Not k 1 → Not k 2 → Not k 3 → Not k 4 → Not k 5 → Not k 6 → Not k 7 → Not k 8 → Not k 9 → Not k 10 → Not k 11 → Passes 3 ws tab m vis found held m vis found held (bodyAt ws tab mode a b k) 5
+pub body-none : {ws tab m vis found held : List ℕ} (mode a b k : ℕ) → Not k 1 → Not k 2 → Not k 3 → Not k 4 → Not k 5 → Not k 6 → Not k 7 → Not k 8 → Not k 9 → Not k 10 → Not k 11 → Not k 12 → Not k 13 → Passes 3 ws tab m vis found held m vis found held (bodyAt ws tab mode a b k) 5
 unfolding bodyGo
-body-none mode a b k h1 h2 h3 h4 h5 h6 h7 h8 h9 h10 h11 =
+body-none mode a b k h1 h2 h3 h4 h5 h6 h7 h8 h9 h10 h11 h12 h13 =
     record {
       sized = refl;
       seen = refl;
       wrote = refl;
       kept = refl;
-      passes = λ id s h. rw (ne-eqb k 1 h1, ne-eqb k 2 h2, ne-eqb k 3 h3, ne-eqb k 4 h4, ne-eqb k 5 h5, ne-eqb k 6 h6, ne-eqb k 7 h7, ne-eqb k 8 h8, ne-eqb k 9 h9, ne-eqb k 10 h10, ne-eqb k 11 h11);
+      passes = λ id s h. rw (ne-eqb k 1 h1, ne-eqb k 2 h2, ne-eqb k 3 h3, ne-eqb k 4 h4, ne-eqb k 5 h5, ne-eqb k 6 h6, ne-eqb k 7 h7, ne-eqb k 8 h8, ne-eqb k 9 h9, ne-eqb k 10 h10, ne-eqb k 11 h11, ne-eqb k 12 h12, ne-eqb k 13 h13);
     }
 
 pub cut-all : {j : ℕ} {ws tab m vis found : List ℕ} → Ready j ws tab m vis found → (10 ≤ length tab) × ((length m ≡ 64) × ((0 ≤ topOf m) × Tabled (slotsIn tab) (topOf m) vis))

@@ -1,2 +1,3 @@
 pub mod Rescoped
 pub mod Bodies
+pub mod Rounds

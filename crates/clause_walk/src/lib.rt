@@ -1,11 +1,13 @@
 // Clauses and arms, read and walked in one over any words: the refusal, or where both walks stand then. `head` is what a clause begins with:
-// its kind, its start, its end. `held` has the pairs that a WITH is to carry, two words each, while its projections are walked.
+// its kind, its start, its end. `held` has the pairs that a WITH is to carry, two words each, or the aliases of a RETURN with sort keys, while
+// its projections are walked. Such a RETURN marks these in `tab`, and leaves it as it was.
 use clause_parts::DEPTH;
 use clause_parts::Head;
 use clause_parts::next_word;
 use clause_parts::walk_counted;
 use heads::Word;
 use return_walk::walk_return;
+use return_walk::walk_sorted_return;
 use steps::NAMES;
 use steps::Row;
 use steps::bind_anew;
@@ -17,6 +19,7 @@ use walk::walk_expr;
 use walk::walk_marks;
 use walk::walk_pattern;
 use walk::walk_row;
+use with_walk::walk_sorted_with;
 use with_walk::walk_with;
 ghost use mathlib.Core.Path.{_≡_};
 ghost use mathlib.Core.Bool.{true};
@@ -201,7 +204,7 @@ fn walk_match(
 // What follows the kind and the span of a clause.
 fn walk_body(
     s: &[u8],
-    tab: &[u32],
+    tab: &mut [u32],
     m: &mut [u32],
     vis: &mut [u32],
     found: &mut [u32],
@@ -209,8 +212,8 @@ fn walk_body(
     head: Head,
     mode: u32,
 ) -> u32
-    requires { ⌜ Held (words (now s)) (now held) mode × (Ready 3 (words (now s)) (now tab) (now m) (now vis) (now found)) ⌝ }
-    ensures { λ r. ⌜ Passes 3 (words (now (s .entry))) (now (tab .entry)) (now (m .entry)) (now (vis .entry)) (now (found .entry)) (now (held .entry)) (now (m .exit)) (now (vis .exit)) (now (found .exit)) (now (held .exit)) (bodyAt (words (now (s .entry))) (now (tab .entry)) mode (head .start) (head .end) (head .kind)) r ⌝ }
+    requires { ⌜ Held (words (now s)) (now tab) (now held) mode × (Ready 3 (words (now s)) (now tab) (now m) (now vis) (now found)) ⌝ }
+    ensures { λ r. ⌜ (now (tab .exit) ≡ now (tab .entry)) × Passes 3 (words (now (s .entry))) (now (tab .entry)) (now (m .entry)) (now (vis .entry)) (now (found .entry)) (now (held .entry)) (now (m .exit)) (now (vis .exit)) (now (found .exit)) (now (held .exit)) (bodyAt (words (now (s .entry))) (now (tab .entry)) mode (head .start) (head .end) (head .kind)) r ⌝ }
 {
     let kind = head.kind;
     match kind {
@@ -225,6 +228,8 @@ fn walk_body(
         9 => walk_marked(s, tab, m, vis, found, 2, mode),
         10 => walk_counted(s, tab, m, vis, found, mode),
         11 => walk_call(s, tab, m, vis, found, head, mode),
+        12 => walk_sorted_with(s, tab, m, vis, found, held, head, mode),
+        13 => walk_sorted_return(s, tab, m, vis, found, held, head, mode),
         _ => 5,
     }
 }
@@ -232,15 +237,15 @@ fn walk_body(
 // A clause.
 fn walk_clause(
     s: &[u8],
-    tab: &[u32],
+    tab: &mut [u32],
     m: &mut [u32],
     vis: &mut [u32],
     found: &mut [u32],
     held: &mut [u32],
     mode: u32,
 ) -> u32
-    requires { ⌜ Held (words (now s)) (now held) mode × (Ready 0 (words (now s)) (now tab) (now m) (now vis) (now found)) ⌝ }
-    ensures { λ r. ⌜ Passes 0 (words (now (s .entry))) (now (tab .entry)) (now (m .entry)) (now (vis .entry)) (now (found .entry)) (now (held .entry)) (now (m .exit)) (now (vis .exit)) (now (found .exit)) (now (held .exit)) (clauseAt (words (now (s .entry))) (now (tab .entry)) mode) r ⌝ }
+    requires { ⌜ Held (words (now s)) (now tab) (now held) mode × (Ready 0 (words (now s)) (now tab) (now m) (now vis) (now found)) ⌝ }
+    ensures { λ r. ⌜ (now (tab .exit) ≡ now (tab .entry)) × Passes 0 (words (now (s .entry))) (now (tab .entry)) (now (m .entry)) (now (vis .entry)) (now (found .entry)) (now (held .entry)) (now (m .exit)) (now (vis .exit)) (now (found .exit)) (now (held .exit)) (clauseAt (words (now (s .entry))) (now (tab .entry)) mode) r ⌝ }
 {
     let Word::Is(kind) = next_word(s, m, 0, 4294967296) else {
         return 5;
@@ -270,7 +275,7 @@ fn walk_clause(
 // n clauses.
 pub fn walk_clauses(
     s: &[u8],
-    tab: &[u32],
+    tab: &mut [u32],
     m: &mut [u32],
     vis: &mut [u32],
     found: &mut [u32],
@@ -278,8 +283,8 @@ pub fn walk_clauses(
     n: u32,
     mode: u32,
 ) -> u32
-    requires { ⌜ Held (words (now s)) (now held) mode × (Ready 0 (words (now s)) (now tab) (now m) (now vis) (now found)) ⌝ }
-    ensures { λ r. ⌜ Passes 0 (words (now (s .entry))) (now (tab .entry)) (now (m .entry)) (now (vis .entry)) (now (found .entry)) (now (held .entry)) (now (m .exit)) (now (vis .exit)) (now (found .exit)) (now (held .exit)) (clausesAt (words (now (s .entry))) (now (tab .entry)) mode n) r ⌝ }
+    requires { ⌜ Held (words (now s)) (now tab) (now held) mode × (Ready 0 (words (now s)) (now tab) (now m) (now vis) (now found)) ⌝ }
+    ensures { λ r. ⌜ (now (tab .exit) ≡ now (tab .entry)) × Passes 0 (words (now (s .entry))) (now (tab .entry)) (now (m .entry)) (now (vis .entry)) (now (found .entry)) (now (held .entry)) (now (m .exit)) (now (vis .exit)) (now (found .exit)) (now (held .exit)) (clausesAt (words (now (s .entry))) (now (tab .entry)) mode n) r ⌝ }
 {
     let mut left = n;
     while 0 < left {
@@ -295,14 +300,14 @@ pub fn walk_clauses(
 // An arm: from scope 0, with nothing visible, and no kinds checked.
 fn walk_arm(
     s: &[u8],
-    tab: &[u32],
+    tab: &mut [u32],
     m: &mut [u32],
     vis: &mut [u32],
     found: &mut [u32],
     held: &mut [u32],
 ) -> u32
-    requires { ⌜ Held (words (now s)) (now held) 64 × (Ready 0 (words (now s)) (now tab) (now m) (now vis) (now found)) ⌝ }
-    ensures { λ r. ⌜ Passes 0 (words (now (s .entry))) (now (tab .entry)) (now (m .entry)) (now (vis .entry)) (now (found .entry)) (now (held .entry)) (now (m .exit)) (now (vis .exit)) (now (found .exit)) (now (held .exit)) (armAt (words (now (s .entry))) (now (tab .entry)) 192) r ⌝ }
+    requires { ⌜ Held (words (now s)) (now tab) (now held) 64 × (Ready 0 (words (now s)) (now tab) (now m) (now vis) (now found)) ⌝ }
+    ensures { λ r. ⌜ (now (tab .exit) ≡ now (tab .entry)) × Passes 0 (words (now (s .entry))) (now (tab .entry)) (now (m .entry)) (now (vis .entry)) (now (found .entry)) (now (held .entry)) (now (m .exit)) (now (vis .exit)) (now (found .exit)) (now (held .exit)) (armAt (words (now (s .entry))) (now (tab .entry)) 192) r ⌝ }
 {
     let Word::Is(start) = next_word(s, m, 0, 4294967296) else {
         return 5;
@@ -320,15 +325,15 @@ fn walk_arm(
 // n arms.
 pub fn walk_arms(
     s: &[u8],
-    tab: &[u32],
+    tab: &mut [u32],
     m: &mut [u32],
     vis: &mut [u32],
     found: &mut [u32],
     held: &mut [u32],
     n: u32,
 ) -> u32
-    requires { ⌜ Held (words (now s)) (now held) 64 × (Ready 0 (words (now s)) (now tab) (now m) (now vis) (now found)) ⌝ }
-    ensures { λ r. ⌜ Passes 0 (words (now (s .entry))) (now (tab .entry)) (now (m .entry)) (now (vis .entry)) (now (found .entry)) (now (held .entry)) (now (m .exit)) (now (vis .exit)) (now (found .exit)) (now (held .exit)) (armsAt (words (now (s .entry))) (now (tab .entry)) 192 n) r ⌝ }
+    requires { ⌜ Held (words (now s)) (now tab) (now held) 64 × (Ready 0 (words (now s)) (now tab) (now m) (now vis) (now found)) ⌝ }
+    ensures { λ r. ⌜ (now (tab .exit) ≡ now (tab .entry)) × Passes 0 (words (now (s .entry))) (now (tab .entry)) (now (m .entry)) (now (vis .entry)) (now (found .entry)) (now (held .entry)) (now (m .exit)) (now (vis .exit)) (now (found .exit)) (now (held .exit)) (armsAt (words (now (s .entry))) (now (tab .entry)) 192 n) r ⌝ }
 {
     let mut left = n;
     while 0 < left {

@@ -25,29 +25,30 @@ walk-arm-spec =
     let one = fact (λ (k : tie.After-known-told). past (begun (k .before .before .before .before .before .before .before .before .before .before .before .before .before)) (k .before .before .before .before .before .next-word .ensures) (k .before .start .given .1)) in
     let two = fact (λ (k : tie.After-enum-told2). past (one (k .before .before .before .before .before .before)) (k .before .before .before .before .next-word2 .ensures) (k .enum-told2 .given .1)) in
     let three = fact (λ (k : tie.After-known-told2). past (two (k .before .before .before .before .before .before .before)) (k .before .before .before .before .before .next-word3 .ensures) (k .before .n .given .1)) in
-    let four = fact (λ (k : tie.After-leave). let a = k .before .before .before .before .before .before .before .before .before .before .before .before .before .before .before .before .before .before .before .before .before .before .before .before .before .before .before .before .before .args in cleared (λ id u w. last (clausesAt (words (a .s .now)) (a .tab .now) 64 (k .before .before .before .before .n .given .0 .0) id w)) (k .leave .ensures) (three (k .before .before .before))) in
-    let ended = fact (λ (k : tie.After-walk-clauses). last-one _ (omega arith) refl (four (k .before .before .before .before .before .before .before .before .before)) (k .walk-clauses .ensures)) in
+    let four = fact (λ (k : tie.After-leave). let a = k .before .before .before .before .before .before .before .before .before .before .before .before .before .before .before .before .before .before .before .before .before .before .before .before .before .before .before .before .before .before .args in cleared (λ id u w. last (clausesAt (words (a .s .now)) (a .tab .now) 64 (k .before .before .before .before .before .n .given .0 .0) id w)) (k .leave .ensures) (three (k .before .before .before .before))) in
+    let ended = fact (λ (k : tie.After-walk-clauses). last-one _ (omega arith) refl (four (k .before .before .before .before .before .before .before .before .before .before)) (k .walk-clauses .ensures .1)) in
     tie.close
     (tie.spec
     (λ c κs. asked (c .before .before .before .before .before .before .before .pre .1))  -- next-word-requires
     (λ c. search needs)  -- enum-known-start
     (λ c. search needs)  -- enum-told
     (λ c. search needs)  -- same-length
-    (λ c. halted (begun (c .before .before .before .before .before .before .before .before .before .before .before .before)) (c .before .before .before .before .next-word .ensures) (c .enum-told .given .1) refl)  -- returns
+    (λ c. (refl, halted (begun (c .before .before .before .before .before .before .before .before .before .before .before .before)) (c .before .before .before .before .next-word .ensures) (c .enum-told .given .1) refl))  -- returns
     (λ c κs. asked (ready {i = 0} (omega arith) (c .before .before .before .before .before .before .before .before .before .before .before .before .before .before .pre .1) (one (c .before))))  -- next-word-requires-2
     (λ c. search needs)  -- enum-told-2
     (λ c. search needs)  -- enum-told-3
     (λ c. search needs)  -- same-length-2
-    (λ c. halted (one (c .before .before .before .before .before .before)) (c .before .before .before .before .next-word2 .ensures) (c .enum-told3 .given .1) refl)  -- returns-2
+    (λ c. (refl, halted (one (c .before .before .before .before .before .before)) (c .before .before .before .before .next-word2 .ensures) (c .enum-told3 .given .1) refl))  -- returns-2
     (λ c κs. asked (ready {i = 0} (omega arith) (c .before .before .before .before .before .before .before .before .before .before .before .before .before .before .before .before .before .before .before .before .pre .1) (two (c .before))))  -- next-word-requires-3
     (λ c. search needs)  -- enum-known-n
     (λ c. search needs)  -- enum-told-4
     (λ c. search needs)  -- same-length-3
-    (λ c. halted (two (c .before .before .before .before .before .before)) (c .before .before .before .before .next-word3 .ensures) (c .enum-told4 .given .1) refl)  -- returns-3
-    (λ c κs. cut-all (ready {i = 0} (omega arith) (c .before .before .before .before .before .before .before .before .before .before .before .before .before .before .before .before .before .before .before .before .before .before .before .before .before .before .before .before .pre .1) (three (c .before .before))))  -- leave-requires
-    (λ c κs. (c .before .before .before .before .before .before .before .before .before .before .before .before .before .before .before .before .before .before .before .before .before .before .before .before .before .before .before .before .before .before .before .before .before .before .before .before .before .pre .0, ready (omega arith) (c .before .before .before .before .before .before .before .before .before .before .before .before .before .before .before .before .before .before .before .before .before .before .before .before .before .before .before .before .before .before .before .before .before .before .before .before .before .pre .1) (four (c .before .before .before .before .before .before .before .before))))  -- walk-clauses-requires
-    (λ c. ended (c .before .before .before .before .before .before .before .before) .sized)  -- same-length-4
-    (λ c. ended (c .before .before .before .before .before .before .before .before) .seen)  -- same-length-5
-    (λ c. ended (c .before .before .before .before .before .before .before .before) .wrote)  -- same-length-6
-    (λ c. ended (c .before .before .before .before .before .before .before .before) .kept)  -- same-length-7
-    (λ c. ended (c .before .before .before .before .before .before .before .before)))  -- returns-4
+    (λ c. (refl, halted (two (c .before .before .before .before .before .before)) (c .before .before .before .before .next-word3 .ensures) (c .enum-told4 .given .1) refl))  -- returns-3
+    (λ c κs. cut-all (ready {i = 0} (omega arith) (c .before .before .before .before .before .before .before .before .before .before .before .before .before .before .before .before .before .before .before .before .before .before .before .before .before .before .before .before .before .pre .1) (three (c .before .before .before))))  -- leave-requires
+    (λ c κs. (c .before .before .before .before .before .before .before .before .before .before .before .before .before .before .before .before .before .before .before .before .before .before .before .before .before .before .before .before .before .before .before .before .before .before .before .before .before .before .before .pre .0, ready (omega arith) (c .before .before .before .before .before .before .before .before .before .before .before .before .before .before .before .before .before .before .before .before .before .before .before .before .before .before .before .before .before .before .before .before .before .before .before .before .before .before .before .pre .1) (four (c .before .before .before .before .before .before .before .before .before))))  -- walk-clauses-requires
+    (λ c. search needs)  -- same-length-4
+    (λ c. ended (c .before .before .before .before .before .before .before .before .before .before) .sized)  -- same-length-5
+    (λ c. ended (c .before .before .before .before .before .before .before .before .before .before) .seen)  -- same-length-6
+    (λ c. search needs)  -- same-length-7
+    (λ c. search needs)  -- same-length-8
+    (λ c. (c .before .before .before .before .before .before .before .before .before .before .walk-clauses .ensures .0, ended (c .before .before .before .before .before .before .before .before .before .before))))  -- returns-4

@@ -1,6 +1,7 @@
 -- The scope is opened, the arguments are walked unresolved, and the yields are bound.
 use Prim.Native.Nat.{_*_, _/_}
 use borrow.Author.Needs.{needs}
+use mathlib.Core.List.{[]}
 use mathlib.Core.Option.{none}
 use mathlib.Core.Path.{refl}
 use native.Mathlib.Omega.{arith}
@@ -12,7 +13,7 @@ use Rattle.steps.proofs.Held.{ready-less}
 use Rattle.steps.specs.Hold.{onNames}
 use Rattle.walk.proofs.Stage.{did, start, ready}
 use Rattle.words.specs.Words.{words}
-use Rattle.clause_parts.proofs.Passing.{asked, went, fell, last-one, past, halted}
+use Rattle.clause_parts.proofs.Passing.{forget, asked, went, fell, last-one, past, halted}
 use Rattle.clause_walk.proofs.Rescoped.{call-as}
 use Rattle.clause_walk.proofs.walk_call.Statement.{statement}
 use Rattle.clause_walk.proofs.walk_call.Tie as tie
@@ -23,7 +24,7 @@ pub walk-call-spec : {M : Type 1} → statement M
 walk-call-spec =
     let begun = fact (λ (k : tie.Start). let a = k .args in start {keep = none} {G = callAt (words (a .s .now)) (a .tab .now) (a .mode) (a .head .start) (a .head .end)} (λ id u w. step (countedAt (words (a .s .now)) (a .tab .now) (a .mode / 128 * 128) id (onNames (enter callScope (a .head .start) (a .head .end)) w)) (λ x. step (wordIn 0 4294967296) (λ n. last (yieldsAt (words (a .s .now)) (a .tab .now) (a .head .start) (a .head .end) n id x)))) (k .pre .1) (λ id s r. call-as (words (a .s .now)) (a .tab .now) (a .mode) (a .head .start) (a .head .end) id s r (k .pre .0))) in
     let one = fact (λ (k : tie.After-enter). let a = k .before .before .before .before .before .before .before .before .before .args in did (λ id u w. step (countedAt (words (a .s .now)) (a .tab .now) (a .mode / 128 * 128) id w) (λ x. step (wordIn 0 4294967296) (λ n. last (yieldsAt (words (a .s .now)) (a .tab .now) (a .head .start) (a .head .end) n id x)))) 2 (omega arith) (omega arith) (begun (k .before .before .before .before .before .before .before .before .before)) (k .enter .ensures)) in
-    let two = fact (λ (k : tie.Else1). went 2 (k .if1 .left) (omega arith) (one (k .before .before .before .before .before .before .before .before .before .before .before .before .before .before .before)) (k .before .before .before .before .before .before .before .walk-counted .ensures)) in
+    let two = fact (λ (k : tie.Else1). went 2 (k .if1 .left) (omega arith) (one (k .before .before .before .before .before .before .before .before .before .before .before .before .before .before .before)) (forget {held = []} _ (k .before .before .before .before .before .before .before .walk-counted .ensures))) in
     let three = fact (λ (k : tie.After-known-told). past (two (k .before .before .before .before .before .before .before)) (k .before .before .before .before .before .next-word .ensures) (k .before .n .given .1)) in
     tie.close
     (tie.spec
@@ -33,7 +34,7 @@ walk-call-spec =
     (λ c. search needs)  -- same-length
     (λ c. search needs)  -- same-length-2
     (λ c. search needs)  -- same-length-3
-    (λ c. fell _ (c .if1 .taken) refl (one (c .before .before .before .before .before .before .before .before .before .before .before .before .before .before .before)) (c .before .before .before .before .before .before .before .walk-counted .ensures))  -- returns
+    (λ c. fell _ (c .if1 .taken) refl (one (c .before .before .before .before .before .before .before .before .before .before .before .before .before .before .before)) (forget {held = []} _ (c .before .before .before .before .before .before .before .walk-counted .ensures)))  -- returns
     (λ c κs. asked (ready {i = 0} (omega arith) (c .before .before .before .before .before .before .before .before .before .before .before .before .before .before .before .before .before .before .before .before .before .before .before .before .before .pre .1) (two (c .before))))  -- next-word-requires
     (λ c. search needs)  -- enum-known-n
     (λ c. search needs)  -- enum-told

@@ -1,39 +1,42 @@
--- A loop of rounds (`Turning`).
+-- A loop of rounds, to which tab is lent (`Rounds`).
+use mathlib.Core.Path.{ap}
 use native.Mathlib.Omega.{arith}
+use lib.ListN.{length}
 use Rattle.heads.proofs.Chain.{fact}
-use Rattle.walk.proofs.Stage.{ready}
 use Rattle.words.specs.Words.{words}
-use Rattle.clause_parts.proofs.Passing.{Turning, begun, turn, fall, over, still-held}
+use Rattle.clause_walk.proofs.Rounds.{Rounds, set-out, asks, turned, fallen, ended}
 use Rattle.clause_walk.proofs.walk_clauses.Statement.{statement}
 use Rattle.clause_walk.proofs.walk_clauses.Tie as tie
 use Rattle.clause_walk.specs.Clauses.{clauseAt}
 
 abbrev Inv-loop : tie.InvT-loop
-Inv-loop s tab m₀ vis₀ found₀ held₀ n mode left₀ m vis found held left = Turning (words s) tab m₀ vis₀ found₀ held₀ n (clauseAt (words s) tab mode) m vis found held left
+Inv-loop s tab₀ m₀ vis₀ found₀ held₀ n mode left₀ tab m vis found held left = Rounds (words s) tab₀ m₀ vis₀ found₀ held₀ n (λ t. clauseAt (words s) t mode) tab m vis found held left
 
 abbrev μ-loop : tie.MeasureT-loop
-μ-loop s tab m₀ vis₀ found₀ held₀ n mode left₀ m vis found held left = left
+μ-loop s tab₀ m₀ vis₀ found₀ held₀ n mode left₀ tab m vis found held left = left
 
 pub walk-clauses-spec : {M : Type 1} → statement M
 walk-clauses-spec =
-    let fell = fact (λ (k : tie.Then1 Inv-loop μ-loop). fall (k .before .before .before .before .before .before .before .before .before .before .before .before .before .before .before .loop .inv) _ (k .before .before .before .before .before .before .before .before .before .before .before .before .before .before .loop-test .taken) (k .if1 .taken) (k .before .before .before .before .before .before .before .before .before .walk-clause .ensures)) in
-    let ended = fact (λ (k : tie.After-loop Inv-loop μ-loop). over (k .before .loop .inv) (k .loop-test .left)) in
+    let fell = fact (λ (k : tie.Then1 Inv-loop μ-loop). fallen (k .before .before .before .before .before .before .before .before .before .before .before .before .before .before .before .before .before .before .loop .inv) _ (k .before .before .before .before .before .before .before .before .before .before .before .before .before .before .before .before .before .loop-test .taken) (k .if1 .taken) (k .before .before .before .before .before .before .before .before .before .before .before .walk-clause .ensures)) in
+    let over = fact (λ (k : tie.After-loop Inv-loop μ-loop). ended (k .before .loop .inv) (k .loop-test .left)) in
     tie.close
     (tie.spec
     Inv-loop
     μ-loop
-    (λ c. begun _ _ (c .before .before .before .before .before .before .pre .1))  -- loop-holds
-    (λ c κs. (still-held (c .before .before .before .before .before .loop .inv .kept) (c .before .before .before .before .before .before .before .before .before .before .before .before .pre .0), ready (omega arith) (c .before .before .before .before .before .before .before .before .before .before .before .before .pre .1) (c .before .before .before .before .before .loop .inv .stage)))  -- walk-clause-requires
-    (λ c. fell c .sized)  -- same-length
-    (λ c. fell c .seen)  -- same-length-2
-    (λ c. fell c .wrote)  -- same-length-3
-    (λ c. fell c .kept)  -- same-length-4
+    (λ c. set-out _ _ (c .before .before .before .before .before .before .pre .1))  -- loop-holds
+    (λ c κs. asks (c .before .before .before .before .before .before .loop .inv) (c .before .before .before .before .before .before .before .before .before .before .before .before .before .pre))  -- walk-clause-requires
+    (λ c. ap length (fell c .0))  -- same-length
+    (λ c. fell c .1 .sized)  -- same-length-2
+    (λ c. fell c .1 .seen)  -- same-length-3
+    (λ c. fell c .1 .wrote)  -- same-length-4
+    (λ c. fell c .1 .kept)  -- same-length-5
     (λ c. fell c)  -- returns
-    (λ c. omega (arith, c .before .before .before .before .before .before .before .before .before .before .before .before .before .before .loop-test .taken))  -- sub-left
-    (λ c. omega (arith, c .before .before .before .before .before .before .before .before .before .before .before .before .before .before .loop-test .taken))  -- loop-less
-    (λ c. turn (c .before .before .before .before .before .before .before .before .before .before .before .before .before .before .before .loop .inv) (c .before .before .before .before .before .before .before .before .before .before .before .before .before .before .loop-test .taken) (c .if1 .left) (c .before .before .before .before .before .before .before .before .before .walk-clause .ensures))  -- loop-again
-    (λ c. ended c .sized)  -- same-length-5
-    (λ c. ended c .seen)  -- same-length-6
-    (λ c. ended c .wrote)  -- same-length-7
-    (λ c. ended c .kept)  -- same-length-8
-    (λ c. ended c))  -- returns-2
+    (λ c. omega (arith, c .before .before .before .before .before .before .before .before .before .before .before .before .before .before .before .before .before .loop-test .taken))  -- sub-left
+    (λ c. omega (arith, c .before .before .before .before .before .before .before .before .before .before .before .before .before .before .before .before .before .loop-test .taken))  -- loop-less
+    (λ c. turned (c .before .before .before .before .before .before .before .before .before .before .before .before .before .before .before .before .before .before .loop .inv) (c .before .before .before .before .before .before .before .before .before .before .before .before .before .before .before .before .before .loop-test .taken) (c .if1 .left) (c .before .before .before .before .before .before .before .before .before .before .before .walk-clause .ensures))  -- loop-again
+    (λ c. ap length (over c .0))  -- same-length-6
+    (λ c. over c .1 .sized)  -- same-length-7
+    (λ c. over c .1 .seen)  -- same-length-8
+    (λ c. over c .1 .wrote)  -- same-length-9
+    (λ c. over c .1 .kept)  -- same-length-10
+    (λ c. over c))  -- returns-2
