@@ -226,10 +226,10 @@ pub fn walk_sorted_return(
     ensures { λ r. ⌜ Passes 3 (words (now (s .entry))) (now (tab .entry)) (now (m .entry)) (now (vis .entry)) (now (found .entry)) (now (held .entry)) (now (m .exit)) (now (vis .exit)) (now (found .exit)) (now (held .exit)) (returnAt (words (now (s .entry))) (now (tab .entry)) mode true (head .start) (head .end)) r ⌝ }
 {
     let top = m[TOP];
-    let cur = m[CUR];
+    let outer = m[CUR];
     enter(s, tab, m, vis, found, 8, head.start, head.end);
     let scope = m[CUR];
-    leave(tab, m, vis, top, cur);
+    leave(tab, m, vis, top, outer);
     let r = walk_sorted(s, tab, m, vis, found, held, mode);
     if r != 0 {
         return r;
