@@ -19,7 +19,7 @@ use Rattle.rows.specs.Rows.{idAt, seek, rowTold}
 use Rattle.steps.specs.Memory.{slotsIn, hushedIn, worldAt}
 use Rattle.steps.specs.Hold.{Fine}
 use Rattle.clause_parts.specs.Passes.{Unmarked}
-use Rattle.return_walk.specs.Returns.{aliasesIn, AllNamed, Holding, marks, Marked}
+use Rattle.return_walk.specs.Returns.{aliasesIn, AllNamed, HeldAlias, isMark, Marked}
 
 -- ---- held
 aliases-set : (k j v : ℕ) (held : List ℕ) → k ≤ j → aliasesIn k (set held j v) ≡ aliasesIn k held
@@ -27,11 +27,11 @@ unfolding aliasesIn
 aliases-set zero j v held h = refl
 aliases-set (suc k) j v held h = rw (getD-set-other held j k v 0 (λ e. omega arith), aliases-set k j v held (omega arith))
 
-pub hold-none : (k a : ℕ) (held : List ℕ) → a ≡ 0 → Holding k a held held k
+pub hold-none : (k a : ℕ) (held : List ℕ) → a ≡ 0 → HeldAlias k a held held k
 unfolding aliasIn
 hold-none k a held e = record { kept = refl; more = omega arith; same = rw e (sym (append-nil (aliasesIn k held))); named = λ slots h l. h }
 
-pub hold-one : (k a : ℕ) (held : List ℕ) → (a ≡ 0 → ⊥) → k < length held → Holding k a held (set held k (a - 1)) (k + 1)
+pub hold-one : (k a : ℕ) (held : List ℕ) → (a ≡ 0 → ⊥) → k < length held → HeldAlias k a held (set held k (a - 1)) (k + 1)
 unfolding aliasesIn aliasIn
 hold-one k zero held q l = absurd (q refl)
 hold-one k (suc b) held q l =
@@ -55,23 +55,23 @@ pub named-in : {slots k i n n' : ℕ} {held : List ℕ} → AllNamed slots k hel
 named-in {i = i} h l e q = omega (arith, h .named i q, l, e)
 
 pub none-marked : (to : ℕ) (held tab : List ℕ) → Marked to 0 held tab tab
-unfolding marks
+unfolding isMark
 none-marked to held tab = record { kept = refl; at = λ i. refl }
 
 pub one-marked : {to k : ℕ} {held tab tab' : List ℕ} → Marked to k held tab tab' → 16 + getD held k 0 < length tab → Marked to (k + 1) held tab (set tab' (16 + getD held k 0) to)
-unfolding marks
+unfolding isMark
 one-marked {to} {k} {held} {tab} {tab'} o l =
     record { kept = length-set tab' (16 + getD held k 0) to ∙ o .kept; at = λ i. rw (add-one k) (go i (eqb i (16 + getD held k 0)) refl) }
   where
-    go : (i : ℕ) (t : Bool) → eqb i (16 + getD held k 0) ≡ t → getD (set tab' (16 + getD held k 0) to) i 0 ≡ cond (t || marks i k held) to (getD tab i 0)
+    go : (i : ℕ) (t : Bool) → eqb i (16 + getD held k 0) ≡ t → getD (set tab' (16 + getD held k 0) to) i 0 ≡ cond (t || isMark i k held) to (getD tab i 0)
     go i true e =
         let z : i ≡ 16 + getD held k 0 = eqb-true i (16 + getD held k 0) e in
         rw z (getD-set-same tab' (16 + getD held k 0) to 0 (omega (arith, o .kept)))
     go i false e = getD-set-other tab' (16 + getD held k 0) i to 0 (eqb-false i (16 + getD held k 0) e) ∙ o .at i
 
 -- no word outside the slots is a mark
-far : (i k slots : ℕ) (held : List ℕ) → AllNamed slots k held → ((x : ℕ) → x < slots → i ≡ 16 + x → ⊥) → marks i k held ≡ false
-unfolding marks
+far : (i k slots : ℕ) (held : List ℕ) → AllNamed slots k held → ((x : ℕ) → x < slots → i ≡ 16 + x → ⊥) → isMark i k held ≡ false
+unfolding isMark
 far i zero slots held h q = refl
 far i (suc k) slots held h q =
     rw (ne-eqb i (16 + getD held k 0) (q (getD held k 0) (h .named k (omega arith))), far i k slots held (record { named = λ j l. h .named j (omega arith) }) q)
@@ -99,8 +99,8 @@ same-test x y = go (eqb x y) refl
     go false e = ne-eqb (16 + x) (16 + y) (λ q. eqb-false x y e (omega arith))
 
 -- a name is marked where it is among the aliases
-own : (x k : ℕ) (held : List ℕ) → marks (16 + x) k held ≡ isIn x (aliasesIn k held)
-unfolding marks aliasesIn isIn
+own : (x k : ℕ) (held : List ℕ) → isMark (16 + x) k held ≡ isIn x (aliasesIn k held)
+unfolding isMark aliasesIn isIn
 own x zero held = refl
 own x (suc k) held = rw (same-test x (getD held k 0), own x k held) (sym (in-last x (getD held k 0) (aliasesIn k held)))
 
@@ -112,20 +112,20 @@ clash : {A : Type 0} → false ≡ true → A
 clash e = never (cc)
 
 -- a marked word is the mark of a name
-near : (i k slots : ℕ) (held : List ℕ) → AllNamed slots k held → marks i k held ≡ true → (x : ℕ) × ((x < slots) × (i ≡ 16 + x))
-unfolding marks
+near : (i k slots : ℕ) (held : List ℕ) → AllNamed slots k held → isMark i k held ≡ true → (x : ℕ) × ((x < slots) × (i ≡ 16 + x))
+unfolding isMark
 near i zero slots held h e = clash e
 near i (suc k) slots held h e = go (eqb i (16 + getD held k 0)) refl e (near i k slots held (record { named = λ j l. h .named j (omega arith) }))
   where
-    go : (b : Bool) → eqb i (16 + getD held k 0) ≡ b → (b || marks i k held) ≡ true → (marks i k held ≡ true → (x : ℕ) × ((x < slots) × (i ≡ 16 + x))) → (x : ℕ) × ((x < slots) × (i ≡ 16 + x))
+    go : (b : Bool) → eqb i (16 + getD held k 0) ≡ b → (b || isMark i k held) ≡ true → (isMark i k held ≡ true → (x : ℕ) × ((x < slots) × (i ≡ 16 + x))) → (x : ℕ) × ((x < slots) × (i ≡ 16 + x))
     go true q t r = (getD held k 0, (h .named k (omega arith), eqb-true i (16 + getD held k 0) q))
     go false q t r = r t
 
 -- every mark is taken away again
 pub restored : {k : ℕ} {held tab tab1 tab2 : List ℕ} → AllNamed (slotsIn tab) k held → Unmarked tab → Marked 1 k held tab tab1 → Marked 0 k held tab1 tab2 → tab2 ≡ tab
-restored {k} {held} {tab} {tab1} {tab2} h clear o p = ext-getD 0 tab2 tab (p .kept ∙ o .kept) (λ i l. p .at i ∙ rw (o .at i) (go i (marks i k held) refl))
+restored {k} {held} {tab} {tab1} {tab2} h clear o p = ext-getD 0 tab2 tab (p .kept ∙ o .kept) (λ i l. p .at i ∙ rw (o .at i) (go i (isMark i k held) refl))
   where
-    go : (i : ℕ) (b : Bool) → marks i k held ≡ b → cond b 0 (cond b 1 (getD tab i 0)) ≡ getD tab i 0
+    go : (i : ℕ) (b : Bool) → isMark i k held ≡ b → cond b 0 (cond b 1 (getD tab i 0)) ≡ getD tab i 0
     go i true e = let n = near i k (slotsIn tab) held h e in sym (rw (n .1 .1) (clear (n .0) (n .1 .0)))
     go i false e = refl
 

@@ -24,7 +24,7 @@ use Rattle.walk.proofs.Modes.{in-set}
 use Rattle.walk.proofs.Stage.{Rest, Stage, placed, start, ready, recast, fewer, go, fell, refused}
 use Rattle.clause_parts.specs.Passes.{Held, Next}
 use Rattle.clause_parts.proofs.Passing.{past, stopped, stays, in-range, goes-on}
-use Rattle.return_walk.specs.Returns.{aliasesIn, AllNamed, Holding, hushedAt, keyedAt}
+use Rattle.return_walk.specs.Returns.{aliasesIn, AllNamed, HeldAlias, hushedAt, keyedAt}
 
 module _ (ws tab : List ℕ) (mode : ℕ) where
   -- the sort keys, where these names are no use
@@ -32,20 +32,20 @@ module _ (ws tab : List ℕ) (mode : ℕ) where
   finish id x = last (hushedAt ws tab mode (x .1) id (x .0))
 
   -- projections, with the aliases so far, and the sort keys
-  abbrev pub Left : ℕ → List ℕ → Rest
-  Left left xs id s t = step (projectionsGo (worldAt ws tab id) (tablesIn tab) aliased (modeOf mode) left xs t) (finish id)
+  abbrev pub Remaining : ℕ → List ℕ → Rest
+  Remaining left xs id s t = step (projectionsGo (worldAt ws tab id) (tablesIn tab) aliased (modeOf mode) left xs t) (finish id)
 
   -- the same with a projection more before them
-  abbrev pub One : ℕ → List ℕ → Rest
-  One left xs id s t =
+  abbrev pub OneMore : ℕ → List ℕ → Rest
+  OneMore left xs id s t =
       step (wordIn 0 (namesIn tab + 1))
-      (λ a. step (within (worldAt ws tab id) (tablesIn tab) (modeOf mode) general t) (λ u. Left left (xs ++ aliasIn (aliasOf a)) id s u))
+      (λ a. step (within (worldAt ws tab id) (tablesIn tab) (modeOf mode) general t) (λ u. Remaining left (xs ++ aliasIn (aliasOf a)) id s u))
 
-  unroll : (left : ℕ) (xs : List ℕ) (id : ℕ → ℕ) (s t : Both) (r : List ℕ) → 0 < left → run (Left left xs id s t) r ≡ run (One (left - 1) xs id s t) r
+  unroll : (left : ℕ) (xs : List ℕ) (id : ℕ → ℕ) (s t : Both) (r : List ℕ) → 0 < left → run (Remaining left xs id s t) r ≡ run (OneMore (left - 1) xs id s t) r
   unfolding projectionsGo
   unroll left xs id s t r h =
       let l : left ≡ suc (left - 1) = omega arith in
-      ap (λ (k : ℕ). run (Left k xs id s t) r) l ∙ rw (add-one (namesIn tab)) (alias (wordIn 0 (suc (namesIn tab)) r))
+      ap (λ (k : ℕ). run (Remaining k xs id s t) r) l ∙ rw (add-one (namesIn tab)) (alias (wordIn 0 (suc (namesIn tab)) r))
     where
       P : ℕ → Both → List ℕ → Got (Both × List ℕ)
       P a u r2 = projectionsGo (worldAt ws tab id) (tablesIn tab) aliased (modeOf mode) (left - 1) (xs ++ aliasIn (aliasOf a)) u r2
@@ -63,7 +63,7 @@ module _ (ws tab : List ℕ) (mode : ℕ) where
       alias (no c) = refl
 
 pub record Sorting (ws tab m₀ vis₀ found₀ held₀ : List ℕ) (mode n : ℕ) (m vis found held : List ℕ) (k left : ℕ) : Type 0 where
-  pub stage : Stage (some 48) 0 ws tab m₀ vis₀ found₀ (keyedAt ws tab mode n) 0 m vis found (Left ws tab mode left (aliasesIn k held))
+  pub stage : Stage (some 48) 0 ws tab m₀ vis₀ found₀ (keyedAt ws tab mode n) 0 m vis found (Remaining ws tab mode left (aliasesIn k held))
   pub few : k ≤ atOf m
   pub named : AllNamed (slotsIn tab) k held
   pub kept : length held ≡ length held₀
@@ -71,18 +71,18 @@ pub record Sorting (ws tab m₀ vis₀ found₀ held₀ : List ℕ) (mode n : �
 pub begun : {ws tab m vis found held : List ℕ} {mode : ℕ} (n : ℕ) → Ready 0 ws tab m vis found → Sorting ws tab m vis found held mode n m vis found held 0 n
 unfolding aliasesIn
 begun {ws} {tab} {mode = mode} n h =
-    record { stage = start (Left ws tab mode n []) h (λ id s r. refl); few = omega arith; named = record { named = λ j l. absurd (omega arith) }; kept = refl }
+    record { stage = start (Remaining ws tab mode n []) h (λ id s r. refl); few = omega arith; named = record { named = λ j l. absurd (omega arith) }; kept = refl }
 
 module _ {ws tab m₀ vis₀ found₀ held₀ : List ℕ} {mode n : ℕ} {m vis found held : List ℕ} {k left : ℕ} (o : Sorting ws tab m₀ vis₀ found₀ held₀ mode n m vis found held k left) where
-  unrolled : 0 < left → Stage (some 48) 0 ws tab m₀ vis₀ found₀ (keyedAt ws tab mode n) 0 m vis found (One ws tab mode (left - 1) (aliasesIn k held))
-  unrolled h = recast (One ws tab mode (left - 1) (aliasesIn k held)) (o .stage) (λ id s t r. unroll ws tab mode left (aliasesIn k held) id s t r h)
+  unrolled : 0 < left → Stage (some 48) 0 ws tab m₀ vis₀ found₀ (keyedAt ws tab mode n) 0 m vis found (OneMore ws tab mode (left - 1) (aliasesIn k held))
+  unrolled h = recast (OneMore ws tab mode (left - 1) (aliasesIn k held)) (o .stage) (λ id s t r. unroll ws tab mode left (aliasesIn k held) id s t r h)
 
   -- none is left: the sort keys are
   pub ended : left ≤ 0 → Stage (some 48) 0 ws tab m₀ vis₀ found₀ (keyedAt ws tab mode n) 0 m vis found (λ id s t. last (hushedAt ws tab mode (aliasesIn k held) id t))
   unfolding projectionsGo
   ended h =
       let z : left ≡ 0 = omega arith in
-      recast (λ id s t. last (hushedAt ws tab mode (aliasesIn k held) id t)) (o .stage) (λ id s t r. ap (λ (l : ℕ). run (Left ws tab mode l (aliasesIn k held) id s t) r) z)
+      recast (λ id s t. last (hushedAt ws tab mode (aliasesIn k held) id t)) (o .stage) (λ id s t r. ap (λ (l : ℕ). run (Remaining ws tab mode l (aliasesIn k held) id s t) r) z)
 
   pub keys-ask : Ready 0 ws tab m₀ vis₀ found₀ → length ws ≤ length held₀ → (k ≤ length held) × AllNamed (slotsIn tab) k held
   keys-ask g l =
@@ -95,7 +95,7 @@ module _ {ws tab m₀ vis₀ found₀ held₀ : List ℕ} {mode n : ℕ} {m vis 
 
     module _ {a : ℕ} (q : w ≡ word.Is a) where
       pub alias-stage : Stage (some 48) 0 ws tab m₀ vis₀ found₀ (keyedAt ws tab mode n) 1 m1 vis found
-          (λ id s t. step (within (worldAt ws tab id) (tablesIn tab) (modeOf mode) general t) (λ u. Left ws tab mode (left - 1) (aliasesIn k held ++ aliasIn (aliasOf a)) id s u))
+          (λ id s t. step (within (worldAt ws tab id) (tablesIn tab) (modeOf mode) general t) (λ u. Remaining ws tab mode (left - 1) (aliasesIn k held ++ aliasIn (aliasOf a)) id s u))
       alias-stage = past (unrolled h) x q
 
       pub expr-ready : Ready 0 ws tab m₀ vis₀ found₀ → Ready 0 ws tab m1 vis found
@@ -114,7 +114,7 @@ module _ {ws tab m₀ vis₀ found₀ held₀ : List ℕ} {mode n : ℕ} {m vis 
         pub fell-expr : (r ≡ 0 → ⊥) → Walked 48 ws tab m₀ vis₀ found₀ m' vis' found' (keyedAt ws tab mode n) r
         fell-expr e = fell r e alias-stage (in-set mode 0 (mode / 64 * 64) (omega arith) (omega arith) 48 (omega arith) y)
 
-        pub turned : {held' : List ℕ} {k' : ℕ} → Holding k a held held' k' → r ≡ 0 → namesIn tab ≤ slotsIn tab → Sorting ws tab m₀ vis₀ found₀ held₀ mode n m' vis' found' held' k' (left - 1)
+        pub turned : {held' : List ℕ} {k' : ℕ} → HeldAlias k a held held' k' → r ≡ 0 → namesIn tab ≤ slotsIn tab → Sorting ws tab m₀ vis₀ found₀ held₀ mode n m' vis' found' held' k' (left - 1)
         turned d e p =
             let z = rw e at (y .goes) in
             let i = in-range x q in

@@ -24,21 +24,21 @@ pub record AllNamed (slots k : ℕ) (held : List ℕ) : Type 0 where
   pub named : (j : ℕ) → j < k → getD held j 0 < slots
 
 -- an alias is held, if there is one
-pub record Holding (k a : ℕ) (held held' : List ℕ) (r : ℕ) : Type 0 where
+pub record HeldAlias (k a : ℕ) (held held' : List ℕ) (r : ℕ) : Type 0 where
   pub kept : length held' ≡ length held
   pub more : r ≤ k + 1
   pub same : aliasesIn r held' ≡ aliasesIn k held ++ aliasIn (aliasOf a)
   pub named : (slots : ℕ) → AllNamed slots k held → a ≤ slots → AllNamed slots r held'
 
 -- whether the word i of tab is the mark of one of the first k
-unfoldable pub marks : ℕ → ℕ → List ℕ → Bool
-marks i zero held = false
-marks i (suc k) held = eqb i (16 + getD held k 0) || marks i k held
+unfoldable pub isMark : ℕ → ℕ → List ℕ → Bool
+isMark i zero held = false
+isMark i (suc k) held = eqb i (16 + getD held k 0) || isMark i k held
 
 -- the marks of the first k are `to`, and all else is as before
 pub record Marked (to k : ℕ) (held tab tab' : List ℕ) : Type 0 where
   pub kept : length tab' ≡ length tab
-  pub at : (i : ℕ) → getD tab' i 0 ≡ cond (marks i k held) to (getD tab i 0)
+  pub at : (i : ℕ) → getD tab' i 0 ≡ cond (isMark i k held) to (getD tab i 0)
 
 -- What is walked, in a mode.
 module _ (ws tab : List ℕ) (mode : ℕ) where

@@ -22,7 +22,7 @@ ghost use Rattle.steps.specs.Memory.{slotsIn, modeOf};
 ghost use Rattle.steps.specs.Hold.{Ready};
 ghost use Rattle.walk.specs.Goes.{Walked};
 ghost use Rattle.clause_parts.specs.Passes.{Passes, Held};
-ghost use Rattle.return_walk.specs.Returns.{aliasesIn, AllNamed, Holding, Marked, outputAt, outputsAt, returnedAt, hushedAt, keyedAt, sortedAt, returnAt};
+ghost use Rattle.return_walk.specs.Returns.{aliasesIn, AllNamed, HeldAlias, Marked, outputAt, outputsAt, returnedAt, hushedAt, keyedAt, sortedAt, returnAt};
 
 // A projection of a RETURN.
 fn walk_output(
@@ -113,7 +113,7 @@ pub fn walk_return(
 // An alias + 1, or 0 for none, is held behind the first k; how many there are then.
 fn hold(held: &mut [u32], k: u32, a: u32) -> u32
     requires { ⌜ (k < length (now held)) × (k < 4294967295) ⌝ }
-    ensures { λ r. ⌜ Holding k a (now (held .entry)) (now (held .exit)) r ⌝ }
+    ensures { λ r. ⌜ HeldAlias k a (now (held .entry)) (now (held .exit)) r ⌝ }
 {
     if a == 0 {
         return k;
