@@ -1,7 +1,4 @@
-pub mod Carrying
-pub mod Chained
-pub mod Projected
-pub mod Filters
+pub mod Barrier
 pub mod Rebound
 pub mod Seeing
 pub mod Withs

@@ -1,6 +1,7 @@
 -- What a WITH binds. The names of pairs are in range (`names-at`). Of the pairs the first i are bound (`Binding`: `none-bound`, `one-bound`,
--- `all-bound`; what a turn asks: `bind-ready`, `bind-asks`, `bound-size`): the stack was cut, so three words for each pair are room for it. The
--- barrier, the new Root and the pairs in it (`rebinds`; what each step asks: `carry-asks`, `root-asks`, `root-ready`, `leave-asks`, `pairs-ask`).
+-- `all-bound`; what a turn asks: `bind-ready`, `bind-asks`, `bound-size`): the stack was cut, so three words for each pair are room for it. Where
+-- no kind is wanted, any will do (`unwanted-kind`). The barrier, the new Root and the pairs in it (`rebinds`; what each step asks: `carry-asks`,
+-- `root-asks`, `root-ready`, `leave-asks`, `pairs-ask`).
 use Prim.Native.Nat.{ℕ, zero, suc, _+_, _-_, _*_, _<_, _≤_}
 use native.Mathlib.Omega.{arith}
 use native.Mathlib.Numerals.{add-one}
@@ -19,7 +20,8 @@ use Rattle.steps.specs.Memory.{atOf, topOf, curOf, heldOf, slotsIn, wantsIn, wo
 use Rattle.steps.specs.Hold.{Fine, Fits, Fit, Holds, Costs, Steps, Ready, Roomy, SaysIf, Left, onNames}
 use Rattle.steps.proofs.Held.{unset, store, lower, refit, says-if, unwanted, roomy-in}
 use Rattle.steps.proofs.Moved.{if-numbers, names}
-use Rattle.with_walk.specs.Carries.{pairsIn, InNames, BindsAll, Rebinds}
+use Rattle.projection_walk.specs.Carries.{pairsIn, InNames}
+use Rattle.with_walk.specs.Binds.{BindsAll, Rebinds}
 use Rattle.clause_parts.proofs.Cleared.{below-descends, cut-numbers, cut-fits, cut-holds}
 
 -- ---- names of pairs
@@ -39,6 +41,10 @@ names-at slots held (suc n) i l h = go (eqb i n) refl (names-split (getD held (n
       where
         below : (i n : ℕ) → i < suc n → (i ≡ n → ⊥) → i < n
         below i n l e = omega arith
+
+-- ---- kinds
+pub unwanted-kind : (tab : List ℕ) {k : ℕ} → (getD tab 9 0 ≡ 1 → ⊥) → wantsIn tab ≡ true → 0 ≡ k
+unwanted-kind tab h e = absurd (h (eqb-true (getD tab 9 0) 1 e))
 
 -- ---- a pair is bound
 bind-one : (w : World) (ps : List Pair) (x v : ℕ) (s : State) → bindAll w (ps ++ (pair x v ∷ [])) s ≡ bindName x v (kindOf w v) (bindAll w ps s)

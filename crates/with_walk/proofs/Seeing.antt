@@ -18,7 +18,8 @@ use Rattle.visible.specs.Visible.{seens, Descends, Tabled, Bound}
 use Rattle.steps.specs.Memory.{atOf, topOf, curOf, lastOf, saidOf, toldOf, lostOf, heldOf, slotsIn, worldAt}
 use Rattle.steps.specs.Hold.{onNames}
 use Rattle.steps.proofs.Held.{Numbers, unset, store, refit}
-use Rattle.with_walk.specs.Carries.{pairsIn, rootedOn, seenBy, SeesAll}
+use Rattle.projection_walk.specs.Carries.{pairsIn}
+use Rattle.with_walk.specs.Binds.{rootedOn, seenBy, SeesAll}
 
 -- ---- pairs seen in the scope c, above a list
 abbrev above : ℕ → List Pair → List Seen → List Seen

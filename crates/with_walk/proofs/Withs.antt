@@ -20,7 +20,8 @@ use Rattle.steps.proofs.Held.{Numbers, unset, store, lower, refit}
 use Rattle.walk.specs.Goes.{Walked}
 use Rattle.clause_parts.specs.Passes.{Held, Passes, countedAt}
 use Rattle.clause_parts.proofs.Passing.{none-hushed}
-use Rattle.with_walk.specs.Carries.{pairsIn, InNames, Holding, Carries, ComesHolding, Rebinds, SeesAll, rootedOn, seenBy, filteredAt, withAt}
+use Rattle.projection_walk.specs.Carries.{pairsIn, InNames, Holding, Carries, ComesHolding, filteredAt}
+use Rattle.with_walk.specs.Binds.{Rebinds, SeesAll, rootedOn, seenBy, withAt}
 use Rattle.clause_parts.proofs.Cleared.{names-step, cut-numbers, cut-holds, cleared-fits}
 use Rattle.with_walk.proofs.Seeing.{renewed, rooted-beside, seen-again}
 

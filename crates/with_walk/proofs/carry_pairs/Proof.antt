@@ -7,10 +7,10 @@ use Rattle.semantics.specs.Resolve.{carryAll}
 use Rattle.steps.specs.Hold.{Costs, onNames}
 use Rattle.steps.specs.Memory.{worldAt}
 use Rattle.words.specs.Words.{words}
-use Rattle.with_walk.proofs.Carrying.{none-carried, one-carried, carry-room, all-carried}
+use Rattle.with_walk.proofs.Barrier.{none-carried, one-carried, carry-room, all-carried}
 use Rattle.with_walk.proofs.carry_pairs.Statement.{statement}
 use Rattle.with_walk.proofs.carry_pairs.Tie as tie
-use Rattle.with_walk.specs.Carries.{pairsIn}
+use Rattle.projection_walk.specs.Carries.{pairsIn}
 
 abbrev Inv-loop : tie.InvT-loop
 Inv-loop s tab m₀ vis found₀ held n i₀ m found i = (i ≤ n) × Costs i 0 (words s) tab m₀ vis found₀ m vis found (λ id. onNames (carryAll (worldAt (words s) tab id) (pairsIn i held)))

@@ -1,6 +1,6 @@
 -- Where no kind is wanted, any will do.
 use borrow.Author.Needs.{needs}
-use Rattle.with_walk.proofs.Carrying.{unwanted-kind}
+use Rattle.with_walk.proofs.Rebound.{unwanted-kind}
 use Rattle.with_walk.proofs.kind_wanted.Statement.{statement}
 use Rattle.with_walk.proofs.kind_wanted.Tie as tie
 

@@ -18,7 +18,7 @@ use Rattle.walk.specs.Goes.{Goer, Walked}
 use Rattle.walk.proofs.Stage.{placed, placed-fit, placed-holds}
 use Rattle.clause_parts.specs.Passes.{Next}
 use Rattle.clause_parts.proofs.Passing.{goes-on, stays}
-use Rattle.with_walk.specs.Carries.{Projector, Carries, Holding}
+use Rattle.projection_walk.specs.Carries.{Projector, Carries, Holding}
 
 module _ {j : ℕ} {ws tab m vis found held m' vis' found' held' : List ℕ} where
   -- put another way

@@ -9,9 +9,9 @@ use Rattle.steps.proofs.Held.{ready-less}
 use Rattle.steps.specs.Memory.{tablesIn, worldAt, modeOf}
 use Rattle.walk.proofs.Modes.{in-set}
 use Rattle.words.specs.Words.{words}
-use Rattle.with_walk.proofs.Projected.{var-within, name-within, var-paid, name-paid, form-ready, form-holding, form-refused, direct-passes, other-passes}
-use Rattle.with_walk.proofs.walk_carried.Statement.{statement}
-use Rattle.with_walk.proofs.walk_carried.Tie as tie
+use Rattle.projection_walk.proofs.Projected.{var-within, name-within, var-paid, name-paid, form-ready, form-holding, form-refused, direct-passes, other-passes}
+use Rattle.projection_walk.proofs.walk_carried.Statement.{statement}
+use Rattle.projection_walk.proofs.walk_carried.Tie as tie
 
 pub walk-carried-spec : {M : Type 1} → statement M
 walk-carried-spec =

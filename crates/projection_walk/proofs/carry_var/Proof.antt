@@ -4,9 +4,9 @@ use mathlib.Core.Path.{sym, _∙_}
 use native.Mathlib.Omega.{arith}
 use Rattle.semantics.specs.World.{aVar}
 use Rattle.steps.proofs.Held.{ready-less}
-use Rattle.with_walk.proofs.Carrying.{adds-pair, adds-none, var-aliased, var-named, var-none}
-use Rattle.with_walk.proofs.carry_var.Statement.{statement}
-use Rattle.with_walk.proofs.carry_var.Tie as tie
+use Rattle.projection_walk.proofs.Carrying.{adds-pair, adds-none, var-aliased, var-named, var-none}
+use Rattle.projection_walk.proofs.carry_var.Statement.{statement}
+use Rattle.projection_walk.proofs.carry_var.Tie as tie
 
 pub carry-var-spec : {M : Type 1} → statement M
 carry-var-spec =

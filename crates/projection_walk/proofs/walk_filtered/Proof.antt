@@ -5,9 +5,9 @@ use native.Mathlib.Omega.{arith}
 use Rattle.heads.proofs.Chain.{fact}
 use Rattle.walk.proofs.Modes.{in-pair}
 use Rattle.clause_parts.proofs.Passing.{asked, in-range}
-use Rattle.with_walk.proofs.Filters.{count-refused, pairs-ask, pairs-refused, flag-asks, flag-refused, row-asks, filter-passes}
-use Rattle.with_walk.proofs.walk_filtered.Statement.{statement}
-use Rattle.with_walk.proofs.walk_filtered.Tie as tie
+use Rattle.projection_walk.proofs.Filters.{count-refused, pairs-ask, pairs-refused, flag-asks, flag-refused, row-asks, filter-passes}
+use Rattle.projection_walk.proofs.walk_filtered.Statement.{statement}
+use Rattle.projection_walk.proofs.walk_filtered.Tie as tie
 
 pub walk-filtered-spec : {M : Type 1} → statement M
 walk-filtered-spec =

@@ -1,7 +1,6 @@
 -- What a WITH holds. A pair is held (`held-one`, `kept-fits`, `kept-holds`, `names-more`), so a projection that is a Var or a name adds what the
 -- definition carries (`adds-pair`, `adds-none`; what that is: `var-aliased`, `var-named`, `var-none`, `name-carried`, `name-missing`,
--- `name-aliased`, by `looked` and `unlooked`). Its use (`plain-said`, `plain-none`, `plain-quiet`, `name-found`). The barrier carries the pairs one
--- after the other (`none-carried`, `one-carried`, `carry-room`, `all-carried`).
+-- `name-aliased`, by `looked` and `unlooked`). Its use (`plain-said`, `plain-none`, `plain-quiet`, `name-found`).
 use Prim.Native.Nat.{ℕ, zero, suc, _+_, _-_, _*_, _<_, _≤_}
 use native.Mathlib.Omega.{arith}
 use native.Mathlib.Numerals.{add-one}
@@ -10,25 +9,24 @@ use mathlib.Core.Bool.{Bool, true, false, not}
 use mathlib.Core.List.{List, [], _∷_, _++_, append-nil}
 use mathlib.Core.Option.{Option, none, some}
 use lib.ListN.{length, getD, set, length-set}
-use borrow.Author.Tests.{eqb-true, eq-eqb, ne-eqb}
+use borrow.Author.Tests.{eq-eqb, ne-eqb}
 use lib.Seq.{getD-set-same, getD-set-other}
-use Rattle.scope.specs.Graph.{carried}
 use Rattle.tables.specs.Row.{Row, row}
 use Rattle.clauses.specs.Read.{aliasOf}
-use Rattle.semantics.specs.Log.{finding, missing, write, find, carry}
+use Rattle.semantics.specs.Log.{finding, missing, write, find}
 use Rattle.semantics.specs.Log.{answer as answer'}
 use Rattle.semantics.specs.World.{World, Direct, aVar, aName}
-use Rattle.semantics.specs.Resolve.{State, Seen, Pair, pair, lookup, ifRow, ifSome, say, sayIf, useName, visit, useVar, carries, carryAll}
+use Rattle.semantics.specs.Resolve.{State, Seen, Pair, pair, lookup, ifRow, ifSome, say, sayIf, useName, visit, useVar, carries}
 use Rattle.fused.specs.Fused.{Both, nameUse}
 use Rattle.visible.specs.Visible.{answer, seens}
 use Rattle.visible.specs.declared.Found.{Found}
 use Rattle.visible.specs.declared.Found.the-variants as found'
-use Rattle.steps.specs.Memory.{atOf, topOf, curOf, lastOf, saidOf, toldOf, lostOf, heldOf, slotsIn, wantsIn, hushedIn, eventOf, worldAt}
-use Rattle.steps.specs.Hold.{Fits, Holds, Costs, Steps, Fine, Roomy, Says, SaysIf, shown, onNames, nameRecord}
+use Rattle.steps.specs.Memory.{atOf, topOf, curOf, lastOf, saidOf, toldOf, lostOf, heldOf, slotsIn, hushedIn, eventOf, worldAt}
+use Rattle.steps.specs.Hold.{Fits, Holds, Steps, Says, shown, onNames, nameRecord}
 use Rattle.steps.specs.declared.row.Row.the-variants as row'
-use Rattle.steps.proofs.Held.{Numbers, unset, store, lower, refit, instead, as-steps, says-step, says-if, wanted, idle-step, then-steps, more-costs, roomy-in}
+use Rattle.steps.proofs.Held.{Numbers, unset, store, lower, refit, instead, as-steps, says-step, wanted}
 use Rattle.steps.proofs.Heads.{quiet-use, rowless-use}
-use Rattle.with_walk.specs.Carries.{pairsIn, InNames, Kept, Adds}
+use Rattle.projection_walk.specs.Carries.{pairsIn, InNames, Kept, Adds}
 
 -- ---- a pair is held
 pairs-alike : (n : ℕ) (a b : List ℕ) → ((i : ℕ) → i < n * 2 → getD a i 0 ≡ getD b i 0) → pairsIn n a ≡ pairsIn n b
@@ -199,34 +197,3 @@ module _ {ws tab m vis found : List ℕ} (v : ℕ) where
 
   pub plain-quiet : {j : ℕ} → (getD tab 9 0 ≡ 1 → ⊥) → Steps j ws tab m vis found m vis found (λ id. onNames (useVar (worldAt ws tab id) v (worldAt ws tab id .row v)))
   plain-quiet h = quiet-use 64 v (worldAt ws tab (λ x. x) .row v) (rw (ne-eqb (getD tab 9 0) 1 h))
-
--- ---- kinds
-pub unwanted-kind : (tab : List ℕ) {k : ℕ} → (getD tab 9 0 ≡ 1 → ⊥) → wantsIn tab ≡ true → 0 ≡ k
-unwanted-kind tab h e = absurd (h (eqb-true (getD tab 9 0) 1 e))
-
--- ---- the barrier carries the pairs, one after the other
-carry-one : (w : World) (ps : List Pair) (x v : ℕ) (s : State) → carryAll w (ps ++ (pair x v ∷ [])) s ≡ say (carry (carried (carryAll w ps s .cur) x v)) (carryAll w ps s)
-unfolding carryAll
-carry-one w [] x v s = refl
-carry-one w (pair y u ∷ ps) x v s = carry-one w ps x v (say (carry (carried (s .cur) y u)) s)
-
-pub none-carried : {ws tab m vis found : List ℕ} (held : List ℕ) → Costs 0 0 ws tab m vis found m vis found (λ id. onNames (carryAll (worldAt ws tab id) (pairsIn 0 held)))
-unfolding carryAll pairsIn
-none-carried held = idle-step _ (λ id s h. h)
-
-pub one-carried : {ws tab m₀ vis found₀ m found m' found' : List ℕ} (held : List ℕ) (i : ℕ) {k : ℕ} → length m₀ ≡ 64 → k ≡ i * 2 → Costs i 0 ws tab m₀ vis found₀ m vis found (λ id. onNames (carryAll (worldAt ws tab id) (pairsIn i held))) →
-    SaysIf (wantsIn tab) 3 (curOf m) (getD held k 0) (getD held (k + 1) 0) 0 0 m found m' found' → Costs (i + 1) 0 ws tab m₀ vis found₀ m' vis found' (λ id. onNames (carryAll (worldAt ws tab id) (pairsIn (i + 1) held)))
-unfolding pairsIn
-one-carried {ws} {tab} {vis = vis} {m = m} {found} {m'} {found'} held i {k} size e x p =
-    let y : Costs 1 0 ws tab m vis found m' vis found' (λ id. onNames (λ s. say (carry (carried (s .cur) (getD held (i * 2) 0) (getD held (i * 2 + 1) 0))) s)) = instead _ (says-if (x .sized ∙ size) (rw e at p) (λ id l. refl)) (λ id s h. rw (h .cur)) in
-    rw (add-one i) (as-steps _ (more-costs (omega arith) (omega arith) (then-steps x y)) (λ id s. ap (λ (u : State). record { names = u; kinds = s .kinds; known = s .known }) (sym (carry-one (worldAt ws tab id) (pairsIn i held) (getD held (i * 2) 0) (getD held (i * 2 + 1) 0) (s .names)))))
-
-pub carry-room : {ws tab m₀ vis found₀ m found : List ℕ} {F : (ℕ → ℕ) → Both → Both} {i n : ℕ} → i < n → Fine ws tab → Fits n 0 ws tab m₀ vis found₀ → Costs i 0 ws tab m₀ vis found₀ m vis found F → (10 ≤ length tab) × Roomy m found
-carry-room {i = i} {n} l h f x =
-    let g = h .long in
-    (omega arith, roomy-in h (x .fit (suc (n - i - 1)) 0 (lower (omega arith) (omega arith) f)))
-
-pub all-carried : {ws tab m₀ vis found₀ m found : List ℕ} (held : List ℕ) {i n : ℕ} → i ≤ n → n ≤ i → Costs i 0 ws tab m₀ vis found₀ m vis found (λ id. onNames (carryAll (worldAt ws tab id) (pairsIn i held))) → Costs n 0 ws tab m₀ vis found₀ m vis found (λ id. onNames (carryAll (worldAt ws tab id) (pairsIn n held)))
-all-carried held {i} {n} a b x =
-    let e : i ≡ n = omega arith in
-    rw e at x

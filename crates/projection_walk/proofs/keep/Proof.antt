@@ -2,9 +2,9 @@
 use borrow.Author.Needs.{needs}
 use lib.ListN.{length-set}
 use native.Mathlib.Omega.{arith}
-use Rattle.with_walk.proofs.Carrying.{held-one}
-use Rattle.with_walk.proofs.keep.Statement.{statement}
-use Rattle.with_walk.proofs.keep.Tie as tie
+use Rattle.projection_walk.proofs.Carrying.{held-one}
+use Rattle.projection_walk.proofs.keep.Statement.{statement}
+use Rattle.projection_walk.proofs.keep.Tie as tie
 
 pub keep-spec : {M : Type 1} → statement M
 keep-spec =

@@ -4,9 +4,9 @@ use Rattle.heads.proofs.Chain.{fact}
 use Rattle.steps.proofs.Held.{ready-less}
 use Rattle.words.specs.Words.{words}
 use Rattle.clause_parts.proofs.Passing.{still-held}
-use Rattle.with_walk.proofs.Projected.{Turning, begun, turn, fall, over, goes-in}
-use Rattle.with_walk.proofs.walk_projections.Statement.{statement}
-use Rattle.with_walk.proofs.walk_projections.Tie as tie
+use Rattle.projection_walk.proofs.Projected.{Turning, begun, turn, fall, over, goes-in}
+use Rattle.projection_walk.proofs.walk_projections.Statement.{statement}
+use Rattle.projection_walk.proofs.walk_projections.Tie as tie
 
 abbrev Inv-loop : tie.InvT-loop
 Inv-loop s tab m₀ vis₀ found₀ held₀ n mode left₀ m vis found held left = Turning (words s) tab m₀ vis₀ found₀ held₀ mode n m vis found held left

@@ -2,10 +2,10 @@
 use borrow.Author.Needs.{needs}
 use native.Mathlib.Omega.{arith}
 use Rattle.clause_parts.proofs.Passing.{in-range}
-use Rattle.with_walk.proofs.Chained.{word-holding, word-ready}
-use Rattle.with_walk.proofs.Projected.{alias-refused, alias-passes}
-use Rattle.with_walk.proofs.walk_projection.Statement.{statement}
-use Rattle.with_walk.proofs.walk_projection.Tie as tie
+use Rattle.projection_walk.proofs.Chained.{word-holding, word-ready}
+use Rattle.projection_walk.proofs.Projected.{alias-refused, alias-passes}
+use Rattle.projection_walk.proofs.walk_projection.Statement.{statement}
+use Rattle.projection_walk.proofs.walk_projection.Tie as tie
 
 pub walk-projection-spec : {M : Type 1} → statement M
 walk-projection-spec =

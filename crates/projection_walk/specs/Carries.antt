@@ -1,7 +1,7 @@
--- What the walk over a WITH asks and leaves: the pairs that it holds, carries and binds.
+-- What the walk over the projections and the filter of a WITH asks and leaves: the pairs that they carry are held.
 use Prim.Native.Nat.{ℕ, zero, suc, _+_, _*_, _<_, _≤_}
 use mathlib.Core.Path.{_≡_}
-use mathlib.Core.Bool.{Bool, false}
+use mathlib.Core.Bool.{false}
 use mathlib.Core.List.{List, [], _∷_, _++_}
 use lib.ListN.{length, getD, set, drop}
 use Rattle.heads.specs.Got.{Got, ok, no, bind, anyWord, flag}
@@ -10,17 +10,15 @@ use Rattle.heads.specs.declared.Form.{Form}
 use Rattle.heads.specs.declared.Form.the-variants.{Var, Unresolved}
 use Rattle.clauses.specs.Read.{aliasOf}
 use Rattle.semantics.specs.World.{Direct, other}
-use Rattle.scope.specs.Graph.{rootScope}
-use Rattle.semantics.specs.Resolve.{Seen, seen, State, Pair, pair, enter, standing, bindAll, carries, barrier}
+use Rattle.semantics.specs.Resolve.{Pair, pair, carries}
 use Rattle.semantics.specs.Kinds.{general, plain}
 use Rattle.fused.specs.Fused.{Both, rowGo}
-use Rattle.fused.specs.Clauses.{within, directForm, directOf, projectionsGo, withGo}
+use Rattle.fused.specs.Clauses.{within, directForm, directOf, projectionsGo}
 use Rattle.visible.specs.Visible.{seens}
 use Rattle.steps.specs.Memory.{atOf, topOf, heldOf, namesIn, slotsIn, tablesIn, hushedIn, worldAt, modeOf}
-use Rattle.steps.specs.Hold.{Fits, Fit, Holds, onNames}
-use Rattle.walk.specs.Goes.{Goer}
-use Rattle.with_walk.specs.declared.Direct.{Direct as Direct'}
-use Rattle.with_walk.specs.declared.Direct.the-variants as direct'
+use Rattle.steps.specs.Hold.{Fit, Holds}
+use Rattle.projection_walk.specs.declared.Direct.{Direct as Direct'}
+use Rattle.projection_walk.specs.declared.Direct.the-variants as direct'
 
 -- the pairs that a WITH holds, two words each, in order
 unfoldable pub pairsIn : ℕ → List ℕ → List Pair
@@ -95,46 +93,7 @@ DirectAs f (direct'.Var v) = f ≡ Var v
 DirectAs f (direct'.Name x) = f ≡ Unresolved x
 DirectAs f direct'.Other = directForm f ≡ other
 
--- n pairs were bound: three words of the stack pay for each, and one for its event
-pub record BindsAll (n : ℕ) (ws tab m vis found held m' vis' found' : List ℕ) : Type 0 where
-  pub at : atOf m' ≡ atOf m
-  pub sized : length m' ≡ length m
-  pub seen : length vis' ≡ length vis
-  pub wrote : length found' ≡ length found
-  pub pairs : heldOf m' ≡ heldOf m
-  pub fit : (i k : ℕ) → Fits (n + i) k ws tab m vis found → slotsIn tab + (topOf m + n) * 3 + k ≤ atOf m + 1 → Fits i k ws tab m' vis' found'
-  pub goes : (id : ℕ → ℕ) (s : Both) → Holds id tab m vis found s → Holds id tab m' vis' found' (onNames (bindAll (worldAt ws tab id) (pairsIn n held)) s)
-
--- a new Root under the barrier, where the pairs are bound above what is seen of the names before
-abbrev pub rootedOn : (List Seen) → (ℕ → ℕ) → (ws tab : List ℕ) → (a b : ℕ) → List Pair → State → State
-rootedOn below id ws tab a b ps y =
-    let w = worldAt ws tab id in
-    let t = barrier w a b ps y in
-    bindAll w ps (enter rootScope b b (standing below (t .cur) t))
-
--- what a WITH leaves: of the names before it the first `top` are seen below the pairs
-pub record Rebinds (ws tab m vis found held m' vis' found' : List ℕ) (a b top : ℕ) : Type 0 where
-  pub at : atOf m' ≡ atOf m
-  pub sized : length m' ≡ length m
-  pub seen : length vis' ≡ length vis
-  pub wrote : length found' ≡ length found
-  pub pairs : heldOf m' ≡ heldOf m
-  pub fit : (k : ℕ) → Fit (2 + k + heldOf m * 2) ws tab m vis found → slotsIn tab + (top + heldOf m) * 3 + k ≤ atOf m → Fit k ws tab m' vis' found'
-  pub goes : (id : ℕ → ℕ) (s : Both) → Holds id tab m vis found s → Holds id tab m' vis' found' (onNames (rootedOn (seens (slotsIn tab) top vis) id ws tab a b (pairsIn (heldOf m) held)) s)
-
--- pairs are seen in the current scope, without an event
-abbrev pub seenBy : List Pair → State → State
-seenBy [] s = s
-seenBy (pair x v ∷ ps) s = seenBy ps (standing (seen x v (s .cur) ∷ s .visible) (s .cur) s)
-
-pub record SeesAll (n : ℕ) (ws tab m vis found held m' vis' : List ℕ) : Type 0 where
-  pub at : atOf m' ≡ atOf m
-  pub sized : length m' ≡ length m
-  pub seen : length vis' ≡ length vis
-  pub fit : (i k : ℕ) → Fits i k ws tab m vis found → slotsIn tab + (topOf m + n) * 3 + k ≤ atOf m + 1 → Fits i k ws tab m' vis' found
-  pub goes : (id : ℕ → ℕ) (s : Both) → Holds id tab m vis found s → Holds id tab m' vis' found (onNames (seenBy (pairsIn n held)) s)
-
--- What is walked, in a mode; a WITH has its span from a to b.
+-- What is walked, in a mode.
 module _ (ws tab : List ℕ) (mode : ℕ) where
   abbrev pub projectionsAt : ℕ → Projector
   projectionsAt n id ps = projectionsGo (worldAt ws tab id) (tablesIn tab) (carries (worldAt ws tab id)) (modeOf mode) n ps
@@ -152,7 +111,3 @@ module _ (ws tab : List ℕ) (mode : ℕ) where
       (λ n r1. bind (projectionsAt n id ps s r1)
       (λ x r2. bind (flag r2)
       (λ g r3. bind (rowGo (within (worldAt ws tab id) (tablesIn tab) (modeOf mode)) g plain (x .0) r3) (λ u r4. ok (u, x .1) r4))))
-
-  -- a WITH, sorted or not
-  abbrev pub withAt : Bool → (a b : ℕ) → Goer
-  withAt sorts a b id = withGo (worldAt ws tab id) (tablesIn tab) (modeOf mode) a b sorts

@@ -33,9 +33,9 @@ use Rattle.walk.specs.Goes.{Walked, exprIn}
 use Rattle.walk.proofs.Paid.{form-paid}
 use Rattle.walk.proofs.Stage.{placed, placed-fit, placed-holds}
 use Rattle.clause_parts.specs.Passes.{Next}
-use Rattle.with_walk.specs.Carries.{pairsIn, InNames, Holding, Adds, Carries, carriedAt, projectionsAt}
+use Rattle.projection_walk.specs.Carries.{pairsIn, InNames, Holding, Adds, Carries, carriedAt, projectionsAt}
 use Rattle.clause_parts.proofs.Cleared.{names-step}
-use Rattle.with_walk.proofs.Chained.{as-passes, walked-passes, word-passes, word-refused}
+use Rattle.projection_walk.proofs.Chained.{as-passes, walked-passes, word-passes, word-refused}
 
 -- ---- the two forms of an expression that may be carried are their use
 general-row : (o : Option Row) → atRow general o ≡ []

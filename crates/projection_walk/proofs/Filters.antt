@@ -14,8 +14,8 @@ use Rattle.steps.specs.Memory.{heldOf, tablesIn, worldAt, modeOf}
 use Rattle.steps.specs.Hold.{Ready}
 use Rattle.walk.specs.Goes.{Walked}
 use Rattle.clause_parts.specs.Passes.{Held, Next}
-use Rattle.with_walk.specs.Carries.{Projector, Carries, Holding, projectionsAt, filteredAt}
-use Rattle.with_walk.proofs.Chained.{first-refused, then-passes, walked-passes, carried-ready, word-size, word-held, word-holding, word-ready, word-passes, word-refused}
+use Rattle.projection_walk.specs.Carries.{Projector, Carries, Holding, projectionsAt, filteredAt}
+use Rattle.projection_walk.proofs.Chained.{first-refused, then-passes, walked-passes, carried-ready, word-size, word-held, word-holding, word-ready, word-passes, word-refused}
 
 -- what follows the flag, the projections, the count
 module _ (ws tab : List ℕ) (mode : ℕ) where

@@ -8,9 +8,9 @@ use Rattle.steps.proofs.Held.{ready-less}
 use Rattle.steps.specs.Memory.{topOf, slotsIn}
 use Rattle.visible.specs.Visible.{seens, scopeOf}
 use Rattle.words.specs.Words.{words}
-use Rattle.with_walk.proofs.Carrying.{adds-pair, adds-none, looked, unlooked, name-found, name-carried, name-missing, name-aliased}
-use Rattle.with_walk.proofs.carry_name.Statement.{statement}
-use Rattle.with_walk.proofs.carry_name.Tie as tie
+use Rattle.projection_walk.proofs.Carrying.{adds-pair, adds-none, looked, unlooked, name-found, name-carried, name-missing, name-aliased}
+use Rattle.projection_walk.proofs.carry_name.Statement.{statement}
+use Rattle.projection_walk.proofs.carry_name.Tie as tie
 
 pub carry-name-spec : {M : Type 1} → statement M
 carry-name-spec =

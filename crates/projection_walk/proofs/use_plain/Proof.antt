@@ -1,9 +1,9 @@
 -- The use is said where it is wanted and the variable has a row.
 use borrow.Author.Needs.{needs}
 use mathlib.Core.Path.{sym, _∙_}
-use Rattle.with_walk.proofs.Carrying.{plain-said, plain-none, plain-quiet}
-use Rattle.with_walk.proofs.use_plain.Statement.{statement}
-use Rattle.with_walk.proofs.use_plain.Tie as tie
+use Rattle.projection_walk.proofs.Carrying.{plain-said, plain-none, plain-quiet}
+use Rattle.projection_walk.proofs.use_plain.Statement.{statement}
+use Rattle.projection_walk.proofs.use_plain.Tie as tie
 
 pub use-plain-spec : {M : Type 1} → statement M
 use-plain-spec =
