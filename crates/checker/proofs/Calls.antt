@@ -26,7 +26,7 @@ use Rattle.theorems.proofs.Views.{pick-append}
 use Rattle.theorems.proofs.InLists.{in-lists}
 use Rattle.theorems.proofs.ApartSheets.{apart-sheets}
 use Rattle.finding.specs.Flat.{findingWords, findingOf}
-use Rattle.checker.specs.Filled.{filled, scopeWords, bindingWords, carriedWords, recordedWords, withScopes, withBindings, withCarried, withRecorded, withFindings}
+use Rattle.lists_fill.specs.Filled.{filled, scopeWords, bindingWords, carriedWords, recordedWords, withScopes, withBindings, withCarried, withRecorded, withFindings}
 use Rattle.checker.specs.Checked.{Lent, roomy, countsOf, filledBy, answer, left, answerIn, leftIn}
 use Rattle.checker.specs.Calls.{Call, writeOf, entriesIn, listsOf, pieces, partIn, SameLists}
 use Rattle.checker.specs.declared.Counts.{Counts}

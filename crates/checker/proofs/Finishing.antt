@@ -18,8 +18,8 @@ use Rattle.semantics.specs.Resolve.{log}
 use Rattle.semantics.specs.Kinds.{kinds}
 use Rattle.semantics.specs.Lists.{lists}
 use Rattle.sheet_walk.specs.Runs.{Scratch}
+use Rattle.lists_fill.specs.Filled.{withScopes, withBindings, withCarried, withRecorded, withFindings}
 use Rattle.checker.specs.Room.{enough}
-use Rattle.checker.specs.Filled.{withScopes, withBindings, withCarried, withRecorded, withFindings}
 use Rattle.checker.specs.Checked.{Lent, roomy, countsOf, filledBy, answer, left, answerIn, leftIn, Answers}
 use Rattle.checker.specs.Filling.{Long, Filling}
 use Rattle.checker.specs.declared.Counts.{Counts}

@@ -21,7 +21,8 @@ use Rattle.steps.specs.Memory.{kept}
 use Rattle.sheet_walk.specs.Runs.{warnsBy, wantsBy, idOf, RanTo, RanAs}
 use Rattle.sheet_walk.specs.declared.Ran.{Ran}
 use Rattle.sheet_walk.specs.declared.Ran.the-variants as ran
-use Rattle.checker.specs.Said.{idIn, eventsIn, toldIn, Heard, HeardAs}
+use Rattle.lists_fill.specs.Said.{idIn, eventsIn, toldIn}
+use Rattle.checker.specs.Heard.{Heard, HeardAs}
 use Rattle.checker.specs.Checked.{Lent}
 use Rattle.checker.specs.Filling.{Filling}
 use Rattle.checker.specs.declared.Counts.{Counts}

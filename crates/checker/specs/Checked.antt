@@ -9,8 +9,8 @@ use Rattle.words.specs.Words.{words}
 use Rattle.sheet.specs.Statement.{Statement}
 use Rattle.sheet.specs.Read.{Sheet, accepted, refused, readSheet}
 use Rattle.semantics.specs.Lists.{scopes, bindings, carriedList, recorded, findings}
+use Rattle.lists_fill.specs.Filled.{withScopes, withBindings, withCarried, withRecorded, withFindings}
 use Rattle.checker.specs.Room.{enough}
-use Rattle.checker.specs.Filled.{withScopes, withBindings, withCarried, withRecorded, withFindings}
 use Rattle.checker.specs.declared.Counts.{Counts}
 use Rattle.checker.specs.declared.Checked.{Checked}
 use Rattle.checker.specs.declared.Checked.the-variants as checked

@@ -5,8 +5,8 @@ use lib.ListN.{length}
 use Rattle.semantics.specs.Log.{Event, Finding, scopesIn, bindsIn, carriesIn, answersIn, findsIn}
 use Rattle.semantics.specs.Lists.{puts, notes}
 use Rattle.finding.specs.Flat.{findingWords}
-use Rattle.checker.specs.Filled.{scopeWords, bindingWords, carriedWords, recordedWords}
-use Rattle.checker.specs.Adding.{Holds}
+use Rattle.lists_fill.specs.Filled.{scopeWords, bindingWords, carriedWords, recordedWords}
+use Rattle.lists_fill.specs.Adding.{Holds}
 use Rattle.checker.specs.Checked.{Lent}
 use Rattle.checker.specs.declared.Counts.{Counts}
 use Rattle.checker.specs.declared.Tally.{Tally}

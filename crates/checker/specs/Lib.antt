@@ -1,7 +1,5 @@
 pub mod Room
-pub mod Filled
-pub mod Adding
 pub mod Checked
-pub mod Said
+pub mod Heard
 pub mod Filling
 pub mod Calls

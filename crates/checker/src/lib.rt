@@ -2,13 +2,11 @@
 // which alters none of them. Lists are flat words, an entry each: scopes 4 (kind, parent + 1 or 0, start, end), bindings 6 (scope, name,
 // variable, kind, 1 if it replaced one, the variable replaced or 0), carried 3 (barrier, name, variable), recorded 5 (use id, 1 found or 0
 // unresolved, variable, kind, via_projection), findings 6 (code, start, end, name + 1 or 0, two details).
-mod lists;
-
-use lists::fill_all_findings;
-use lists::fill_bindings;
-use lists::fill_carried;
-use lists::fill_recorded;
-use lists::fill_scopes;
+use lists_fill::fill_all_findings;
+use lists_fill::fill_bindings;
+use lists_fill::fill_carried;
+use lists_fill::fill_recorded;
+use lists_fill::fill_scopes;
 use sheet_walk::Ran;
 use sheet_walk::run;
 use words::count;
@@ -19,8 +17,9 @@ ghost use Prim.Native.Nat.{_≤_};
 ghost use lib.ListN.{length};
 ghost use Rattle.words.specs.Words.{words};
 ghost use Rattle.sheet_walk.specs.Runs.{warnsBy, wantsBy};
+ghost use Rattle.lists_fill.specs.Said.{idIn, eventsIn, toldIn};
 ghost use Rattle.checker.specs.Room.{enough};
-ghost use Rattle.checker.specs.Said.{idIn, eventsIn, toldIn, HeardAs};
+ghost use Rattle.checker.specs.Heard.{HeardAs};
 ghost use Rattle.checker.specs.Filling.{Fitting, Filling};
 ghost use Rattle.checker.specs.Checked.{lent, roomy, Answers, answerIn, leftIn, findingsIn};
 

@@ -20,8 +20,8 @@ use Rattle.sheet.proofs.Accepted.{accepted-words}
 use Rattle.finding.specs.declared.Finding.{Finding}
 use Rattle.finding.specs.Records.{into}
 use Rattle.finding.proofs.Storing.{into-records}
+use Rattle.lists_fill.specs.Filled.{filled, withFindings}
 use Rattle.checker.specs.Room.{enough}
-use Rattle.checker.specs.Filled.{filled, withFindings}
 use Rattle.checker.specs.Checked as core
 use Rattle.checker.specs.Checked.{countsOf, answer, answerIn, leftIn, findingsIn}
 use Rattle.checker.specs.declared.Checked.{Checked}

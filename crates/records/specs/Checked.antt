@@ -11,8 +11,8 @@ use Rattle.sheet.specs.Read.{Sheet, accepted, refused, readSheet}
 use Rattle.semantics.specs.Lists.{scopes, bindings, carriedList, recorded, findings}
 use Rattle.finding.specs.declared.Finding.{Finding}
 use Rattle.finding.specs.Records.{withRecords}
+use Rattle.lists_fill.specs.Filled.{withScopes, withBindings, withCarried, withRecorded}
 use Rattle.checker.specs.Room.{enough}
-use Rattle.checker.specs.Filled.{withScopes, withBindings, withCarried, withRecorded}
 use Rattle.checker.specs.Checked.{answer}
 use Rattle.checker.specs.declared.Checked.{Checked}
 

@@ -9,7 +9,7 @@ use lib.ListN.{length, take}
 use Rattle.words.specs.Words.{words}
 use Rattle.sheet.specs.Trailer.{placesOf}
 use Rattle.checker.specs.Checked.{Lent, roomy}
-use Rattle.checker.specs.Said.{Heard, HeardAs}
+use Rattle.checker.specs.Heard.{Heard, HeardAs}
 use Rattle.checker.proofs.Hearing.{trailed, names-at, filling-is}
 use Rattle.checker.proofs.Finishing.{long, fewer, refused-answer, short-answer, few-answer, full-answer}
 use Rattle.checker.proofs.answer.Statement.{statement}

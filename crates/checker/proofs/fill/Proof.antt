@@ -1,6 +1,6 @@
 -- Each list is filled from the same words.
 use borrow.Author.Needs.{needs}
-use Rattle.checker.specs.Said.{idIn}
+use Rattle.lists_fill.specs.Said.{idIn}
 use Rattle.checker.proofs.fill.Statement.{statement}
 use Rattle.checker.proofs.fill.Tie as tie
 

@@ -1,0 +1,4 @@
+pub mod Filling
+pub mod Adding
+pub mod Sorts
+pub mod Placing
