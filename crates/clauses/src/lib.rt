@@ -13,7 +13,8 @@ ghost use lib.ListN.{length, drop};
 ghost use Rattle.words.specs.Words.{words};
 ghost use Rattle.heads.specs.Got.{bare, many, counted};
 ghost use Rattle.heads.specs.Answer.{Reads, tables};
-ghost use Rattle.clauses.specs.Read.{readProjection, readYield, countedExprs, countedMarks, noKeys, someKeys, readMatch, readWith, readReturn, readUnwind, readCall, readBody, readClause, readArm};
+ghost use Rattle.clauses.specs.Read.{readProjection, readYield, countedExprs, countedMarks, noKeys, readMatch, readWith, readUnwind, readCall, readBody, readClause, readArm};
+ghost use Rattle.clauses.specs.Sorted.{sortedWith, sortedReturn};
 
 // The deepest expression that is read.
 pub const MAX_DEPTH: u32 = 48;
@@ -157,7 +158,7 @@ pub fn read_with(s: &[u8], names: u32, rows: usize, k: usize, at: usize) -> Read
 // With, sorted: the same, a count, and as many sort keys.
 pub fn read_sorted_with(s: &[u8], names: u32, rows: usize, k: usize, at: usize) -> Read
     requires { ⌜ at ≤ length (words (now s)) ⌝ }
-    ensures { λ r. ⌜ Reads (words (now (s .entry))) at (bare (readWith (tables (words (now (s .entry))) names rows k) 0 0 (someKeys (tables (words (now (s .entry))) names rows k)) (drop at (words (now (s .entry)))))) r ⌝ }
+    ensures { λ r. ⌜ Reads (words (now (s .entry))) at (bare (sortedWith (tables (words (now (s .entry))) names rows k) (drop at (words (now (s .entry)))))) r ⌝ }
 {
     let a = read_with(s, names, rows, k, at);
     let Read::Next(p) = a else {
@@ -169,7 +170,7 @@ pub fn read_sorted_with(s: &[u8], names: u32, rows: usize, k: usize, at: usize) 
 // Return, sorted: projections, a count, and as many sort keys.
 pub fn read_sorted_return(s: &[u8], names: u32, rows: usize, k: usize, at: usize) -> Read
     requires { ⌜ at ≤ length (words (now s)) ⌝ }
-    ensures { λ r. ⌜ Reads (words (now (s .entry))) at (bare (readReturn (tables (words (now (s .entry))) names rows k) 0 0 (someKeys (tables (words (now (s .entry))) names rows k)) (drop at (words (now (s .entry)))))) r ⌝ }
+    ensures { λ r. ⌜ Reads (words (now (s .entry))) at (bare (sortedReturn (tables (words (now (s .entry))) names rows k) (drop at (words (now (s .entry)))))) r ⌝ }
 {
     let a = counted_projections(s, names, rows, k, at);
     let Read::Next(p) = a else {
