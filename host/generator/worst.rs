@@ -36,6 +36,13 @@ pub const SORTED: [Family; 7] = [
     Family { name: "140 WITHs of one key each", make: keys_one_each },
 ];
 
+/// Sheets with many findings; at 8 KB they have 500.
+pub const WRITTEN: [Family; 3] = [
+    Family { name: "uses of one name of a byte", make: one_name },
+    Family { name: "uses of 100 names of 3 to 17 bytes", make: hundred_names },
+    Family { name: "eight messages in turns", make: messages },
+];
+
 /// The kilobytes that the sheets of a family have.
 pub const KILOBYTES: [u32; 4] = [1, 2, 4, 8];
 
@@ -221,6 +228,38 @@ fn keys_one_each(share: Share) -> Vec<u8> {
     let withs = share.of(140);
     let head = [11, 0, 9, 0, 1, 0, 0, 0].into_iter().chain((0..withs).flat_map(|_| [12, 0, 9, 1, 0, 8, 0, 0, 1, 8, 0])).collect();
     sheet(&numbered(1), Vec::new(), head, withs + 1)
+}
+
+/// A RETURN of such projections.
+fn returned(count: u32, one: impl Fn(u32) -> Vec<u32>) -> Vec<u32> {
+    [4, 0, 9, count].into_iter().chain((0..count).flat_map(one)).collect()
+}
+
+fn one_name(share: Share) -> Vec<u8> {
+    sheet(&numbered(1), Vec::new(), returned(share.of(500), |_| vec![0, 8, 0]), 1)
+}
+
+fn hundred_names(share: Share) -> Vec<u8> {
+    let names: Vec<String> = (0..100).map(|n| format!("{n:0>width$}", width = 3 + n * 37 % 100 * 15 / 100)).collect();
+    sheet(&names, Vec::new(), returned(share.of(500), |n| vec![0, 8, n % 100]), 1)
+}
+
+/// A path, a relationship and a node are bound, the last two in each other's place; projections that have one finding or two.
+fn messages(share: Share) -> Vec<u8> {
+    let names = ["path", "rel", "seat", "x", "row", "theatre"].map(str::to_owned);
+    let rows = [[0, 0, 3, 6, 7], [1, 1, 2, 11, 12], [2, 2, 1, 15, 16]].concat();
+    let mut head = vec![1, 0, 28, 0, 1, 1, 0, 3, 1, 1000, 1003, 1, 1, 0, 2, 1300, 1318, 1, 2, 0, 1, 18, 20, 0, 0];
+    head.extend(returned(share.of(398), |n| match n % 8 {
+        0 => vec![0, 15, 0, 7, 2, 7, 1],
+        1 => vec![0, 9, 3, 7, 0],
+        2 => vec![0, 10, 3, 3],
+        3 => vec![0, 11, 2, 5, 3],
+        4 => vec![0, 21, 0, 13, 0, 3],
+        5 => vec![0, 23, 1, 3, 5],
+        6 => vec![0, 8, 4],
+        _ => vec![0, 8, 5],
+    }));
+    sheet(&names, rows, head, 2)
 }
 
 const LETTERS: &[u8] = b"abcdefghijklmnopqrstuvwxyzABCDEFGHIJKLMNOPQRSTUVWXYZ0123456789_";

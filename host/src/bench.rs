@@ -1,6 +1,7 @@
 //! Times the C function and the Rust's whole job, plain and tuned, on the same sheets in one run, and prints two tables; then the C
-//! function alone on sheets with sort keys and the same ones without, and prints two more; see README.md.
-use generator::worst::{FAMILIES, Family, KILOBYTES, SORTED};
+//! function alone on sheets with sort keys and the same ones without, and prints two more, and on sheets with 500 findings, into pages of
+//! several lengths; see README.md.
+use generator::worst::{FAMILIES, Family, KILOBYTES, SORTED, WRITTEN};
 use generator::{Random, one};
 use std::collections::HashSet;
 use std::hint::black_box;
@@ -18,6 +19,9 @@ const TURN: usize = 1 << 18;
 /// How often each turn is timed, of which the least counts: with different sheets, and with one that is repeated.
 const ROUNDS: usize = 7;
 const REPEATED: usize = 21;
+/// How often a listing into a page is timed, and how many calls that is each time.
+const READINGS: usize = 800;
+const CALLS: usize = 8;
 
 // Linux's.
 const THREAD_TIME: i32 = 3;
@@ -190,6 +194,9 @@ fn by_size(jobs: &mut Jobs) -> ([Row; 8], [Sorted; 8]) {
 
 fn main() {
     let mut jobs = Jobs { page: vec![0; 1 << 21] };
+    if std::env::args().any(|word| word == "--writing") {
+        return writing(&mut jobs);
+    }
     let (rows, sorted) = by_size(&mut jobs);
     println!("| about, bytes | findings | ours, ns | Rust, ns | tuned Rust, ns | Rust / ours | tuned / ours |");
     println!("|---|---|---|---|---|---|---|");
@@ -220,6 +227,28 @@ fn main() {
     println!("|---|---|---|---|");
     for family in &SORTED {
         println!("| {} | {} |", family.name, sorted_growth(&mut jobs, family));
+    }
+    println!();
+    writing(&mut jobs);
+}
+
+/// A call with 500 findings into pages of several lengths, which take turns; the last is too short by all.
+fn writing(jobs: &mut Jobs) {
+    println!("| 500 findings | text, bytes | 1 MB of page, µs | 65,536 bytes | full page | no page |");
+    println!("|---|---|---|---|---|---|");
+    for family in &WRITTEN {
+        let bytes = family.sheet(8);
+        assert!(jobs.compare(&bytes) == Some(500), "500 findings");
+        let text = jobs.ours(&bytes).expect("an accepted sheet").len();
+        let pages = [1 << 20, 1 << 16, text, 0];
+        let mut least = [f64::INFINITY; 4];
+        for _ in 0..READINGS {
+            for (page, least) in pages.into_iter().zip(&mut least) {
+                let time = time(&[bytes.as_slice(); CALLS], |bytes| ours::answer(bytes, &mut jobs.page[..page], 1));
+                *least = least.min(time / CALLS as f64);
+            }
+        }
+        println!("| {} | {text} | {} |", family.name, least.map(|time| format!("{:.1}", time / 1000.0)).join(" | "));
     }
 }
 

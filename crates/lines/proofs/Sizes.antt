@@ -28,7 +28,7 @@ module _ (code a b : ℕ) where
   pub front-short : Small code → Small a → Small b → length (front code a b) ≤ 34
   front-short h g f = omega (arith, front-long, width-le code h, width-le a g, width-le b f)
 
-said-short : (t : Said) (x : List ℕ) (two : ℕ) → length (saidText t x two) ≤ length x + 200
+pub said-short : (t : Said) (x : List ℕ) (two : ℕ) → length (saidText t x two) ≤ length x + 132
 said-short (said.Is t) x two = text-short t x two
 said-short said.No x two = omega arith
 
@@ -37,8 +37,11 @@ module _ (code a b one two : ℕ) (x : List ℕ) where
   unfolding lineFor
   line-long = simp length-append (omega arith)
 
+  pub line-most : Small code → Small a → Small b → length (lineFor code a b one two x) ≤ 167 + length x
+  line-most h g f = omega (arith, line-long, front-short code a b h g f, said-short (textFor code one) x two)
+
   pub line-short : Small code → Small a → Small b → length x ≤ 8192 → length (lineFor code a b one two x) ≤ 8500
-  line-short h g f l = omega (arith, line-long, front-short code a b h g f, said-short (textFor code one) x two)
+  line-short h g f l = omega (arith, line-most h g f)
 
 pub listed-long : (names : List (List ℕ)) (fs : List Finding) → length (listed names fs) ≡ 10 + width (length fs) + length (flatMap (line names) fs)
 unfolding listed

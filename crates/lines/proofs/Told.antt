@@ -40,7 +40,7 @@ module _ (s tab found : List ℕ) (k front : ℕ) where
   pub told-within : (i n : ℕ) → i ≤ n → length (told i) ≤ length (told n)
   told-within i n h = let e : n ≡ n - i + i = omega arith in rw e (told-by i (n - i))
 
-  told-record : (i : ℕ) → let f = recordAt found (wordOf front found i) in told (i + 1) ≡ told i ++ lineFor (f .code) (f .start) (f .end) (f .one) (f .two) (nameAt s (placeOf (take k tab) (f .name) (length s)))
+  pub told-record : (i : ℕ) → let f = recordAt found (wordOf front found i) in told (i + 1) ≡ told i ++ lineFor (f .code) (f .start) (f .end) (f .one) (f .two) (nameAt s (placeOf (take k tab) (f .name) (length s)))
   unfolding line
   told-record i = rw (add-one i) (told-more i ∙ rw (name-there s (take k tab) (recordAt found (wordOf front found i) .name)))
 

@@ -1,8 +1,9 @@
 -- What the writer of the lines goes by: the section of the names, their places, and the findings as flat words, six each.
 use Prim.Native.Nat.{ℕ, zero, suc, _+_, _-_, _*_, _≤_}
-use mathlib.Core.Bool.{cond}
+use mathlib.Core.Path.{_≡_}
+use mathlib.Core.Bool.{Bool, cond}
 use mathlib.Core.List.{List, [], _∷_, _++_}
-use lib.Dec.{ltb}
+use lib.Dec.{ltb, leb}
 use lib.ListN.{length, getD}
 use Rattle.semantics.specs.Log.{Finding, finding}
 use Rattle.finding.specs.declared.Finding.{Finding as Record}
@@ -41,3 +42,8 @@ pub record Given (s : List ℕ) (k : ℕ) (tab : List ℕ) (n : ℕ) (found : Li
   pub places : k ≤ length tab
   pub few : n ≤ 2048
   pub flat : n * 6 ≤ length found
+
+-- whether so many bytes hold a listing of that length; that of a sheet's findings is below 2^32
+pub record Measured (len room : ℕ) (r : Bool) : Type 0 where
+  pub fits : r ≡ leb len room
+  pub small : len ≤ 17408020

@@ -2,3 +2,4 @@ pub mod Table
 pub mod Short
 pub mod Laying
 pub mod Giving
+pub mod Run

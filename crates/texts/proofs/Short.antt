@@ -1,4 +1,4 @@
--- The name of a kind or a type has at most 12 bytes, and a text at most 200 beside those of the name in it.
+-- The name of a kind or a type has at most 12 bytes, and a text at most 132 beside those of the name in it.
 use Prim.Native.Nat.{ℕ, zero, suc, _+_, _≤_}
 use native.Mathlib.Omega.{arith}
 use mathlib.Core.List.{List, [], _∷_}
@@ -24,7 +24,7 @@ pub kind-short : (k : ℕ) → length (kindName k) ≤ 12
 unfolding kindName
 kind-short k = entry-short ([] ∷ kindNames) k (omega arith)
 
-pub text-short : (t : Text) (x : List ℕ) (two : ℕ) → length (textOf t x two) ≤ length x + 200
+pub text-short : (t : Text) (x : List ℕ) (two : ℕ) → length (textOf t x two) ≤ length x + 132
 unfolding textOf
 text-short text.Unresolved x two = simp length-append (omega arith)
 text-short text.Shadows x two = simp length-append (omega arith)

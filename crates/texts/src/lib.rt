@@ -1,21 +1,43 @@
-// The texts of the findings, written at the front of lent bytes. A function for each text holds its own byte strings, since a function's
-// byte strings are all stored when it begins.
+// The texts of the findings, written at the front of lent bytes, piece by piece: no array holds a text in between.
 mod codes;
 mod measure;
 mod pieces;
+mod runs;
 
 pub use codes::Said;
 pub use codes::text_for;
 pub use measure::text_len;
-use pieces::around;
-use pieces::kinded;
+use pieces::as_node;
+use pieces::as_path;
+use pieces::as_rel;
+use pieces::cannot_index;
+use pieces::cannot_iterate;
+use pieces::cannot_slice;
+use pieces::expected_node;
+use pieces::expected_path;
+use pieces::expected_rel;
+use pieces::has_kind;
+use pieces::in_arithmetic;
+use pieces::iterable_found;
+use pieces::lay_kind;
+use pieces::lay_type;
+use pieces::list_source;
+use pieces::list_target;
+use pieces::no_property;
+use pieces::predicate_found;
 pub use pieces::put;
-use pieces::typed;
-ghost use mathlib.Core.List.{[]};
-ghost use Prim.Native.Nat.{_≤_};
+use pieces::shadows_earlier;
+use pieces::unresolved_variable;
+use pieces::variable;
+pub use runs::lay;
+use runs::lay_name;
+ghost use mathlib.Core.List.{[], _++_};
+ghost use Prim.Native.Nat.{_+_, _≤_};
 ghost use lib.ListN.{length};
-ghost use Rattle.texts.specs.Texts.{textOf};
+ghost use Rattle.texts.specs.Bytes.{bytes};
+ghost use Rattle.texts.specs.Texts.{typeName, kindName, textOf};
 ghost use Rattle.texts.specs.Over.{Puts};
+ghost use Rattle.texts.specs.Laid.{Lays};
 ghost use Rattle.texts.specs.declared.Text.the-variants as text;
 
 // What a finding says: one for each text of resolve.rs and kinds.rs.
@@ -40,142 +62,123 @@ pub enum Written {
     Refused(u32),
 }
 
-fn unresolved(x: &[u8], out: &mut [u8]) -> usize
-    requires { ⌜ length (textOf text.Unresolved (now x) 0) ≤ length (now out) ⌝ }
-    ensures { λ r. ⌜ Puts (textOf text.Unresolved (now (x .entry)) 0) (now (out .entry)) (now (out .exit)) r ⌝ }
+// What is said of a variable begins so.
+fn named(x: &[u8], out: &mut [u8]) -> usize
+    requires { ⌜ 10 + length (now x) ≤ length (now out) ⌝ }
+    ensures { λ r. ⌜ Lays (bytes "variable `" ++ now (x .entry)) (now (out .entry)) 0 (now (out .exit)) r ⌝ }
 {
-    around(b"unresolved variable `", x, b"`", out)
+    let p = variable(0, out);
+    lay_name(x, p, out)
+}
+
+fn unresolved(x: &[u8], out: &mut [u8]) -> usize
+    requires { ⌜ 22 + length (now x) ≤ length (now out) ⌝ }
+    ensures { λ r. ⌜ Lays (textOf text.Unresolved (now (x .entry)) 0) (now (out .entry)) 0 (now (out .exit)) r ⌝ }
+{
+    let p = unresolved_variable(0, out);
+    let q = lay_name(x, p, out);
+    lay(96, 1, q, out)
 }
 
 fn shadows(x: &[u8], out: &mut [u8]) -> usize
-    requires { ⌜ length (textOf text.Shadows (now x) 0) ≤ length (now out) ⌝ }
-    ensures { λ r. ⌜ Puts (textOf text.Shadows (now (x .entry)) 0) (now (out .entry)) (now (out .exit)) r ⌝ }
+    requires { ⌜ 38 + length (now x) ≤ length (now out) ⌝ }
+    ensures { λ r. ⌜ Lays (textOf text.Shadows (now (x .entry)) 0) (now (out .entry)) 0 (now (out .exit)) r ⌝ }
 {
-    around(b"variable `", x, b"` shadows an earlier binding", out)
+    let p = named(x, out);
+    shadows_earlier(p, out)
 }
 
 fn arithmetic(x: &[u8], kind: u32, out: &mut [u8]) -> usize
-    requires { ⌜ length (textOf text.Arithmetic (now x) kind) ≤ length (now out) ⌝ }
-    ensures { λ r. ⌜ Puts (textOf text.Arithmetic (now (x .entry)) kind) (now (out .entry)) (now (out .exit)) r ⌝ }
+    requires { ⌜ 102 + (length (now x) + length (kindName kind)) ≤ length (now out) ⌝ }
+    ensures { λ r. ⌜ Lays (textOf text.Arithmetic (now (x .entry)) kind) (now (out .entry)) 0 (now (out .exit)) r ⌝ }
 {
-    kinded(
-        x,
-        b"` has kind `",
-        kind,
-        b"` but is used in an arithmetic expression; only `Value` variables are valid here",
-        out,
-    )
+    let p = named(x, out);
+    let q = has_kind(p, out);
+    let r = lay_kind(kind, q, out);
+    in_arithmetic(r, out)
 }
 
 fn prop_access(x: &[u8], out: &mut [u8]) -> usize
-    requires { ⌜ length (textOf text.PropAccess (now x) 0) ≤ length (now out) ⌝ }
-    ensures { λ r. ⌜ Puts (textOf text.PropAccess (now (x .entry)) 0) (now (out .entry)) (now (out .exit)) r ⌝ }
+    requires { ⌜ 132 + length (now x) ≤ length (now out) ⌝ }
+    ensures { λ r. ⌜ Lays (textOf text.PropAccess (now (x .entry)) 0) (now (out .entry)) 0 (now (out .exit)) r ⌝ }
 {
-    around(
-        b"variable `",
-        x,
-        b"` has kind `Path` and does not support property access; use `nodes()` or `relationships()` to extract graph elements first",
-        out,
-    )
+    let p = named(x, out);
+    no_property(p, out)
 }
 
 fn path_binder(x: &[u8], kind: u32, out: &mut [u8]) -> usize
-    requires { ⌜ length (textOf text.PathBinder (now x) kind) ≤ length (now out) ⌝ }
-    ensures { λ r. ⌜ Puts (textOf text.PathBinder (now (x .entry)) kind) (now (out .entry)) (now (out .exit)) r ⌝ }
+    requires { ⌜ 64 + (length (now x) + length (kindName kind)) ≤ length (now out) ⌝ }
+    ensures { λ r. ⌜ Lays (textOf text.PathBinder (now (x .entry)) kind) (now (out .entry)) 0 (now (out .exit)) r ⌝ }
 {
-    kinded(
-        x,
-        b"` used as path binder but has kind `",
-        kind,
-        b"`; expected `Path`",
-        out,
-    )
+    let p = named(x, out);
+    let q = as_path(p, out);
+    let r = lay_kind(kind, q, out);
+    expected_path(r, out)
 }
 
 fn node_position(x: &[u8], kind: u32, out: &mut [u8]) -> usize
-    requires { ⌜ length (textOf text.NodePosition (now x) kind) ≤ length (now out) ⌝ }
-    ensures { λ r. ⌜ Puts (textOf text.NodePosition (now (x .entry)) kind) (now (out .entry)) (now (out .exit)) r ⌝ }
+    requires { ⌜ 74 + (length (now x) + length (kindName kind)) ≤ length (now out) ⌝ }
+    ensures { λ r. ⌜ Lays (textOf text.NodePosition (now (x .entry)) kind) (now (out .entry)) 0 (now (out .exit)) r ⌝ }
 {
-    kinded(
-        x,
-        b"` used in node-pattern position but has kind `",
-        kind,
-        b"`; expected `Node`",
-        out,
-    )
+    let p = named(x, out);
+    let q = as_node(p, out);
+    let r = lay_kind(kind, q, out);
+    expected_node(r, out)
 }
 
 fn rel_position(x: &[u8], kind: u32, out: &mut [u8]) -> usize
-    requires { ⌜ length (textOf text.RelPosition (now x) kind) ≤ length (now out) ⌝ }
-    ensures { λ r. ⌜ Puts (textOf text.RelPosition (now (x .entry)) kind) (now (out .entry)) (now (out .exit)) r ⌝ }
+    requires { ⌜ 90 + (length (now x) + length (kindName kind)) ≤ length (now out) ⌝ }
+    ensures { λ r. ⌜ Lays (textOf text.RelPosition (now (x .entry)) kind) (now (out .entry)) 0 (now (out .exit)) r ⌝ }
 {
-    kinded(
-        x,
-        b"` used in relationship-pattern position but has kind `",
-        kind,
-        b"`; expected `Relationship`",
-        out,
-    )
+    let p = named(x, out);
+    let q = as_rel(p, out);
+    let r = lay_kind(kind, q, out);
+    expected_rel(r, out)
 }
 
 fn index(t: u32, out: &mut [u8]) -> usize
-    requires { ⌜ length (textOf text.Index [] t) ≤ length (now out) ⌝ }
-    ensures { λ r. ⌜ Puts (textOf text.Index [] t) (now (out .entry)) (now (out .exit)) r ⌝ }
+    requires { ⌜ 92 + length (typeName t) ≤ length (now out) ⌝ }
+    ensures { λ r. ⌜ Lays (textOf text.Index [] t) (now (out .entry)) 0 (now (out .exit)) r ⌝ }
 {
-    typed(
-        b"cannot index non-list expression of type `",
-        t,
-        b"`; list indexing and slicing require a list target",
-        out,
-    )
+    let p = cannot_index(0, out);
+    let q = lay_type(t, p, out);
+    list_target(q, out)
 }
 
 fn slice(t: u32, out: &mut [u8]) -> usize
-    requires { ⌜ length (textOf text.Slice [] t) ≤ length (now out) ⌝ }
-    ensures { λ r. ⌜ Puts (textOf text.Slice [] t) (now (out .entry)) (now (out .exit)) r ⌝ }
+    requires { ⌜ 92 + length (typeName t) ≤ length (now out) ⌝ }
+    ensures { λ r. ⌜ Lays (textOf text.Slice [] t) (now (out .entry)) 0 (now (out .exit)) r ⌝ }
 {
-    typed(
-        b"cannot slice non-list expression of type `",
-        t,
-        b"`; list indexing and slicing require a list target",
-        out,
-    )
+    let p = cannot_slice(0, out);
+    let q = lay_type(t, p, out);
+    list_target(q, out)
 }
 
 fn iterate_over(t: u32, out: &mut [u8]) -> usize
-    requires { ⌜ length (textOf text.IterateOver [] t) ≤ length (now out) ⌝ }
-    ensures { λ r. ⌜ Puts (textOf text.IterateOver [] t) (now (out .entry)) (now (out .exit)) r ⌝ }
+    requires { ⌜ 99 + length (typeName t) ≤ length (now out) ⌝ }
+    ensures { λ r. ⌜ Lays (textOf text.IterateOver [] t) (now (out .entry)) 0 (now (out .exit)) r ⌝ }
 {
-    typed(
-        b"cannot iterate over non-list expression of type `",
-        t,
-        b"`; list indexing and slicing require a list target",
-        out,
-    )
+    let p = cannot_iterate(0, out);
+    let q = lay_type(t, p, out);
+    list_target(q, out)
 }
 
 fn list_iterable(t: u32, out: &mut [u8]) -> usize
-    requires { ⌜ length (textOf text.ListIterable [] t) ≤ length (now out) ⌝ }
-    ensures { λ r. ⌜ Puts (textOf text.ListIterable [] t) (now (out .entry)) (now (out .exit)) r ⌝ }
+    requires { ⌜ 99 + length (typeName t) ≤ length (now out) ⌝ }
+    ensures { λ r. ⌜ Lays (textOf text.ListIterable [] t) (now (out .entry)) 0 (now (out .exit)) r ⌝ }
 {
-    typed(
-        b"list-predicate iterable must be a list but found `",
-        t,
-        b"`; ANY/ALL/NONE/SINGLE require a `LIST<T>` source",
-        out,
-    )
+    let p = iterable_found(0, out);
+    let q = lay_type(t, p, out);
+    list_source(q, out)
 }
 
 fn bool_predicate(t: u32, out: &mut [u8]) -> usize
-    requires { ⌜ length (textOf text.BoolPredicate [] t) ≤ length (now out) ⌝ }
-    ensures { λ r. ⌜ Puts (textOf text.BoolPredicate [] t) (now (out .entry)) (now (out .exit)) r ⌝ }
+    requires { ⌜ 68 + length (typeName t) ≤ length (now out) ⌝ }
+    ensures { λ r. ⌜ Lays (textOf text.BoolPredicate [] t) (now (out .entry)) 0 (now (out .exit)) r ⌝ }
 {
-    typed(
-        b"list-predicate WHERE clause requires a `Bool` predicate but found `",
-        t,
-        b"`",
-        out,
-    )
+    let p = predicate_found(0, out);
+    let q = lay_type(t, p, out);
+    lay(96, 1, q, out)
 }
 
 // The text that a push gives, for the name x and detail two, into bytes that hold it; how long it is.

@@ -4,16 +4,15 @@ use borrow.Author.Needs.{needs}
 use native.Mathlib.Omega.{arith}
 use lib.ListN.{length}
 use Rattle.heads.proofs.Chain.{fact}
-use Rattle.texts.specs.Bytes.{bytes}
 use Rattle.texts.specs.Codes.{textFor}
-use Rattle.texts.proofs.Laying.{has-room, then-puts}
+use Rattle.texts.proofs.Run.{lays-then, lays-rest, lays-front}
 use Rattle.lines.specs.Lines.{saidText, front, lineFor}
 use Rattle.lines.proofs.Sizes.{line-long}
-use Rattle.lines.proofs.Pieces.{of-three}
+use Rattle.lines.proofs.Pieces.{leaves}
 use Rattle.lines.proofs.put_line.Statement.{statement}
 use Rattle.lines.proofs.put_line.Tie as tie
 
-abbrev start : tie.After-put-front → tie.Start
+abbrev start : tie.After-lay-front → tie.Start
 start k = k .before .before .before .before
 
 -- all three pieces have room
@@ -23,32 +22,24 @@ fits s = let f = s .args .f in omega (arith, line-long (f .code) (f .start) (f .
 pub put-line-spec : {M : Type 1} → statement M
 unfolding lineFor
 put-line-spec =
-    let second = fact (λ (k : tie.After-put-front).
+    let left = fact (λ (k : tie.After-lay-front).
     let s = start k in
-    let p = k .put-front .ensures in
-    has-room (saidText (textFor (s .args .f .code) (s .args .f .one)) (s .args .x .now) (s .args .f .two)) p (omega (arith, fits s, p .long))) in
-    let two = fact (λ (k : tie.After-put-said). then-puts (k .before .before .before .before .put-front .ensures) (k .put-said .ensures)) in
-    let third = fact (λ (k : tie.After-put-said). has-room (bytes "\n") (two k) (omega (arith, fits (start (k .before .before .before .before)), two k .long))) in
+    leaves (saidText (textFor (s .args .f .code) (s .args .f .one)) (s .args .x .now) (s .args .f .two)) (k .lay-front .ensures) (omega (arith, fits s))) in
+    let said = fact (λ (k : tie.After-put-said).
+    let j = k .before .before .before .before in
+    lays-rest (k .put-said .ensures) (left j .fits)) in
     tie.close
     (tie.spec
-    (λ c κs. omega (arith, fits (c .before .before .before)))  -- put-front-requires
-    (λ c. second (c .before .before) .0)  -- sub-put-said
-    (λ c. second (c .before .before) .0)  -- part-put-said-start
+    (λ c κs. omega (arith, fits (c .before .before .before)))  -- lay-front-requires
+    (λ c. left (c .before .before) .within)  -- sub-put-said
+    (λ c. left (c .before .before) .within)  -- part-put-said-start
     (λ c. search needs)  -- part-put-said-end
-    (λ c κs. second (c .before .before .before) .1)  -- put-said-requires
-    (λ c. let k = c .before .before in let s = start (k .before .before .before .before) in omega (arith, fits s, two k .long, s .good))  -- add-b
-    (λ c. search needs)  -- slice-aggregate-put
-    (λ c. third (c .before .before .before) .0)  -- sub-put
-    (λ c. third (c .before .before .before) .0)  -- part-put-start
-    (λ c. search needs)  -- part-put-end
-    (λ c κs. third (c .before .before .before .before) .1)  -- put-requires
-    (λ c.  -- add-result
-    let k = c .before .before .before .before .before .before .before in
-    let s = start (k .before .before .before .before) in
-    omega (arith, fits s, two k .long, c .before .before .put .ensures .long, s .good))
+    (λ c κs. left (c .before .before .before) .room)  -- put-said-requires
+    (λ c. let k = c .before .before in let j = k .before .before .before .before in omega (arith, said k .next, left j .fits, j .lay-front .ensures .same, start j .good))  -- add-b
+    (λ c κs. let k = c .before .before .before in let j = k .before .before .before .before in omega (arith, fits (start j), said k .next, said k .same, j .lay-front .ensures .next, j .lay-front .ensures .same))  -- lay-requires
     (λ c. search needs)  -- same-length
     (λ c.  -- returns
-    let k = c .before .before .before .before .before .before .before in
-    let a = start (k .before .before .before .before) .args in
-    let f = a .f in
-    of-three (front (f .code) (f .start) (f .end)) (saidText (textFor (f .code) (f .one)) (a .x .now) (f .two)) (bytes "\n") (then-puts (two k) (c .before .before .put .ensures))))
+    let i = c .before .before in
+    let k = i .before .before .before .before in
+    let j = k .before .before .before .before in
+    lays-front (lays-then (j .lay-front .ensures) (lays-then (said k) (i .lay .ensures))) (start j .pre)))

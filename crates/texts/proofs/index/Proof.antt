@@ -1,6 +1,7 @@
--- What the callee lays is the definition's text.
+-- Each piece is laid where the last one ended.
 use borrow.Author.Needs.{needs}
 use Rattle.texts.specs.Texts.{textOf}
+use Rattle.texts.proofs.Run.{lays-then}
 use Rattle.texts.proofs.index.Statement.{statement}
 use Rattle.texts.proofs.index.Tie as tie
 
@@ -9,8 +10,12 @@ unfolding textOf
 index-spec =
     tie.close
     (tie.spec
-    (λ c. search needs)  -- slice-aggregate-typed
-    (λ c. search needs)  -- slice-aggregate-typed-2
-    (λ c κs. c .before .before .before .before .pre)  -- typed-requires
+    (λ c κs. search needs)  -- cannot-index-requires
+    (λ c κs. search needs)  -- lay-type-requires
+    (λ c κs. search needs)  -- list-target-requires
     (λ c. search needs)  -- same-length
-    (λ c. c .before .before .typed .ensures))  -- returns
+    (λ c.  -- returns
+    let k₃ = c .before .before in
+    let k₂ = k₃ .before .before .before .before in
+    let k₁ = k₂ .before .before .before .before in
+    lays-then (k₁ .cannot-index .ensures) (lays-then (k₂ .lay-type .ensures) (k₃ .list-target .ensures))))

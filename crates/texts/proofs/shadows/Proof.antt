@@ -1,6 +1,7 @@
--- What the callee lays is the definition's text.
+-- Each piece is laid where the last one ended.
 use borrow.Author.Needs.{needs}
 use Rattle.texts.specs.Texts.{textOf}
+use Rattle.texts.proofs.Run.{lays-then}
 use Rattle.texts.proofs.shadows.Statement.{statement}
 use Rattle.texts.proofs.shadows.Tie as tie
 
@@ -9,8 +10,10 @@ unfolding textOf
 shadows-spec =
     tie.close
     (tie.spec
-    (λ c. search needs)  -- slice-aggregate-around
-    (λ c. search needs)  -- slice-aggregate-around-2
-    (λ c κs. c .before .before .before .before .before .pre)  -- around-requires
+    (λ c κs. search needs)  -- named-requires
+    (λ c κs. search needs)  -- shadows-earlier-requires
     (λ c. search needs)  -- same-length
-    (λ c. c .before .before .around .ensures))  -- returns
+    (λ c.  -- returns
+    let k₂ = c .before .before in
+    let k₁ = k₂ .before .before .before .before in
+    lays-then (k₁ .named .ensures) (k₂ .shadows-earlier .ensures)))

@@ -1,0 +1,4 @@
+pub mod Filling
+pub mod Adding
+pub mod Placing
+pub mod Stamping

@@ -1,0 +1,3 @@
+pub mod Fused
+pub mod Clauses
+pub mod Sheet

@@ -1,0 +1,3 @@
+pub mod Adding
+pub mod Sorts
+pub mod Weaving

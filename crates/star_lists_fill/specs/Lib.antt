@@ -1,0 +1,3 @@
+pub mod Said
+pub mod Adding
+pub mod Weaving

@@ -1,0 +1,4 @@
+pub mod Carrying
+pub mod Chained
+pub mod Projected
+pub mod Filters

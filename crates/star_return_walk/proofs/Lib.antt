@@ -1,0 +1,4 @@
+pub mod Returned
+pub mod Marking
+pub mod Hushed
+pub mod Sorted

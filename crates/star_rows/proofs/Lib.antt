@@ -1,0 +1,5 @@
+pub mod Spread
+pub mod Chains
+pub mod Hanging
+pub mod Ids
+pub mod Found
