@@ -13,7 +13,7 @@ use Rattle.visible.specs.Visible.{seens, Descends}
 use Rattle.visible.proofs.Names.{descends-above}
 use Rattle.steps.specs.Memory.{atOf, topOf, lastOf, saidOf, toldOf, lostOf, heldOf, slotsIn}
 use Rattle.steps.specs.Hold.{Fits, Holds, Left, onNames}
-use Rattle.steps.proofs.Held.{Numbers, unset, store, refit, drop-seens}
+use Rattle.steps.proofs.Held.{Numbers, unset, store, refit, drop-seens, recounted}
 use Rattle.walk.specs.Goes.{Goer}
 use Rattle.walk.proofs.Stage.{Rest, Stage}
 
@@ -44,12 +44,14 @@ module _ {tab m vis m' vis' : List ℕ} {top cur : ℕ} (size : length m ≡ 64)
         log = rw (q .said) (h .log);
         kinds = rw (q .told) (h .kinds);
         known = rw (q .lost) (h .known);
+        counts = recounted q (h .counts);
+        uses = h .uses;
       }
 
 -- any number of words may be left of the stack's room
 pub cut-fits : {ws tab m vis found m' vis' : List ℕ} {i k top cur : ℕ} → Fits i k ws tab m vis found → Left tab m vis m' vis' top cur → top ≤ topOf m → Descends cur (seens (slotsIn tab) top vis) → cur ≤ lastOf m → Fits i k ws tab m' vis' found
 cut-fits g p h d l =
-    refit g (cut-numbers (g .size) p) (p .kept) refl (p .tabled) (rw (p .below) d) l (g .last) (g .count) (omega (arith, g .stack))
+    refit g (cut-numbers (g .size) p) (p .kept) refl (p .tabled) (rw (p .below) d) l (g .last) (g .count) (omega (arith, g .stack)) (omega arith)
 
 -- ---- with nothing visible
 pub cleared-fits : {ws tab m vis found m' vis' : List ℕ} {i k cur : ℕ} → Fits i k ws tab m vis found → Left tab m vis m' vis' 0 cur → cur ≤ lastOf m → Fits i k ws tab m' vis' found

@@ -1,5 +1,5 @@
 -- What a walk over parts of clauses asks and leaves. A WITH replaces what is visible, so nothing is said of what stays below.
-use Prim.Native.Nat.{ℕ, zero, suc, _+_, _<_, _≤_}
+use Prim.Native.Nat.{ℕ, zero, suc, _+_, _*_, _<_, _≤_}
 use mathlib.Core.Path.{_≡_}
 use mathlib.Core.Bool.{true}
 use mathlib.Core.List.{List}
@@ -38,7 +38,7 @@ Unmarked tab = (x : ℕ) → x < slotsIn tab → getD tab (16 + x) 0 ≡ 0
 
 -- what the clauses ask besides: room for the pairs of a WITH and the aliases of a RETURN, that names are resolved, and that none is marked
 pub record Held (ws tab held : List ℕ) (mode : ℕ) : Type 0 where
-  pub room : length ws ≤ length held
+  pub room : 2 * length ws ≤ length held
   pub resolves : modeOf mode .resolves ≡ true
   pub unmarked : Unmarked tab
 

@@ -1,9 +1,9 @@
 -- Clauses and arms: reading and both walks in one is reading, and then the two walks (`apart-clause`, `apart-arm`, and for rows of them
--- `apart-clauses`, `apart-arms`). `projections-law` is for whatever is kept of projections, `keys-law` for sort keys: a WITH's see what was
+-- `apart-clauses`, `apart-arms`). `projections-law` is for whatever is kept of projections (`taken-all`: what a WITH takes of them), `keys-law` for sort keys: a WITH's see what was
 -- visible before it (`with-step`), a RETURN's are hushed (`return-step`), which says nothing of kinds (`kinds-hush`).
 use Prim.Native.Nat.{ℕ, zero, suc}
 use mathlib.Core.Path.{_≡_, refl, ap, ap₂, sym, _∙_}
-use mathlib.Core.Bool.{Bool, true, false, cond, _&&_}
+use mathlib.Core.Bool.{Bool, true, false, cond, _&&_, _||_, or-assoc, or-false}
 use mathlib.Core.List.{List, [], _∷_, _++_, flatMap, append-assoc, append-nil}
 use mathlib.Core.Option.{Option}
 use lib.Dec.{eqb}
@@ -22,11 +22,11 @@ use Rattle.clauses.specs.Read.{maxDepth, aliasOf, clauseExpr, readProjection, r
 use Rattle.clauses.specs.Binders.{bindersP, bindersC, bindersA}
 use Rattle.tables.specs.Row.{valueKind}
 use Rattle.semantics.specs.World.{World, hush, opens, Direct, direct, yieldName, nameOf}
-use Rattle.semantics.specs.Resolve.{State, Seen, Pair, enter, leave, standing, bindName, bindAnew, resolve, resolves, bindPattern, carries, carriedBy, barrier, fresh, yields, aliasIn, aliases, sortBy, clause, clauses, arms}
+use Rattle.semantics.specs.Resolve.{State, Seen, Pair, enter, leave, standing, bindName, bindAnew, resolve, resolves, bindPattern, carries, projected, isAll, anyStar, starred, carriedBy, barrier, fresh, yields, aliasIn, aliases, sortBy, clause, clauses, arms}
 use Rattle.semantics.specs.Kinds.{Setting, general, Pair as Settings, both, plain, settings, rowFor, kindsE, kindsEs, kindsS, kindsC, kinds}
 use Rattle.theorems.proofs.Keeps.{keeps}
 use Rattle.fused.specs.Fused.{Both, Mode, unresolving, Go, when, told, step, hasRow, noting, rounds, rowGo, left, markGo}
-use Rattle.fused.specs.Clauses.{directForm, directOf, returned, beside, aliased, inArms, within, projectionsGo, countedRow, yielded, yieldGo, openingGo, rootedBy, sortGo, withGo, keysGo, returnGo, unwindGo, callGo, markedGo, bodyGo, clauseGo, armGo}
+use Rattle.fused.specs.Clauses.{directForm, directOf, returned, beside, aliased, Taken, nothing, takes, allOf, inArms, within, projectionsGo, countedRow, yielded, yieldGo, openingGo, rootedBy, sortGo, withGo, keysGo, returnGo, unwindGo, callGo, markedGo, bodyGo, clauseGo, armGo}
 use Rattle.fused.proofs.Apart.{told-append, when-two, step-two, step-none, known-two, move, move-two, move-none, after, map-map, each, act, acts, lays, kids-law, marks-law, pattern-law, apart}
 
 -- things in a row, each read and walked
@@ -102,20 +102,33 @@ module _ (xs : List ℕ) (w : World) where
     kinds-hushS (part p st) = rw (kinds-hushS st)
     kinds-hushS (elem k a b v es st) = rw (kinds-hush es plain, kinds-hushS st)
 
--- what is kept of projections: the pairs that a WITH carries, the aliases of a RETURN
-abbrev keptBy : {A : Type 0} → (Option ℕ → Direct → List Seen → List A) → List Projection → List Seen → List A
-keptBy keep [] vis = []
-keptBy keep (projection a e ∷ ps) vis = keep a (direct e) vis ++ keptBy keep ps vis
+-- what is kept of projections, one after the other: what a WITH takes, the aliases of a RETURN
+abbrev pub keptBy : {A : Type 0} → (Option ℕ → Direct → List Seen → A → A) → List Projection → List Seen → A → A
+keptBy keep [] vis q = q
+keptBy keep (projection a e ∷ ps) vis q = keptBy keep ps vis (keep a (direct e) vis q)
 
-carries-kept : (w : World) (ps : List Projection) (vis : List Seen) → carriedBy w ps vis ≡ keptBy (carries w) ps vis
-unfolding carriedBy
-carries-kept w [] vis = refl
-carries-kept w (projection a e ∷ ps) vis = ap (λ (qs : List Pair). carries w a (direct e) vis ++ qs) (carries-kept w ps vis)
+takes-kept : (w : World) (ps : List Projection) (vis : List Seen) (q : Taken) → keptBy (takes w) ps vis q ≡ record { star = q .star || anyStar w ps; pairs = q .pairs ++ projected w ps vis }
+unfolding anyStar projected
+takes-kept w [] vis q = λ i. record { star = sym (or-false (q .star)) i; pairs = sym (append-nil (q .pairs)) i }
+takes-kept w (projection a e ∷ ps) vis q =
+    takes-kept w ps vis (takes w a (direct e) vis q)
+    ∙ (λ i. record { star = or-assoc (q .star) (isAll w a (direct e)) (anyStar w ps) i; pairs = append-assoc (q .pairs) (carries w a (direct e) vis) (projected w ps vis) i })
 
-aliases-kept : (ps : List Projection) (vis : List Seen) → aliases ps ≡ keptBy aliased ps vis
+-- from nothing: whether there is a star, and the pairs of the others; so all that the WITH carries
+pub taken-all : (w : World) (ps : List Projection) (vis : List Seen) → keptBy (takes w) ps vis nothing ≡ record { star = anyStar w ps; pairs = projected w ps vis }
+taken-all w ps vis = takes-kept w ps vis nothing
+
+carries-kept : (w : World) (ps : List Projection) (vis : List Seen) → carriedBy w ps vis ≡ allOf (keptBy (takes w) ps vis nothing) vis
+unfolding carriedBy starred
+carries-kept w ps vis = ap (λ (q : Taken). allOf q vis) (sym (taken-all w ps vis))
+
+aliased-kept : (ps : List Projection) (vis : List Seen) (xs : List ℕ) → keptBy aliased ps vis xs ≡ xs ++ aliases ps
 unfolding aliases
-aliases-kept [] vis = refl
-aliases-kept (projection a e ∷ ps) vis = ap (λ (xs : List ℕ). aliasIn a ++ xs) (aliases-kept ps vis)
+aliased-kept [] vis xs = sym (append-nil xs)
+aliased-kept (projection a e ∷ ps) vis xs = aliased-kept ps vis (xs ++ aliasIn a) ∙ append-assoc xs (aliasIn a) (aliases ps)
+
+aliases-kept : (ps : List Projection) (vis : List Seen) → aliases ps ≡ keptBy aliased ps vis []
+aliases-kept ps vis = sym (aliased-kept ps vis [])
 
 -- sort keys, if there are any: read, and read and walked in one
 abbrev readKeys : Tables → Bool → List ℕ → Got Keys
@@ -131,7 +144,7 @@ module _ (w : World) (t : Tables) (free : (v : ℕ) → t .known v ≡ true) (m 
   row-law : (n : ℕ) (s : Both) (r : List ℕ) → after (acts w m plain) (times n (clauseExpr t) noMore) s r ≡ rowGo (within w t m) n plain s r
   row-law n s r = kids-law w t free (within w t) (clauseExpr t) (apart w t free maxDepth) m n plain s r
 
-  counted-law : (s : Both) (r : List ℕ) → after (acts w m plain) (countedExprs t) s r ≡ countedRow w t m s r
+  pub counted-law : (s : Both) (r : List ℕ) → after (acts w m plain) (countedExprs t) s r ≡ countedRow w t m s r
   unfolding countedExprs
   counted-law s r = go (anyWord r)
     where
@@ -191,40 +204,40 @@ module _ (w : World) where
 
   module _ (t : Tables) (free : (v : ℕ) → t .known v ≡ true) where
     -- projections, and what is done with what they leave and what is kept of them
-    module _ {A : Type 0} (keep : Option ℕ → Direct → List Seen → List A) (m : Mode) where
+    module _ {A : Type 0} (keep : Option ℕ → Direct → List Seen → A → A) (m : Mode) where
       abbrev Projected : ℕ → Type 0
       Projected n =
-          (qs : List A) (K : Both → List A → List ℕ → Got Both) (s : Both) (r : List ℕ)
-          → bind (many (readProjection t) n r) (λ ps r2. K (acts w m plain (exprs ps done) s) (qs ++ keptBy keep ps (s .names .visible)) r2) ≡ bind (projectionsGo w t keep m n qs s r) (λ x r2. K (x .0) (x .1) r2)
+          (q : A) (K : Both → A → List ℕ → Got Both) (s : Both) (r : List ℕ)
+          → bind (many (readProjection t) n r) (λ ps r2. K (acts w m plain (exprs ps done) s) (keptBy keep ps (s .names .visible) q) r2) ≡ bind (projectionsGo w t keep m n q s r) (λ x r2. K (x .0) (x .1) r2)
 
       projections-law : (n : ℕ) → Projected n
       unfolding many projectionsGo exprs resolve kindsE bindersE readProjection
-      projections-law zero qs K s r = ap₂ (λ (x : Both) (y : List A). K x y r) (move-none w m s) (append-nil qs)
-      projections-law (suc n) qs K s r = word (projections-law n) (wordIn 0 (suc (t .names)) r)
+      projections-law zero q K s r = ap (λ (x : Both). K x q r) (move-none w m s)
+      projections-law (suc n) q K s r = word (projections-law n) (wordIn 0 (suc (t .names)) r)
         where
           -- what follows an alias and an expression
           M : ℕ → Expr → Direct → List ℕ → Got Both
-          M a e d r2 = bind (projectionsGo w t keep m n (qs ++ keep (aliasOf a) d (act w m general e s .names .visible)) (act w m general e s) r2) (λ x r3. K (x .0) (x .1) r3)
+          M a e d r2 = bind (projectionsGo w t keep m n (keep (aliasOf a) d (act w m general e s .names .visible) q) (act w m general e s) r2) (λ x r3. K (x .0) (x .1) r3)
 
           F : List Projection → List ℕ → Got Both
-          F ps r2 = K (acts w m plain (exprs ps done) s) (qs ++ keptBy keep ps (s .names .visible)) r2
+          F ps r2 = K (acts w m plain (exprs ps done) s) (keptBy keep ps (s .names .visible) q) r2
 
-          later : (a : ℕ) (e : Expr) (ps : List Projection) → qs ++ keptBy keep (projection (aliasOf a) e ∷ ps) (s .names .visible) ≡ (qs ++ keep (aliasOf a) (direct e) (act w m general e s .names .visible)) ++ keptBy keep ps (act w m general e s .names .visible)
-          later a e ps = rw (kept m general e s) (sym (append-assoc qs (keep (aliasOf a) (direct e) (s .names .visible)) (keptBy keep ps (s .names .visible))))
+          later : (a : ℕ) (e : Expr) (ps : List Projection) → keptBy keep (projection (aliasOf a) e ∷ ps) (s .names .visible) q ≡ keptBy keep ps (act w m general e s .names .visible) (keep (aliasOf a) (direct e) (act w m general e s .names .visible) q)
+          later a e ps = ap (λ (vis : List Seen). keptBy keep ps vis (keep (aliasOf a) (direct e) vis q)) (sym (kept m general e s))
 
           one : Projected n → (a : ℕ) (g : Got Expr) → bind (bind (bind g (λ e r2. ok (projection (aliasOf a) e) r2)) (λ x r2. bind (many (readProjection t) n r2) (λ xs r3. ok (x ∷ xs) r3))) F ≡ bind g (λ e r2. M a e (direct e) r2)
           one ih a (ok e r2) =
               bind-bind (many (readProjection t) n r2) (λ xs r3. ok (projection (aliasOf a) e ∷ xs) r3) F
-              ∙ bind-each (many (readProjection t) n r2) _ _ (λ ps r3. ap₂ (λ (x : Both) (y : List A). K x y r3) (move-two w m (resolve w e) (resolves w (exprs ps done)) (kindsE w e general) (kindsEs w (exprs ps done) plain) (bindersE e) (binders (exprs ps done)) s) (later a e ps))
-              ∙ ih (qs ++ keep (aliasOf a) (direct e) (act w m general e s .names .visible)) K (act w m general e s) r2
+              ∙ bind-each (many (readProjection t) n r2) _ _ (λ ps r3. ap₂ (λ (x : Both) (y : A). K x y r3) (move-two w m (resolve w e) (resolves w (exprs ps done)) (kindsE w e general) (kindsEs w (exprs ps done) plain) (bindersE e) (binders (exprs ps done)) s) (later a e ps))
+              ∙ ih (keep (aliasOf a) (direct e) (act w m general e s .names .visible) q) K (act w m general e s) r2
           one ih a (no c) = refl
 
-          back : (a : ℕ) (d : Direct) (g : Got Expr) → bind g (λ e r2. M a e d r2) ≡ bind (bind (bind g (λ e r2. ok (act w m general e s) r2)) (λ u r2. projectionsGo w t keep m n (qs ++ keep (aliasOf a) d (u .names .visible)) u r2)) (λ x r3. K (x .0) (x .1) r3)
+          back : (a : ℕ) (d : Direct) (g : Got Expr) → bind g (λ e r2. M a e d r2) ≡ bind (bind (bind g (λ e r2. ok (act w m general e s) r2)) (λ u r2. projectionsGo w t keep m n (keep (aliasOf a) d (u .names .visible) q) u r2)) (λ x r3. K (x .0) (x .1) r3)
           back a d (ok e r2) = refl
           back a d (no c) = refl
 
           word : Projected n → (g : Got ℕ) → bind (bind (bind g (λ a r1. bind (clauseExpr t r1) (λ e r2. ok (projection (aliasOf a) e) r2))) (λ x r2. bind (many (readProjection t) n r2) (λ xs r3. ok (x ∷ xs) r3))) F
-              ≡ bind (bind g (λ a r1. bind (within w t m general s r1) (λ u r2. projectionsGo w t keep m n (qs ++ keep (aliasOf a) (directOf (readForm (t .names) r1)) (u .names .visible)) u r2))) (λ x r3. K (x .0) (x .1) r3)
+              ≡ bind (bind g (λ a r1. bind (within w t m general s r1) (λ u r2. projectionsGo w t keep m n (keep (aliasOf a) (directOf (readForm (t .names) r1)) (u .names .visible) q) u r2))) (λ x r3. K (x .0) (x .1) r3)
           word ih (ok a r1) = rw (apart w t free maxDepth m general s r1) (one ih a (clauseExpr t r1) ∙ direct-read t 47 r1 (M a) ∙ back a (directOf (readForm (t .names) r1)) (clauseExpr t r1))
           word ih (no c) = refl
 
@@ -314,8 +327,11 @@ module _ (w : World) where
       with-law sorts s r = go (anyWord r)
         where
           -- the filter, the new Root, the sort keys
-          K : Both → List Pair → List ℕ → Got Both
-          K x qs r2 = bind (flag r2) (λ g r3. bind (rowGo (within w t m) g plain x r3) (λ u r4. sortGo w t m a b sorts s (rootedBy w t m a b qs u) r4))
+          L : Both → List Pair → List ℕ → Got Both
+          L x qs r2 = bind (flag r2) (λ g r3. bind (rowGo (within w t m) g plain x r3) (λ u r4. sortGo w t m a b sorts s (rootedBy w t m a b qs u) r4))
+
+          K : Both → Taken → List ℕ → Got Both
+          K x q = L x (allOf q (s .names .visible))
 
           keys : (ps : List Projection) (es : Exprs) (r : List ℕ) → bind (bind (readKeys t sorts r) (λ ks r2. ok (with' a b ps es ks) r2)) (λ c r2. ok (walks m c s) r2) ≡ sortGo w t m a b sorts s (rooted ps es s) r
           keys ps es r =
@@ -332,11 +348,11 @@ module _ (w : World) where
           filter ps (no c) = refl
 
           go : (g : Got ℕ) → bind (bind (bind g (λ n r1. many (readProjection t) n r1)) (λ ps r2. bind (flag r2) (λ n r3. bind (times n (clauseExpr t) noMore r3) (λ es r4. bind (readKeys t sorts r4) (λ ks r5. ok (with' a b ps es ks) r5))))) (λ c r2. ok (walks m c s) r2)
-              ≡ bind g (λ n r1. bind (projectionsGo w t (carries w) m n [] s r1) (λ x r2. K (x .0) (x .1) r2))
+              ≡ bind g (λ n r1. bind (projectionsGo w t (takes w) m n nothing s r1) (λ x r2. K (x .0) (x .1) r2))
           go (ok n r1) =
               bind-bind (many (readProjection t) n r1) (λ ps r2. bind (flag r2) (λ n r3. bind (times n (clauseExpr t) noMore r3) (λ es r4. bind (readKeys t sorts r4) (λ ks r5. ok (with' a b ps es ks) r5)))) (λ c r2. ok (walks m c s) r2)
-              ∙ bind-each (many (readProjection t) n r1) _ _ (λ ps r2. filter ps (flag r2) ∙ ap (λ (qs : List Pair). K (acts w m plain (exprs ps done) s) qs r2) (carries-kept w ps (s .names .visible)))
-              ∙ projections-law (carries w) m n [] K s r1
+              ∙ bind-each (many (readProjection t) n r1) _ _ (λ ps r2. filter ps (flag r2) ∙ ap (λ (qs : List Pair). L (acts w m plain (exprs ps done) s) qs r2) (carries-kept w ps (s .names .visible)))
+              ∙ projections-law (takes w) m n nothing K s r1
           go (no c) = refl
 
       -- Return looks from outside its scope, and so do its sort keys

@@ -2,3 +2,4 @@ pub mod Apart
 pub mod ApartClauses
 pub mod ApartSheet
 pub mod ApartStatement
+pub mod StarKeys

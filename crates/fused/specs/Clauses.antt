@@ -1,7 +1,7 @@
 -- Clauses and arms, read and walked in one.
 use Prim.Native.Nat.{ℕ, zero, suc}
-use mathlib.Core.Bool.{Bool, true, false}
-use mathlib.Core.List.{List, [], _∷_, _++_}
+use mathlib.Core.Bool.{Bool, true, false, cond, _||_}
+use mathlib.Core.List.{List, [], _∷_, _++_, reverse}
 use mathlib.Core.Option.{Option}
 use Rattle.scope.specs.Graph.{unwindScope, callScope, returnScope}
 use Rattle.heads.specs.Got.{Got, ok, no, bind, look, wordIn, anyWord, flag}
@@ -13,7 +13,7 @@ use Rattle.clauses.specs.Tree.{Yield, yield, Opening, match, create, merge}
 use Rattle.clauses.specs.Read.{maxDepth, aliasOf, readYield}
 use Rattle.tables.specs.Row.{valueKind}
 use Rattle.semantics.specs.World.{World, hush, opens, Direct, aVar, aName, other, yieldName, nameOf}
-use Rattle.semantics.specs.Resolve.{Seen, Pair, enter, leave, standing, bindName, bindAnew, carries, barrier, fresh, aliasIn}
+use Rattle.semantics.specs.Resolve.{Seen, Pair, enter, leave, standing, bindName, bindAnew, once, carries, isAll, barrier, fresh, aliasIn}
 use Rattle.semantics.specs.Kinds.{Setting, general, plain}
 use Rattle.fused.specs.Fused.{Both, Mode, unresolving, Go, when, step, noting, rounds, rowGo, left, markGo, patternGo, exprGo}
 
@@ -49,9 +49,24 @@ abbrev pub beside : Mode → Both → Both → Both
 beside m s v =
     record { names = when (m .resolves) (standing (v .names .visible ++ s .names .visible) (v .names .cur)) (v .names); kinds = v .kinds; known = v .known }
 
--- the alias of a projection, whatever its expression
-abbrev pub aliased : Option ℕ → Direct → List Seen → List ℕ
-aliased a d vis = aliasIn a
+-- the alias of a projection, whatever its expression, behind those there are
+abbrev pub aliased : Option ℕ → Direct → List Seen → List ℕ → List ℕ
+aliased a d vis xs = xs ++ aliasIn a
+
+-- what a WITH takes of its projections: whether one is a star, and the pairs of the others
+pub record Taken : Type 0 where
+  pub star : Bool
+  pub pairs : List Pair
+
+abbrev pub nothing : Taken
+nothing = record { star = false; pairs = [] }
+
+abbrev pub takes : World → Option ℕ → Direct → List Seen → Taken → Taken
+takes w a d vis q = record { star = q .star || isAll w a d; pairs = q .pairs ++ carries w a d vis }
+
+-- all that it carries, where vis is visible
+abbrev pub allOf : Taken → List Seen → List Pair
+allOf q vis = cond (q .star) (reverse (once vis)) [] ++ q .pairs
 
 -- an arm is walked by names alone, from scope 0, with nothing visible
 abbrev pub inArms : Mode → Mode
@@ -61,14 +76,13 @@ module _ (w : World) (t : Tables) where
   abbrev pub within : Mode → Setting → Go
   within = exprGo w t maxDepth
 
-  -- projections, each an alias and an expression, and what is kept of each behind what there is: the pairs that a WITH carries, or the
-  -- aliases of a RETURN
-  unfoldable pub projectionsGo : {A : Type 0} → (keep : Option ℕ → Direct → List Seen → List A) → Mode → ℕ → List A → Both → List ℕ → Got (Both × List A)
-  projectionsGo keep m zero qs s r = ok (s, qs) r
-  projectionsGo keep m (suc n) qs s r =
+  -- projections, each an alias and an expression, and what is kept of them: what a WITH takes, or the aliases of a RETURN
+  unfoldable pub projectionsGo : {A : Type 0} → (keep : Option ℕ → Direct → List Seen → A → A) → Mode → ℕ → A → Both → List ℕ → Got (Both × A)
+  projectionsGo keep m zero q s r = ok (s, q) r
+  projectionsGo keep m (suc n) q s r =
       bind (wordIn 0 (suc (t .names)) r)
       (λ a r1. bind (within m general s r1)
-      (λ u r2. projectionsGo keep m n (qs ++ keep (aliasOf a) (directOf (readForm (t .names) r1)) (u .names .visible)) u r2))
+      (λ u r2. projectionsGo keep m n (keep (aliasOf a) (directOf (readForm (t .names) r1)) (u .names .visible) q) u r2))
 
   abbrev pub countedRow : Mode → Go
   countedRow m s r = bind (anyWord r) (λ n r2. rowGo (within m) n plain s r2)
@@ -100,8 +114,8 @@ module _ (w : World) (t : Tables) where
     unfoldable pub withGo : Bool → Go
     withGo sorts s r =
         bind (anyWord r)
-        (λ n r1. bind (projectionsGo w t (carries w) m n [] s r1)
-        (λ x r2. bind (flag r2) (λ g r3. bind (rowGo (within w t m) g plain (x .0) r3) (λ u r4. sortGo sorts s (rootedBy (x .1) u) r4))))
+        (λ n r1. bind (projectionsGo w t (takes w) m n nothing s r1)
+        (λ x r2. bind (flag r2) (λ g r3. bind (rowGo (within w t m) g plain (x .0) r3) (λ u r4. sortGo sorts s (rootedBy (allOf (x .1) (s .names .visible)) u) r4))))
 
     -- a RETURN's sort keys, if it has them, where its aliases are no use
     abbrev pub keysGo : Bool → List ℕ → Go

@@ -1,4 +1,3 @@
-pub mod Filling
 pub mod Adding
 pub mod Sorts
-pub mod Placing
+pub mod Weaving

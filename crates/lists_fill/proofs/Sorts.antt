@@ -5,21 +5,25 @@ use native.Mathlib.Omega.{arith}
 use mathlib.Core.Path.{_≡_, refl}
 use mathlib.Core.Bool.{Bool, true, false, cond}
 use mathlib.Core.List.{List, [], _∷_}
+use mathlib.Core.Option.{Option, none, some}
 use borrow.Author.Tests.{ne-eqb, eqb-true, eqb-false}
 use lib.Dec.{eqb}
 use lib.ListN.{length, set}
 use lib.Seq.{sets}
 use Rattle.scope.specs.Flat.{parentOf}
-use Rattle.scope.specs.Graph.{scope, carried}
-use Rattle.semantics.specs.Log.{Event, open', bind, carry, answer, find, bound, finding, write, found, missing, scopeOf, bindOf, carryOf, answerOf, findOf}
-use Rattle.semantics.specs.Lists.{put, puts, note, notes}
+use Rattle.scope.specs.Graph.{scope}
+use Rattle.semantics.specs.Log.{Event, open', bind, answer, find, bound, finding, write, found, missing, scopeOf, bindOf, answerOf, findOf}
+use Rattle.semantics.specs.Lists.{note, notes}
+use Rattle.theorems.specs.Woven.{barrierOf}
 use Rattle.steps.specs.Memory.{answered, findingAt}
 use Rattle.finding.specs.Flat.{findingWords}
-use Rattle.lists_fill.specs.Filled.{parentWord, scopeWords, bindingWords, carriedWords, recordedWords}
-use Rattle.lists_fill.specs.Adding.{sixAt, said, Becomes, after}
+use Rattle.entries.specs.Filled.{parentWord, scopeWords, recordedWords}
+use Rattle.entries.specs.Adding.{Becomes, after}
+use Rattle.lists_fill.specs.Adding.{sixAt, said}
+use Rattle.lists_fill.specs.Weaving.{barrierIn}
 use Rattle.lists_fill.specs.declared.Logged.{Logged}
-use Rattle.lists_fill.proofs.Filling.{sized-scope, sized-carried, sized-finding}
-use Rattle.lists_fill.proofs.Adding.{one-added}
+use Rattle.entries.proofs.Filling.{sized-scope, sized-finding}
+use Rattle.entries.proofs.Adding.{one-added}
 
 -- an event is what its sort says, and nothing of another sort
 module _ (P : Event → Type 0) where
@@ -31,20 +35,20 @@ module _ (P : Event → Type 0) where
   sorted t k = picked (eqb t k) (eqb-true t k) (eqb-false t k)
 
 module _ (id : ℕ → ℕ) (e : Logged) where
-  by-sort : (P : Event → Type 0) → (e .sort ≡ 1 → P (open' (scope (e .a) (parentOf (e .b)) (e .c) (e .d)))) → (e .sort ≡ 2 → P (bind (bound (e .a) (e .b) (e .c) (e .d)))) → (e .sort ≡ 3 → P (carry (carried (e .a) (e .b) (e .c)))) → (e .sort ≡ 4 → P (answer (write (e .a) (found (e .a) (e .b) 0)))) → (e .sort ≡ 5 → P (answer (write (id (e .a)) (answered (e .b) (e .c) (e .d))))) → ((1 ≤ e .sort → 5 < e .sort) → P (find (finding (e .sort) (e .a) (e .b) (e .c) (e .d) (e .e)))) → P (said id e)
+  by-sort : (P : Event → Type 0) → (e .sort ≡ 1 → P (open' (scope (e .a) (parentOf (e .b)) (e .c) (e .d)))) → (e .sort ≡ 2 → P (bind false false (bound (e .a) (e .b) (e .c) (e .d)))) → (e .sort ≡ 3 → P (bind false true (bound (e .a) (e .b) (e .c) (e .d)))) → (e .sort ≡ 4 → P (answer (write (e .a) (found (e .a) (e .b) 0)))) → (e .sort ≡ 5 → P (answer (write (id (e .a)) (answered (e .b) (e .c) (e .d))))) → ((1 ≤ e .sort → 5 < e .sort) → P (find (finding (e .sort) (e .a) (e .b) (e .c) (e .d) (e .e)))) → P (said id e)
   by-sort P o b c a x f = sorted P (e .sort) 1 o (λ n1. sorted P (e .sort) 2 b (λ n2. sorted P (e .sort) 3 c (λ n3. sorted P (e .sort) 4 a (λ n4. sorted P (e .sort) 5 x (λ n5. f (λ h. omega arith))))))
 
   pub no-scope : (e .sort ≡ 1 → ⊥) → scopeOf (said id e) ≡ []
   unfolding scopeOf
   no-scope h = by-sort (λ v. scopeOf v ≡ []) (λ s. absurd (h s)) (λ s. refl) (λ s. refl) (λ s. refl) (λ s. refl) (λ s. refl)
 
-  pub no-binding : (e .sort ≡ 2 → ⊥) → bindOf (said id e) ≡ []
+  pub no-binding : (e .sort ≡ 2 → ⊥) → (e .sort ≡ 3 → ⊥) → bindOf (said id e) ≡ []
   unfolding bindOf
-  no-binding h = by-sort (λ v. bindOf v ≡ []) (λ s. refl) (λ s. absurd (h s)) (λ s. refl) (λ s. refl) (λ s. refl) (λ s. refl)
+  no-binding h g = by-sort (λ v. bindOf v ≡ []) (λ s. refl) (λ s. absurd (h s)) (λ s. absurd (g s)) (λ s. refl) (λ s. refl) (λ s. refl)
 
-  pub no-carried : (e .sort ≡ 3 → ⊥) → carryOf (said id e) ≡ []
-  unfolding carryOf
-  no-carried h = by-sort (λ v. carryOf v ≡ []) (λ s. refl) (λ s. refl) (λ s. absurd (h s)) (λ s. refl) (λ s. refl) (λ s. refl)
+  pub no-barrier : (e .sort ≡ 1 → ⊥) → barrierIn (said id e) ≡ none
+  unfolding barrierIn
+  no-barrier h = by-sort (λ v. barrierIn v ≡ none) (λ s. absurd (h s)) (λ s. refl) (λ s. refl) (λ s. refl) (λ s. refl) (λ s. refl)
 
   pub no-answer : (e .sort ≡ 4 → ⊥) → (e .sort ≡ 5 → ⊥) → answerOf (said id e) ≡ []
   unfolding answerOf
@@ -71,10 +75,6 @@ module _ (out : List ℕ) (m : ℕ) (e : Logged) (id : ℕ → ℕ) where
   unfolding scopeOf scopeWords
   one-scope s h = rw (s, add-one (m * 4), add-two, add-three) (rw parent-word at (one-added scopeWords 4 sized-scope out m (scope (e .a) (parentOf (e .b)) (e .c) (e .d)) (omega arith)))
 
-  pub one-carried : e .sort ≡ 3 → (m + 1) * 3 ≤ length out → Becomes 1 carriedWords (after (carryOf (said id e))) out (set (set (set out (m * 3) (e .a)) (m * 3 + 1) (e .b)) (m * 3 + 2) (e .c)) m (m + 1)
-  unfolding carryOf carriedWords
-  one-carried s h = rw (s, add-one (m * 3), add-two) (one-added carriedWords 3 sized-carried out m (carried (e .a) (e .b) (e .c)) (omega arith))
-
   pub one-finding : (1 ≤ e .sort → 5 < e .sort) → (m + 1) * 6 ≤ length out → Becomes 1 findingWords (after (findOf (said id e))) out (sets out (m * 6) (e .sort ∷ e .a ∷ e .b ∷ e .c ∷ e .d ∷ e .e ∷ [])) m (m + 1)
   one-finding s h = rw (is-finding id e s) (one-added findingWords 6 sized-finding out m (finding (e .sort) (e .a) (e .b) (e .c) (e .d) (e .e)) (omega arith))
 
@@ -82,12 +82,35 @@ module _ (out : List ℕ) (m : ℕ) (e : Logged) (id : ℕ → ℕ) where
 pub one-told : (l : List ℕ) (p : ℕ) {out new : List ℕ} {m : ℕ} {w : Logged} → (m + 1) * 6 ≤ length out → w ≡ sixAt l p → new ≡ sets out (m * 6) (w .sort ∷ w .a ∷ w .b ∷ w .c ∷ w .d ∷ w .e ∷ []) → Becomes 1 findingWords (after (findingAt l p ∷ [])) out new m (m + 1)
 one-told l p {out} {new} {m} h e s = rw (s, e) (one-added findingWords 6 sized-finding out m (findingAt l p) (omega arith))
 
--- a binding and an answer that an event makes
-module _ {out new : List ℕ} {m r : ℕ} (e : Logged) (id : ℕ → ℕ) where
-  pub one-binding : e .sort ≡ 2 → Becomes 1 bindingWords (put (bound (e .a) (e .b) (e .c) (e .d))) out new m r → Becomes 1 bindingWords (puts (bindOf (said id e))) out new m r
-  unfolding bindOf puts
-  one-binding s h = rw s h
+-- the barrier above a scope, where it is a Root
+not-root : (k a b : ℕ) (p : Option ℕ) → (k ≡ 1 → ⊥) → barrierOf (scope k p a b) ≡ none
+not-root k a b none h = refl
+not-root k a b (some p) h = rw (ne-eqb k 1 h)
 
+root : (a b : ℕ) (p : Option ℕ) → barrierOf (scope 1 p a b) ≡ p
+root a b none = refl
+root a b (some p) = refl
+
+module _ (id : ℕ → ℕ) (e : Logged) where
+  pub another-scope : e .sort ≡ 1 → (e .a ≡ 1 → ⊥) → barrierIn (said id e) ≡ none
+  unfolding barrierIn
+  another-scope s h = rw s (not-root (e .a) (e .c) (e .d) (parentOf (e .b)) h)
+
+  pub root-scope : e .sort ≡ 1 → e .a ≡ 1 → barrierIn (said id e) ≡ parentOf (e .b)
+  unfolding barrierIn
+  root-scope s h = rw (s, h) (root (e .c) (e .d) (parentOf (e .b)))
+
+  -- a binding that an event makes
+  pub bound-first : e .sort ≡ 2 → bindOf (said id e) ≡ bound (e .a) (e .b) (e .c) (e .d) ∷ []
+  unfolding bindOf
+  bound-first s = rw s
+
+  pub bound-again : e .sort ≡ 3 → bindOf (said id e) ≡ bound (e .a) (e .b) (e .c) (e .d) ∷ []
+  unfolding bindOf
+  bound-again s = rw s
+
+-- an answer that an event makes
+module _ {out new : List ℕ} {m r : ℕ} (e : Logged) (id : ℕ → ℕ) where
   pub one-var : e .sort ≡ 4 → Becomes 1 recordedWords (note (write (e .a) (found (e .a) (e .b) 0))) out new m r → Becomes 1 recordedWords (notes (answerOf (said id e))) out new m r
   unfolding answerOf notes
   one-var s h = rw s h

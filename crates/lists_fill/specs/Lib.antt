@@ -1,3 +1,3 @@
-pub mod Filled
 pub mod Said
 pub mod Adding
+pub mod Weaving

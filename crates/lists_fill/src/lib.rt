@@ -1,18 +1,24 @@
-// The five lists, filled from what both walks left in `found`: scopes, carried names and findings as they come, bindings and recorded uses
-// with the first making giving the place and the last one the value.
+// Four of the five lists, filled from what both walks left in `found` and in the carried list: scopes and findings as they come, bindings and
+// recorded uses with the first making giving the place and the last one the value.
+use entries::put_answer;
+use entries::put_binding;
+use entries::set_six;
+use steps::kind_of;
 ghost use mathlib.Core.Path.{_≡_};
-ghost use mathlib.Core.List.{[], _∷_, _++_};
+ghost use mathlib.Core.List.{[], _++_};
 ghost use Prim.Native.Nat.{ℕ, suc, _+_, _-_, _*_, _≤_};
-ghost use lib.Dec.{eqb};
 ghost use lib.ListN.{length};
-ghost use lib.Seq.{sets};
-ghost use Rattle.scope.specs.Flat.{bindingsOf};
-ghost use Rattle.semantics.specs.Log.{Answer, bound, write, scopeOf, bindOf, carryOf, answerOf, findOf, scopesIn, bindsIn, carriesIn, answersIn, findsIn};
-ghost use Rattle.semantics.specs.Lists.{put, puts, note, notes};
+ghost use Rattle.words.specs.Words.{words};
+ghost use Rattle.scope.specs.Flat.{parentOf};
+ghost use Rattle.semantics.specs.Log.{scopeOf, bindOf, answerOf, findOf, scopesIn, answersIn, findsIn};
+ghost use Rattle.semantics.specs.Lists.{notes};
 ghost use Rattle.finding.specs.Flat.{findingWords};
-ghost use Rattle.lists_fill.specs.Filled.{answerWords, scopeWords, bindingWords, carriedWords, recordedWords};
+ghost use Rattle.entries.specs.Filled.{scopeWords, recordedWords};
+ghost use Rattle.entries.specs.Adding.{Holds, Becomes, after};
+ghost use Rattle.entries.specs.Stamps.{Makes};
 ghost use Rattle.lists_fill.specs.Said.{idIn, eventsIn, toldIn};
-ghost use Rattle.lists_fill.specs.Adding.{sixAt, said, Holds, Becomes, after, place, isBinding, idsOf};
+ghost use Rattle.lists_fill.specs.Adding.{sixAt, said};
+ghost use Rattle.lists_fill.specs.Weaving.{barrierIn, Ready, Adopts, Weaves, Weavable, Bindings};
 
 // The use id of no bytes.
 const NO_NAME: u32 = 4276314682;
@@ -89,50 +95,6 @@ pub fn fill_scopes(found: &[u32], n: usize, out: &mut [u32]) -> usize
     m
 }
 
-// The name that an event carries, after m others.
-fn add_carried(out: &mut [u32], m: usize, e: Logged) -> usize
-    requires { ⌜ (m + 1) * 3 ≤ length (now out) ⌝ }
-    ensures { λ r. ⌜ ((id : ℕ → ℕ) → Becomes 1 carriedWords (after (carryOf (said id e))) (now (out .entry)) (now (out .exit)) m r) ⌝ }
-{
-    if e.sort != 3 {
-        return m;
-    }
-    let q = m * 3;
-    out[q] = e.a;
-    out[q + 1] = e.b;
-    out[q + 2] = e.c;
-    m + 1
-}
-
-// The carried names of n events.
-pub fn fill_carried(found: &[u32], n: usize, out: &mut [u32]) -> usize
-    requires { ⌜ (n * 6 ≤ length (now found)) × (n * 3 ≤ length (now out)) ⌝ }
-    ensures { λ r. ⌜ ((id : ℕ → ℕ) → Holds carriedWords (now (out .entry)) (now (out .exit)) r (carriesIn (eventsIn id n (now (found .entry))))) ⌝ }
-{
-    let mut i = 0;
-    let mut m = 0;
-    while i < n {
-        let e = event_at(found, i);
-        m = add_carried(out, m, e);
-        i += 1;
-    }
-    m
-}
-
-// Six words as the entry numbered i.
-fn set_six(out: &mut [u32], i: usize, a: u32, b: u32, c: u32, d: u32, e: u32, f: u32)
-    requires { ⌜ (i + 1) * 6 ≤ length (now out) ⌝ }
-    ensures { λ r. ⌜ now (out .exit) ≡ sets (now (out .entry)) (i * 6) (a ∷ b ∷ c ∷ d ∷ e ∷ f ∷ []) ⌝ }
-{
-    let p = i * 6;
-    out[p] = a;
-    out[p + 1] = b;
-    out[p + 2] = c;
-    out[p + 3] = d;
-    out[p + 4] = e;
-    out[p + 5] = f;
-}
-
 // The finding that an event is, where it is of none of the other sorts, after m others.
 fn add_finding(out: &mut [u32], m: usize, e: Logged) -> usize
     requires { ⌜ (m + 1) * 6 ≤ length (now out) ⌝ }
@@ -163,93 +125,121 @@ fn fill_findings(found: &[u32], n: usize, out: &mut [u32]) -> usize
     m
 }
 
-// The place of the binding of a name in a scope among m, or m.
-fn place_of_binding(out: &[u32], m: usize, scope: u32, name: u32) -> usize
-    requires { ⌜ m * 6 ≤ length (now out) ⌝ }
-    ensures { λ r. ⌜ (r ≤ m) × (r ≡ place (isBinding scope name) (bindingsOf m (now (out .entry)))) ⌝ }
+// The number of the Root that an event opens under a WITH's barrier, or 0.
+fn root_of(e: Logged) -> u32
+    ensures { λ r. ⌜ ((id : ℕ → ℕ) → parentOf r ≡ barrierIn (said id e)) ⌝ }
 {
-    let mut i = 0;
-    while i < m {
-        let p = i * 6;
-        if out[p] == scope {
-            if out[p + 1] == name {
-                return i;
-            }
-        }
-        i += 1;
+    if e.sort != 1 {
+        return 0;
     }
-    m
+    if e.a != 1 {
+        return 0;
+    }
+    e.b
 }
 
-// A binding in its place among m; how many there are then.
-fn put_binding(out: &mut [u32], m: usize, scope: u32, name: u32, v: u32, kind: u32) -> usize
-    requires { ⌜ (m + 1) * 6 ≤ length (now out) ⌝ }
-    ensures { λ r. ⌜ Becomes 1 bindingWords (put (bound scope name v kind)) (now (out .entry)) (now (out .exit)) m r ⌝ }
+// How far the bindings are: how many are made, and how many entries of the carried list are met.
+struct Reached {
+    made: usize,
+    met: usize,
+}
+
+// What the barrier above a Root carries, of the carried list from c on, bound in the Root; nothing where there is none.
+fn adopt(
+    s: &[u8],
+    tab: &[u32],
+    carried: &[u32],
+    taken: usize,
+    c: usize,
+    root: u32,
+    stamps: &mut [u32],
+    out: &mut [u32],
+    m: usize,
+) -> Reached
+    requires { ⌜ Ready (words (now s)) (now tab) (now carried) taken c (now stamps) (now out) m ⌝ }
+    ensures { λ r. ⌜ Adopts (words (now (s .entry))) (now (tab .entry)) (now (carried .entry)) taken c root (now (stamps .entry)) (now (stamps .exit)) (now (out .entry)) (now (out .exit)) m r ⌝ }
 {
-    let i = place_of_binding(out, m, scope, name);
-    if i < m {
-        let u = out[i * 6 + 2];
-        set_six(out, i, scope, name, v, kind, 1, u);
-        return m;
+    if root == 0 {
+        return Reached { made: m, met: c };
     }
-    set_six(out, i, scope, name, v, kind, 0, 0);
-    m + 1
+    let mut p = c;
+    let mut n = m;
+    while p < taken {
+        let q = p * 3;
+        if carried[q] != root - 1 {
+            return Reached { made: n, met: p };
+        }
+        let v = carried[q + 2];
+        let kind = kind_of(s, tab, v);
+        n = put_binding(out, n, stamps, root, carried[q + 1], v, kind);
+        p += 1;
+    }
+    Reached { made: n, met: p }
 }
 
 // The binding that an event makes.
-fn add_binding(out: &mut [u32], m: usize, e: Logged) -> usize
-    requires { ⌜ (m + 1) * 6 ≤ length (now out) ⌝ }
-    ensures { λ r. ⌜ ((id : ℕ → ℕ) → Becomes 1 bindingWords (puts (bindOf (said id e))) (now (out .entry)) (now (out .exit)) m r) ⌝ }
+fn add_binding(out: &mut [u32], m: usize, stamps: &mut [u32], e: Logged) -> usize
+    requires { ⌜ (m * 6 ≤ length (now out)) × (1 ≤ length (now stamps)) ⌝ }
+    ensures { λ r. ⌜ ((id : ℕ → ℕ) → Makes (bindOf (said id e)) (now (out .entry)) (now (out .exit)) (now (stamps .entry)) (now (stamps .exit)) m r) ⌝ }
 {
     if e.sort != 2 {
-        return m;
+        if e.sort != 3 {
+            return m;
+        }
     }
-    put_binding(out, m, e.a, e.b, e.c, e.d)
+    put_binding(out, m, stamps, e.a, e.b, e.c, e.d)
 }
 
-// The bindings of n events.
-pub fn fill_bindings(found: &[u32], n: usize, out: &mut [u32]) -> usize
-    requires { ⌜ (n * 6 ≤ length (now found)) × (n * 6 ≤ length (now out)) ⌝ }
-    ensures { λ r. ⌜ ((id : ℕ → ℕ) → Holds bindingWords (now (out .entry)) (now (out .exit)) r (puts (bindsIn (eventsIn id n (now (found .entry)))) [])) ⌝ }
+// All that an event binds: what is carried over its barrier, or its own.
+fn weave(
+    s: &[u8],
+    tab: &[u32],
+    carried: &[u32],
+    taken: usize,
+    c: usize,
+    e: Logged,
+    stamps: &mut [u32],
+    out: &mut [u32],
+    m: usize,
+) -> Reached
+    requires { ⌜ Ready (words (now s)) (now tab) (now carried) taken c (now stamps) (now out) m ⌝ }
+    ensures { λ r. ⌜ Weaves (words (now (s .entry))) (now (tab .entry)) (now (carried .entry)) taken c e (now (stamps .entry)) (now (stamps .exit)) (now (out .entry)) (now (out .exit)) m r ⌝ }
 {
+    let root = root_of(e);
+    let w = adopt(s, tab, carried, taken, c, root, stamps, out, m);
+    let n = add_binding(out, w.made, stamps, e);
+    Reached {
+        made: n,
+        met: w.met,
+    }
+}
+
+// The bindings of n events, with what WITHs carry, where the list has room for them.
+pub fn fill_bindings(
+    s: &[u8],
+    tab: &[u32],
+    found: &[u32],
+    n: usize,
+    carried: &[u32],
+    taken: usize,
+    stamps: &mut [u32],
+    out: &mut [u32],
+) -> usize
+    requires { ⌜ Weavable (words (now s)) (now tab) (now found) n (now carried) taken (now stamps) ⌝ }
+    ensures { λ r. ⌜ Bindings (words (now (s .entry))) (now (tab .entry)) n (now (found .entry)) taken (now (carried .entry)) (now (out .entry)) (now (out .exit)) r ⌝ }
+{
+    stamps[0] = 0;
     let mut i = 0;
+    let mut c = 0;
     let mut m = 0;
     while i < n {
         let e = event_at(found, i);
-        m = add_binding(out, m, e);
+        let w = weave(s, tab, carried, taken, c, e, stamps, out, m);
+        m = w.made;
+        c = w.met;
         i += 1;
     }
     m
-}
-
-// The place of a use id among m, or m.
-fn place_of_use(out: &[u32], m: usize, id: u32) -> usize
-    requires { ⌜ m * 5 ≤ length (now out) ⌝ }
-    ensures { λ r. ⌜ (r ≤ m) × (r ≡ place (eqb id) (idsOf m (now (out .entry)))) ⌝ }
-{
-    let mut i = 0;
-    while i < m {
-        if out[i * 5] == id {
-            return i;
-        }
-        i += 1;
-    }
-    m
-}
-
-// An answer in its place among m; how many there are then.
-fn put_answer(out: &mut [u32], m: usize, id: u32, found: u32, v: u32, kind: u32) -> usize
-    requires { ⌜ (m + 1) * 5 ≤ length (now out) ⌝ }
-    ensures { λ r. ⌜ ((a : Answer) → answerWords a ≡ found ∷ v ∷ kind ∷ 0 ∷ [] → Becomes 1 recordedWords (note (write id a)) (now (out .entry)) (now (out .exit)) m r) ⌝ }
-{
-    let i = place_of_use(out, m, id);
-    let p = i * 5;
-    out[p] = id;
-    out[p + 1] = found;
-    out[p + 2] = v;
-    out[p + 3] = kind;
-    out[p + 4] = 0;
-    if i < m { m } else { m + 1 }
 }
 
 // The use id of a name.

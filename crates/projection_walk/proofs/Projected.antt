@@ -1,14 +1,15 @@
--- Projections of a WITH, on the way to the pairs that it carries. A Var or a name is its use (`var-within`, `name-within`, paid by two words:
--- `var-paid`, `name-paid`) and what it adds (`form-ready`, `form-holding`, `direct-passes`), any other expression is walked and carries nothing
--- (`other-passes`), no head is refused (`form-refused`). The alias comes first (`alias-passes`, `alias-refused`).
--- A loop of them is a walk of which projections are left (`begun`, `turn`, `fall`, `over`, `goes-in`).
-use Prim.Native.Nat.{ℕ, zero, suc, _+_, _-_, _*_, _<_, _≤_}
+-- Projections of a WITH, on the way to what it takes. A Var or a name is its use (`var-within`, `name-within`, paid by two words: `var-paid`,
+-- `name-paid`) and what it adds (`form-ready`, `form-holding`, `direct-passes`), any other expression is walked, and its alias is held
+-- (`other-asks`, `other-passes`, `other-refused`), no head is refused (`form-refused`). The alias comes first (`alias-passes`,
+-- `alias-refused`). A loop of them is a walk of which projections are left (`begun`, `turn`, `fall`, `over`, `goes-in`).
+use Prim.Native.Nat.{ℕ, zero, suc, _+_, _-_, _<_, _≤_}
 use native.Mathlib.Omega.{arith}
 use native.Mathlib.Numerals.{add-one}
 use mathlib.Core.Path.{_≡_, refl, ap, sym, _∙_}
-use mathlib.Core.Bool.{true}
-use mathlib.Core.List.{List, [], _++_, append-nil}
+use mathlib.Core.Bool.{true, or-false}
+use mathlib.Core.List.{List, [], append-nil}
 use mathlib.Core.Option.{Option, none, some}
+use lib.Dec.{eqb}
 use lib.ListN.{length, set, drop}
 use Rattle.heads.specs.Got.{Got, ok, no, bind, wordIn}
 use Rattle.heads.specs.Head.{Tables}
@@ -21,21 +22,22 @@ use Rattle.heads.specs.declared.Word.the-variants as word
 use Rattle.clauses.specs.Read.{aliasOf}
 use Rattle.tables.specs.Row.{Row, row}
 use Rattle.semantics.specs.World.{World, Direct, other}
-use Rattle.semantics.specs.Resolve.{Seen, Pair, carries, useVar}
+use Rattle.semantics.specs.Resolve.{carries, isAll, useVar}
 use Rattle.semantics.specs.Kinds.{general, atRow}
 use Rattle.fused.specs.Fused.{Both, Mode, nameUse, rowGo, rounds, restGo, exprGo}
-use Rattle.fused.specs.Clauses.{within, directForm, directOf, projectionsGo}
+use Rattle.fused.specs.Clauses.{within, directForm, directOf, Taken, takes, projectionsGo}
 use Rattle.visible.specs.Visible.{seens}
-use Rattle.steps.specs.Memory.{atOf, topOf, heldOf, namesIn, slotsIn, tablesIn, worldAt, modeOf}
+use Rattle.steps.specs.Memory.{atOf, topOf, heldOf, namesIn, slotsIn, useIn, tablesIn, worldAt, modeOf}
 use Rattle.steps.specs.Hold.{Fit, Holds, Ready, onNames}
 use Rattle.steps.proofs.Held.{lower, seens-lower}
 use Rattle.walk.specs.Goes.{Walked, exprIn}
 use Rattle.walk.proofs.Paid.{form-paid}
 use Rattle.walk.proofs.Stage.{placed, placed-fit, placed-holds}
 use Rattle.clause_parts.specs.Passes.{Next}
-use Rattle.projection_walk.specs.Carries.{pairsIn, InNames, Holding, Adds, Carries, carriedAt, projectionsAt}
+use Rattle.projection_walk.specs.Carries.{pairsIn, starOf, keptOf, takenBy, InNames, Holding, Adds, KeepsOther, KeptOther, Carries, carriedAt, projectionsAt}
 use Rattle.clause_parts.proofs.Cleared.{names-step}
-use Rattle.projection_walk.proofs.Chained.{as-passes, walked-passes, word-passes, word-refused}
+use Rattle.projection_walk.proofs.Carrying.{kept-numbers, kept-fits, kept-holds, names-more}
+use Rattle.projection_walk.proofs.Chained.{as-passes, word-passes, word-refused}
 
 -- ---- the two forms of an expression that may be carried are their use
 general-row : (o : Option Row) → atRow general o ≡ []
@@ -62,15 +64,6 @@ pub none-within : (w : World) (t : Tables) (m : Mode) (s : Both) (r : List ℕ) 
 unfolding exprGo
 none-within w t m s r q = rw q
 
-nothing : (w : World) (o : Option ℕ) (vis : List Seen) → carries w o other vis ≡ []
-unfolding carries
-nothing w none vis = refl
-nothing w (some x) vis = refl
-
-nothing-more : (w : World) (o : Option ℕ) (ps : List Pair) (g : Got Both) → bind {B = Both × List Pair} g (λ u r. ok (u, ps ++ carries w o other (u .names .visible)) r) ≡ bind g (λ u r. ok (u, ps) r)
-nothing-more w o ps (ok u r) = rw (nothing w o (u .names .visible), append-nil ps)
-nothing-more w o ps (no e) = refl
-
 -- two words were read of it, and a name is in range
 module _ {ws : List ℕ} {at p : ℕ} {f : Form} {names slots : ℕ} (l : names ≤ slots) (a : Ans ws at (readForm names (drop at ws)) (ok f (drop p ws)) p) where
   pub var-paid : {v : ℕ} → f ≡ Var v → at + 2 ≤ p
@@ -87,7 +80,8 @@ module _ {ws tab m vis found held : List ℕ} {f : Form} {p : ℕ} (h : Ready 1 
   pub form-holding : Holding 3 ws tab (set m 0 p) held
   form-holding =
       let q = placed m p (h .fit .size) in
-      record { room = o .room; few = omega (arith, q .held, q .at, o .few); unmarked = o .unmarked }
+      let z : starOf (set m 0 p) ≡ starOf m = q .levels 49 in
+      record { room = o .room; few = omega (arith, q .held, q .at, z, o .few); star = omega (arith, z, o .star); unmarked = o .unmarked }
 
   pub direct-passes : {m' found' held' : List ℕ} {F : (ℕ → ℕ) → Both → Both} {d : Direct} (alias mode : ℕ) → Adds ws tab (set m 0 p) vis found held m' vis found' held' F alias d → directForm f ≡ d →
       ((id : ℕ → ℕ) (s : Both) → within (worldAt ws tab id) (tablesIn tab) (modeOf mode) general s (drop (atOf m) ws) ≡ ok (F id s) (drop p ws)) → Carries 1 ws tab m vis found held m' vis found' held' (carriedAt ws tab mode alias) 0
@@ -95,6 +89,7 @@ module _ {ws tab m vis found held : List ℕ} {f : Form} {p : ℕ} (h : Ready 1 
       let q = placed m p (h .fit .size) in
       let z = x .at ∙ q .at in
       let y = q .held in
+      let v : starOf (set m 0 p) ≡ starOf m = q .levels 49 in
       record {
         sized = x .sized ∙ q .size;
         seen = refl;
@@ -102,17 +97,71 @@ module _ {ws tab m vis found held : List ℕ} {f : Form} {p : ℕ} (h : Ready 1 
         kept = x .kept;
         carries = record {
           from = omega (arith, z, a .from);
-          paid = omega (arith, x .more, y, z);
+          paid = omega (arith, x .more, y, z, v);
+          star = λ l. x .star (omega (arith, v));
           top = omega (arith, x .top, q .top);
           below = refl;
           named = λ n. x .named (rw y n);
-          fit = λ k b. x .fit k (placed-fit m p (h .fit .size) (a .from) (a .within) (omega (arith, y)) b);
+          fit = λ k b. x .fit k (placed-fit m p (h .fit .size) (a .from) (a .within) (omega (arith, y, v)) b);
           goes = λ id s b. let c = placed-holds m p (h .fit .size) b in
               record {
                 state = F id s;
                 holds = x .goes id s c;
-                same = rw (g id s, a .same, e, z) (ap (λ (ps : List Pair). ok (F id s, ps) (drop p ws)) (sym (x .pairs id s c ∙ ap (λ (n : ℕ). pairsIn n held ++ carries (worldAt ws tab id) (aliasOf alias) d (F id s .names .visible)) y)));
+                same = rw (g id s, a .same, e, z) (ap (λ (o : Taken). ok (F id s, o) (drop p ws)) (sym (rw (y, v) at (x .taken id s c))));
               };
+        };
+      }
+
+-- ---- any other expression, and its alias
+module _ {ws tab m vis found held m' vis' found' : List ℕ} (mode : ℕ) where
+  then-other : {m2 held2 : List ℕ} (alias : ℕ) → alias ≤ namesIn tab → Ready 1 ws tab m vis found → Walked 48 ws tab m vis found m' vis' found' (exprIn ws tab 48 mode general) 0 → KeptOther tab alias m' held m2 held2 →
+      directOf (readForm (namesIn tab) (drop (atOf m) ws)) ≡ other → Carries 1 ws tab m vis found held m2 vis' found' held2 (carriedAt ws tab mode alias) 0
+  unfolding carries isAll
+  then-other zero l h w k d =
+      let y = w .goes in
+      let e = y .frame .held in
+      let o : starOf m' ≡ starOf m = y .frame .levels 49 (omega arith) in
+      rw (k .kept .0, k .kept .1)
+      (record {
+        sized = w .sized;
+        seen = w .seen;
+        wrote = w .wrote;
+        kept = refl;
+        carries = record {
+          from = y .from;
+          paid = omega (arith, e, o, y .from);
+          star = λ l. omega (arith, o);
+          top = y .frame .top;
+          below = y .frame .below;
+          named = λ n. rw e n;
+          fit = λ k b. lower (omega (arith, e, o)) (omega (arith, e, o)) (y .fit (1 + k + keptOf m) b);
+          goes = λ id s b. let g = y .goes id s b in
+              record { state = g .state; holds = g .holds; same = rw (g .same, d, e, o, or-false (eqb (starOf m) 1), append-nil (pairsIn (heldOf m) held)) };
+        };
+      })
+  then-other {m2} (suc x) l h w k d =
+      let y = w .goes in
+      let p = k .kept in
+      let size : length m' ≡ 64 = w .sized ∙ h .fit .size in
+      let n = kept-numbers size p in
+      let e : heldOf m2 ≡ suc (heldOf m) = n .held ∙ ap suc (y .frame .held) in
+      let o : starOf m2 ≡ starOf m = n .levels 49 ∙ y .frame .levels 49 (omega arith) in
+      let z = y .frame .held in
+      record {
+        sized = n .size ∙ w .sized;
+        seen = w .seen;
+        wrote = w .wrote;
+        kept = p .kept;
+        carries = record {
+          from = omega (arith, y .from, n .at);
+          paid = omega (arith, e, o, y .from, n .at);
+          star = λ l. omega (arith, o);
+          top = omega (arith, y .frame .top, n .top);
+          below = y .frame .below;
+          named = λ b. rw (n .held, p .same, z) (names-more (useIn tab x) (pairsIn (heldOf m) held) (omega (arith, h .fine .places)) b);
+          fit = λ k b. lower (omega (arith, e, o)) (omega (arith, e, o)) (kept-fits size p (y .fit (1 + k + keptOf m) b));
+          goes = λ id s b. let g = y .goes id s b in
+              record { state = g .state; holds = kept-holds size p (g .holds); same = rw (g .same, d, n .held, p .same, z, n .at, o, or-false (eqb (starOf m) 1), b .uses x (omega arith)) };
         };
       }
 
@@ -127,32 +176,46 @@ module _ {ws tab m vis found held : List ℕ} (alias mode : ℕ) where
         carries = λ id s b. rw (none-within (worldAt ws tab id) (tablesIn tab) (modeOf mode) s _ (a .same));
       }
 
-  pub other-passes : {m' vis' found' : List ℕ} {f : Form} {p : ℕ} (r : ℕ) → Ans ws (atOf m) (readForm (namesIn tab) (drop (atOf m) ws)) (ok f (drop p ws)) p → directForm f ≡ other → Walked 48 ws tab m vis found m' vis' found' (exprIn ws tab 48 mode general) r →
-      Carries 1 ws tab m vis found held m' vis' found' held (carriedAt ws tab mode alias) r
-  other-passes r a e w =
-      as-passes (carriedAt ws tab mode alias) r
-      (λ id ps s. rw (a .same, e, nothing-more (worldAt ws tab id) (aliasOf alias) ps (within (worldAt ws tab id) (tablesIn tab) (modeOf mode) general s (drop (atOf m) ws)))) (walked-passes r w)
+  pub other-refused : {m' vis' found' : List ℕ} (r : ℕ) → (r ≡ 0 → ⊥) → Walked 48 ws tab m vis found m' vis' found' (exprIn ws tab 48 mode general) r → Carries 1 ws tab m vis found held m' vis' found' held (carriedAt ws tab mode alias) r
+  other-refused zero q w = absurd (q refl)
+  other-refused (suc c) q w = record { sized = w .sized; seen = w .seen; wrote = w .wrote; kept = refl; carries = λ id s b. rw (w .goes id s b) }
+
+  module _ {m' vis' found' : List ℕ} {r : ℕ} (z : r ≡ 0) (w : Walked 48 ws tab m vis found m' vis' found' (exprIn ws tab 48 mode general) r) where
+    pub other-asks : alias ≤ namesIn tab → Ready 1 ws tab m vis found → Holding 1 ws tab m held → KeepsOther tab m' held alias
+    other-asks l h o =
+        let e = (rw z at (w .goes)) .frame .held in
+        record {
+          long = h .fine .long;
+          named = omega (arith, h .fine .places);
+          size = w .sized ∙ h .fit .size;
+          few = omega (arith, e, o .few, h .fit .within, h .fine .short);
+          room = omega (arith, e, o .few, o .room, h .fit .within);
+        }
+
+    pub other-passes : {m2 held2 : List ℕ} {f : Form} {p : ℕ} → alias ≤ namesIn tab → Ready 1 ws tab m vis found → Ans ws (atOf m) (readForm (namesIn tab) (drop (atOf m) ws)) (ok f (drop p ws)) p → directForm f ≡ other → KeptOther tab alias m' held m2 held2 →
+        Carries 1 ws tab m vis found held m2 vis' found' held2 (carriedAt ws tab mode alias) 0
+    other-passes l h a e k = then-other mode alias l h (rw z at w) k (rw (a .same) e)
 
 -- ---- a projection
-first-as : (w : World) (t : Tables) (m : Mode) (ps : List Pair) (s : Both) (r : List ℕ) →
-    projectionsGo w t (carries w) m 1 ps s r ≡ bind (wordIn 0 (t .names + 1) r) (λ a r1. bind (within w t m general s r1) (λ u r2. ok (u, ps ++ carries w (aliasOf a) (directOf (readForm (t .names) r1)) (u .names .visible)) r2))
+first-as : (w : World) (t : Tables) (m : Mode) (q : Taken) (s : Both) (r : List ℕ) →
+    projectionsGo w t (takes w) m 1 q s r ≡ bind (wordIn 0 (t .names + 1) r) (λ a r1. bind (within w t m general s r1) (λ u r2. ok (u, takes w (aliasOf a) (directOf (readForm (t .names) r1)) (u .names .visible) q) r2))
 unfolding projectionsGo
-first-as w t m ps s r = rw (add-one (t .names))
+first-as w t m q s r = rw (add-one (t .names))
 
 module _ {ws tab m vis found held m1 : List ℕ} {r : Word} (mode : ℕ) (n : Next ws 0 (namesIn tab + 1) m m1 r) where
   pub alias-refused : r ≡ word.No → Carries 0 ws tab m vis found held m1 vis found held (projectionsAt ws tab mode 1) 5
   alias-refused q =
-      as-passes (projectionsAt ws tab mode 1) 5 (λ id ps s. first-as (worldAt ws tab id) (tablesIn tab) (modeOf mode) ps s (drop (atOf m) ws)) (word-refused (carriedAt ws tab mode) n q)
+      as-passes (projectionsAt ws tab mode 1) 5 (λ id q s. first-as (worldAt ws tab id) (tablesIn tab) (modeOf mode) q s (drop (atOf m) ws)) (word-refused (carriedAt ws tab mode) n q)
 
   pub alias-passes : {m' vis' found' held' : List ℕ} {w : ℕ} (a : ℕ) → length m ≡ 64 → r ≡ word.Is w → Carries 1 ws tab m1 vis found held m' vis' found' held' (carriedAt ws tab mode w) a → Carries 0 ws tab m vis found held m' vis' found' held' (projectionsAt ws tab mode 1) a
   alias-passes a size q x =
-      as-passes (projectionsAt ws tab mode 1) a (λ id ps s. first-as (worldAt ws tab id) (tablesIn tab) (modeOf mode) ps s (drop (atOf m) ws)) (word-passes n q size (carriedAt ws tab mode) a (omega arith) x)
+      as-passes (projectionsAt ws tab mode 1) a (λ id q s. first-as (worldAt ws tab id) (tablesIn tab) (modeOf mode) q s (drop (atOf m) ws)) (word-passes n q size (carriedAt ws tab mode) a (omega arith) x)
 
 -- ---- a loop: of n projections, left are left
-pub record OnPairs (id : ℕ → ℕ) (ws tab m vis found held : List ℕ) (mode left : ℕ) (g : Got (Both × List Pair)) : Type 0 where
+pub record OnPairs (id : ℕ → ℕ) (ws tab m vis found held : List ℕ) (mode left : ℕ) (g : Got (Both × Taken)) : Type 0 where
   pub state : Both
   pub holds : Holds id tab m vis found state
-  pub same : g ≡ projectionsAt ws tab mode left id (pairsIn (heldOf m) held) state (drop (atOf m) ws)
+  pub same : g ≡ projectionsAt ws tab mode left id (takenBy m held) state (drop (atOf m) ws)
 
 pub record Turning (ws tab m₀ vis₀ found₀ held₀ : List ℕ) (mode n : ℕ) (m vis found held : List ℕ) (left : ℕ) : Type 0 where
   pub from : atOf m₀ ≤ atOf m
@@ -160,15 +223,16 @@ pub record Turning (ws tab m₀ vis₀ found₀ held₀ : List ℕ) (mode n : �
   pub seen : length vis ≡ length vis₀
   pub wrote : length found ≡ length found₀
   pub kept : length held ≡ length held₀
-  pub paid : heldOf m * 3 + atOf m₀ ≤ heldOf m₀ * 3 + atOf m
+  pub paid : keptOf m + atOf m₀ ≤ keptOf m₀ + atOf m
+  pub star : starOf m₀ ≤ 1 → starOf m ≤ 1
   pub top : topOf m₀ ≤ topOf m
   pub below : seens (slotsIn tab) (topOf m₀) vis ≡ seens (slotsIn tab) (topOf m₀) vis₀
   pub named : InNames (slotsIn tab) (pairsIn (heldOf m₀) held₀) → InNames (slotsIn tab) (pairsIn (heldOf m) held)
-  pub fit : (k : ℕ) → Fit (k + heldOf m₀ * 2) ws tab m₀ vis₀ found₀ → Fit (k + heldOf m * 2) ws tab m vis found
-  pub ready : Ready (heldOf m * 2) ws tab m vis found
-  pub on : (id : ℕ → ℕ) (s : Both) → Holds id tab m₀ vis₀ found₀ s → OnPairs id ws tab m vis found held mode left (projectionsAt ws tab mode n id (pairsIn (heldOf m₀) held₀) s (drop (atOf m₀) ws))
+  pub fit : (k : ℕ) → Fit (k + keptOf m₀) ws tab m₀ vis₀ found₀ → Fit (k + keptOf m) ws tab m vis found
+  pub ready : Ready (keptOf m) ws tab m vis found
+  pub on : (id : ℕ → ℕ) (s : Both) → Holds id tab m₀ vis₀ found₀ s → OnPairs id ws tab m vis found held mode left (projectionsAt ws tab mode n id (takenBy m₀ held₀) s (drop (atOf m₀) ws))
 
-pub begun : {ws tab m vis found held : List ℕ} (mode n : ℕ) → Ready (heldOf m * 2) ws tab m vis found → Turning ws tab m vis found held mode n m vis found held n
+pub begun : {ws tab m vis found held : List ℕ} (mode n : ℕ) → Ready (keptOf m) ws tab m vis found → Turning ws tab m vis found held mode n m vis found held n
 begun mode n h =
     record {
       from = omega arith;
@@ -177,6 +241,7 @@ begun mode n h =
       wrote = refl;
       kept = refl;
       paid = omega arith;
+      star = λ l. l;
       top = omega arith;
       below = refl;
       named = λ x. x;
@@ -186,20 +251,20 @@ begun mode n h =
     }
 
 -- one projection, and then the others
-ahead : (w : World) (t : Tables) (m : Mode) (left : ℕ) (ps : List Pair) (s : Both) (r : List ℕ) → 0 < left → projectionsGo w t (carries w) m left ps s r ≡ bind (projectionsGo w t (carries w) m 1 ps s r) (λ x r2. projectionsGo w t (carries w) m (left - 1) (x .1) (x .0) r2)
+ahead : (w : World) (t : Tables) (m : Mode) (left : ℕ) (q : Taken) (s : Both) (r : List ℕ) → 0 < left → projectionsGo w t (takes w) m left q s r ≡ bind (projectionsGo w t (takes w) m 1 q s r) (λ x r2. projectionsGo w t (takes w) m (left - 1) (x .1) (x .0) r2)
 unfolding projectionsGo
-ahead w t m zero ps s r h = absurd (omega arith)
-ahead w t m (suc n) ps s r h =
+ahead w t m zero q s r h = absurd (omega arith)
+ahead w t m (suc n) q s r h =
     let z : suc n - 1 ≡ n = omega arith in
     rw z (first (wordIn 0 (suc (t .names)) r))
   where
-    second : (a : ℕ) (r1 : List ℕ) (g : Got Both) → bind g (λ u r2. projectionsGo w t (carries w) m n (ps ++ carries w (aliasOf a) (directOf (readForm (t .names) r1)) (u .names .visible)) u r2)
-        ≡ bind {A = Both × List Pair} (bind g (λ u r2. ok (u, ps ++ carries w (aliasOf a) (directOf (readForm (t .names) r1)) (u .names .visible)) r2)) (λ x r2. projectionsGo w t (carries w) m n (x .1) (x .0) r2)
+    second : (a : ℕ) (r1 : List ℕ) (g : Got Both) → bind g (λ u r2. projectionsGo w t (takes w) m n (takes w (aliasOf a) (directOf (readForm (t .names) r1)) (u .names .visible) q) u r2)
+        ≡ bind {A = Both × Taken} (bind g (λ u r2. ok (u, takes w (aliasOf a) (directOf (readForm (t .names) r1)) (u .names .visible) q) r2)) (λ x r2. projectionsGo w t (takes w) m n (x .1) (x .0) r2)
     second a r1 (ok u r2) = refl
     second a r1 (no e) = refl
 
-    first : (g : Got ℕ) → bind g (λ a r1. bind (within w t m general s r1) (λ u r2. projectionsGo w t (carries w) m n (ps ++ carries w (aliasOf a) (directOf (readForm (t .names) r1)) (u .names .visible)) u r2))
-        ≡ bind {A = Both × List Pair} (bind g (λ a r1. bind (within w t m general s r1) (λ u r2. ok (u, ps ++ carries w (aliasOf a) (directOf (readForm (t .names) r1)) (u .names .visible)) r2))) (λ x r2. projectionsGo w t (carries w) m n (x .1) (x .0) r2)
+    first : (g : Got ℕ) → bind g (λ a r1. bind (within w t m general s r1) (λ u r2. projectionsGo w t (takes w) m n (takes w (aliasOf a) (directOf (readForm (t .names) r1)) (u .names .visible) q) u r2))
+        ≡ bind {A = Both × Taken} (bind g (λ a r1. bind (within w t m general s r1) (λ u r2. ok (u, takes w (aliasOf a) (directOf (readForm (t .names) r1)) (u .names .visible) q) r2))) (λ x r2. projectionsGo w t (takes w) m n (x .1) (x .0) r2)
     first (ok a r1) = second a r1 (within w t m general s r1)
     first (no e) = refl
 
@@ -214,6 +279,7 @@ module _ {ws tab m₀ vis₀ found₀ held₀ : List ℕ} {mode n : ℕ} {m vis 
         wrote = x .wrote ∙ o .wrote;
         kept = x .kept ∙ o .kept;
         paid = omega (arith, o .paid, y .paid);
+        star = λ l. y .star (o .star l);
         top = omega (arith, o .top, y .top);
         below = seens-lower (slotsIn tab) (topOf m₀) (topOf m) vis' vis (o .top) (y .below) ∙ o .below;
         named = λ b. y .named (o .named b);
@@ -246,15 +312,16 @@ module _ {ws tab m₀ vis₀ found₀ held₀ : List ℕ} {mode n : ℕ} {m vis 
         carries = record {
           from = o .from;
           paid = omega (arith, o .paid);
+          star = o .star;
           top = o .top;
           below = o .below;
           named = o .named;
           fit = λ k f. o .fit k (lower (omega arith) (omega arith) f);
           goes = λ id s b. let c = o .on id s b in
-              record { state = c .state; holds = c .holds; same = c .same ∙ ap (λ (l : ℕ). projectionsGo (worldAt ws tab id) (tablesIn tab) (carries (worldAt ws tab id)) (modeOf mode) l (pairsIn (heldOf m) held) (c .state) (drop (atOf m) ws)) z };
+              record { state = c .state; holds = c .holds; same = c .same ∙ ap (λ (l : ℕ). projectionsGo (worldAt ws tab id) (tablesIn tab) (takes (worldAt ws tab id)) (modeOf mode) l (takenBy m held) (c .state) (drop (atOf m) ws)) z };
         };
       }
 
   -- the next one may be walked
   pub goes-in : Holding 0 ws tab m₀ held₀ → Holding 0 ws tab m held
-  goes-in b = record { room = omega (arith, b .room, o .kept); few = omega (arith, b .few, o .paid); unmarked = b .unmarked }
+  goes-in b = record { room = omega (arith, b .room, o .kept); few = omega (arith, b .few, o .paid); star = o .star (b .star); unmarked = b .unmarked }

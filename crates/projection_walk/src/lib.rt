@@ -1,15 +1,17 @@
-// The projections and the filter of a WITH are walked, and what they carry is held.
-use clause_parts::DEPTH;
-use clause_parts::next_word;
+// The projections and the filter of a WITH are walked; what they carry is held, and that one of them is a star is kept in mind.
 use heads::Form;
 use heads::FormRead;
 use heads::Word;
 use heads::read_form;
+use clause_parts::DEPTH;
+use clause_parts::next_word;
 use steps::AT;
 use steps::HELD;
+use steps::MARKS;
 use steps::NAMES;
 use steps::Row;
 use steps::SLOTS;
+use steps::STAR;
 use steps::TOP;
 use steps::WANTS;
 use steps::record_name;
@@ -24,13 +26,14 @@ ghost use mathlib.Core.Path.{_≡_};
 ghost use Prim.Native.Nat.{_+_, _*_, _<_, _≤_};
 ghost use lib.ListN.{length};
 ghost use Rattle.words.specs.Words.{words};
+ghost use Rattle.clauses.specs.Read.{aliasOf};
 ghost use Rattle.semantics.specs.World.{aVar, aName};
 ghost use Rattle.semantics.specs.Resolve.{useVar};
 ghost use Rattle.fused.specs.Fused.{nameUse};
-ghost use Rattle.steps.specs.Memory.{heldOf, slotsIn, worldAt};
+ghost use Rattle.steps.specs.Memory.{heldOf, namesIn, slotsIn, worldAt};
 ghost use Rattle.steps.specs.Hold.{Ready, Steps, onNames};
 ghost use Rattle.clause_parts.specs.Passes.{Held};
-ghost use Rattle.projection_walk.specs.Carries.{Holding, Carries, Kept, Adds, DirectAs, carriedAt, projectionsAt, filteredAt};
+ghost use Rattle.projection_walk.specs.Carries.{keptOf, under, NoStar, Named, Holding, Carries, Kept, Adds, KeepsOther, KeptOther, DirectAs, carriedAt, projectionsAt, filteredAt};
 
 // The two forms of an expression that a WITH may carry.
 pub enum Direct {
@@ -89,7 +92,43 @@ fn carry_var(
     }
 }
 
-// A name: carried if it is visible and has no alias.
+// Where a WITH keeps in mind that one of its projections is a star: behind the words of the open levels.
+pub const STARRED: usize = 59;
+
+// A name under its alias, or else its own.
+fn alias_or(alias: u32, x: u32) -> u32
+    ensures { λ r. ⌜ r ≡ under (aliasOf alias) x ⌝ }
+{
+    if alias == 0 {
+        return x;
+    }
+    alias - 1
+}
+
+// A name that is no star: carried if it is visible, under its alias or its own name.
+fn carry_seen(
+    s: &[u8],
+    tab: &[u32],
+    m: &mut [u32],
+    vis: &[u32],
+    found: &mut [u32],
+    held: &mut [u32],
+    alias: u32,
+    x: u32,
+)
+    requires { ⌜ (NoStar (now tab) alias x × Named (now tab) alias x) × ((Holding 3 (words (now s)) (now tab) (now m) (now held)) × (Ready 3 (words (now s)) (now tab) (now m) (now vis) (now found))) ⌝ }
+    ensures { λ r. ⌜ Adds (words (now (s .entry))) (now (tab .entry)) (now (m .entry)) (now (vis .entry)) (now (found .entry)) (now (held .entry)) (now (m .exit)) (now (vis .entry)) (now (found .exit)) (now (held .exit)) (λ id. onNames (nameUse (worldAt (words (now (s .entry))) (now (tab .entry)) id) x)) alias (aName x) ⌝ }
+{
+    match find(vis, tab[SLOTS], m[TOP], x) {
+        Found::Is(v, _) => {
+            record_name(s, tab, m, vis, found, x);
+            keep(m, held, alias_or(alias, x), v);
+        }
+        Found::No => use_name(s, tab, m, vis, found, x),
+    }
+}
+
+// A name: a star without an alias is used, and kept in mind.
 fn carry_name(
     s: &[u8],
     tab: &[u32],
@@ -100,17 +139,29 @@ fn carry_name(
     alias: u32,
     x: u32,
 )
-    requires { ⌜ (x < slotsIn (now tab)) × ((Holding 3 (words (now s)) (now tab) (now m) (now held)) × (Ready 3 (words (now s)) (now tab) (now m) (now vis) (now found))) ⌝ }
+    requires { ⌜ Named (now tab) alias x × ((Holding 3 (words (now s)) (now tab) (now m) (now held)) × (Ready 3 (words (now s)) (now tab) (now m) (now vis) (now found))) ⌝ }
     ensures { λ r. ⌜ Adds (words (now (s .entry))) (now (tab .entry)) (now (m .entry)) (now (vis .entry)) (now (found .entry)) (now (held .entry)) (now (m .exit)) (now (vis .entry)) (now (found .exit)) (now (held .exit)) (λ id. onNames (nameUse (worldAt (words (now (s .entry))) (now (tab .entry)) id) x)) alias (aName x) ⌝ }
 {
-    match find(vis, tab[SLOTS], m[TOP], x) {
-        Found::Is(v, _) => {
-            record_name(s, tab, m, vis, found, x);
-            if alias == 0 {
-                keep(m, held, x, v);
-            }
+    if alias == 0 {
+        if x + 1 == tab[STAR] {
+            use_name(s, tab, m, vis, found, x);
+            m[STARRED] = 1;
+            return;
         }
-        Found::No => use_name(s, tab, m, vis, found, x),
+    }
+    carry_seen(s, tab, m, vis, found, held, alias, x);
+}
+
+// Any other expression: carried under its alias, if it has one, with the use id of the alias as its variable.
+fn carry_other(tab: &[u32], m: &mut [u32], held: &mut [u32], alias: u32)
+    requires { ⌜ KeepsOther (now tab) (now m) (now held) alias ⌝ }
+    ensures { λ r. ⌜ KeptOther (now (tab .entry)) alias (now (m .entry)) (now (held .entry)) (now (m .exit)) (now (held .exit)) ⌝ }
+{
+    if alias != 0 {
+        let x = alias - 1;
+        let at = MARKS + tab[SLOTS] as usize + x as usize;
+        let v = tab[at];
+        keep(m, held, x, v);
     }
 }
 
@@ -149,7 +200,7 @@ fn walk_carried(
     alias: u32,
     mode: u32,
 ) -> u32
-    requires { ⌜ (alias ≤ slotsIn (now tab)) × ((Held (words (now s)) (now tab) (now held) mode) × ((Holding 1 (words (now s)) (now tab) (now m) (now held)) × (Ready 1 (words (now s)) (now tab) (now m) (now vis) (now found)))) ⌝ }
+    requires { ⌜ (alias ≤ namesIn (now tab)) × ((Held (words (now s)) (now tab) (now held) mode) × ((Holding 1 (words (now s)) (now tab) (now m) (now held)) × (Ready 1 (words (now s)) (now tab) (now m) (now vis) (now found)))) ⌝ }
     ensures { λ r. ⌜ Carries 1 (words (now (s .entry))) (now (tab .entry)) (now (m .entry)) (now (vis .entry)) (now (found .entry)) (now (held .entry)) (now (m .exit)) (now (vis .exit)) (now (found .exit)) (now (held .exit)) (carriedAt (words (now (s .entry))) (now (tab .entry)) mode alias) r ⌝ }
 {
     let at = m[AT] as usize;
@@ -167,7 +218,14 @@ fn walk_carried(
             carry_name(s, tab, m, vis, found, held, alias, x);
             0
         }
-        Direct::Other => walk_expr(s, tab, m, vis, found, DEPTH, mode / 64 * 64),
+        Direct::Other => {
+            let r = walk_expr(s, tab, m, vis, found, DEPTH, mode / 64 * 64);
+            if r != 0 {
+                return r;
+            }
+            carry_other(tab, m, held, alias);
+            0
+        }
     }
 }
 
@@ -201,7 +259,7 @@ fn walk_projections(
     n: u32,
     mode: u32,
 ) -> u32
-    requires { ⌜ (Held (words (now s)) (now tab) (now held) mode) × ((Holding 0 (words (now s)) (now tab) (now m) (now held)) × (Ready (heldOf (now m) * 2) (words (now s)) (now tab) (now m) (now vis) (now found))) ⌝ }
+    requires { ⌜ (Held (words (now s)) (now tab) (now held) mode) × ((Holding 0 (words (now s)) (now tab) (now m) (now held)) × (Ready (keptOf (now m)) (words (now s)) (now tab) (now m) (now vis) (now found))) ⌝ }
     ensures { λ r. ⌜ Carries 0 (words (now (s .entry))) (now (tab .entry)) (now (m .entry)) (now (vis .entry)) (now (found .entry)) (now (held .entry)) (now (m .exit)) (now (vis .exit)) (now (found .exit)) (now (held .exit)) (projectionsAt (words (now (s .entry))) (now (tab .entry)) mode n) r ⌝ }
 {
     let mut left = n;
@@ -225,7 +283,7 @@ pub fn walk_filtered(
     held: &mut [u32],
     mode: u32,
 ) -> u32
-    requires { ⌜ (Held (words (now s)) (now tab) (now held) mode) × ((Holding 0 (words (now s)) (now tab) (now m) (now held)) × (Ready (heldOf (now m) * 2) (words (now s)) (now tab) (now m) (now vis) (now found))) ⌝ }
+    requires { ⌜ (Held (words (now s)) (now tab) (now held) mode) × ((Holding 0 (words (now s)) (now tab) (now m) (now held)) × (Ready (keptOf (now m)) (words (now s)) (now tab) (now m) (now vis) (now found))) ⌝ }
     ensures { λ r. ⌜ Carries 0 (words (now (s .entry))) (now (tab .entry)) (now (m .entry)) (now (vis .entry)) (now (found .entry)) (now (held .entry)) (now (m .exit)) (now (vis .exit)) (now (found .exit)) (now (held .exit)) (filteredAt (words (now (s .entry))) (now (tab .entry)) mode) r ⌝ }
 {
     let Word::Is(n) = next_word(s, m, 0, 4294967296) else {

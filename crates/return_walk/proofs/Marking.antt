@@ -1,6 +1,6 @@
 -- Aliases that are held (`hold-none`, `hold-one`) and marked (`none-marked`, `one-marked`). Their marks make them no use (`hushed-world`) and
 -- alter nothing else that the walks go by (`same-number`, `marks-again`, `marked-fine`); taken away, tab is as it was (`restored`).
-use Prim.Native.Nat.{ℕ, zero, suc, _+_, _-_, _<_, _≤_}
+use Prim.Native.Nat.{ℕ, zero, suc, _+_, _-_, _*_, _<_, _≤_}
 use native.Mathlib.Omega.{arith}
 use native.Mathlib.Numerals.{add-one}
 use mathlib.Core.Path.{_≡_, refl, ap, sym, _∙_}
@@ -16,7 +16,7 @@ use Rattle.clauses.specs.Read.{aliasOf}
 use Rattle.semantics.specs.World.{World, hush}
 use Rattle.semantics.specs.Resolve.{aliasIn}
 use Rattle.rows.specs.Rows.{idAt, seek, rowTold}
-use Rattle.steps.specs.Memory.{slotsIn, hushedIn, worldAt}
+use Rattle.steps.specs.Memory.{slotsIn, hushedIn, worldAt, useIn}
 use Rattle.steps.specs.Hold.{Fine}
 use Rattle.clause_parts.specs.Passes.{Unmarked}
 use Rattle.return_walk.specs.Returns.{aliasesIn, AllNamed, HeldAlias, isMark, Marked}
@@ -134,10 +134,13 @@ module _ {k : ℕ} {held tab tab' : List ℕ} (o : Marked 1 k held tab tab') (na
   pub same-number : (i : ℕ) → i < 16 → getD tab' i 0 ≡ getD tab i 0
   same-number i l = o .at i ∙ rw (far i k (slotsIn tab) held named (λ x m e. omega arith))
 
-  same-behind : drop (16 + slotsIn tab) tab' ≡ drop (16 + slotsIn tab) tab
+  same-behind : drop (16 + slotsIn tab * 2) tab' ≡ drop (16 + slotsIn tab * 2) tab
   same-behind =
-      ext-getD 0 (drop (16 + slotsIn tab) tab') (drop (16 + slotsIn tab) tab) (rw (length-drop (16 + slotsIn tab) tab', length-drop (16 + slotsIn tab) tab, o .kept))
-      (λ i l. rw (getD-drop (16 + slotsIn tab) tab' i 0, getD-drop (16 + slotsIn tab) tab i 0, o .at (16 + slotsIn tab + i), far (16 + slotsIn tab + i) k (slotsIn tab) held named (λ x m e. omega arith)))
+      ext-getD 0 (drop (16 + slotsIn tab * 2) tab') (drop (16 + slotsIn tab * 2) tab) (rw (length-drop (16 + slotsIn tab * 2) tab', length-drop (16 + slotsIn tab * 2) tab, o .kept))
+      (λ i l. rw (getD-drop (16 + slotsIn tab * 2) tab' i 0, getD-drop (16 + slotsIn tab * 2) tab i 0, o .at (16 + slotsIn tab * 2 + i), far (16 + slotsIn tab * 2 + i) k (slotsIn tab) held named (λ x m e. omega arith)))
+
+  pub same-use : (x : ℕ) → useIn tab' x ≡ useIn tab x
+  same-use x = rw (same-number 1 (omega arith)) (o .at (16 + slotsIn tab + x) ∙ rw (far (16 + slotsIn tab + x) k (slotsIn tab) held named (λ y m e. omega arith)))
 
   pub marks-again : 16 + slotsIn tab ≤ length tab → (16 + slotsIn tab' ≤ length tab') × AllNamed (slotsIn tab') k held
   marks-again l = rw (same-number 1 (omega arith), o .kept) (l, named)

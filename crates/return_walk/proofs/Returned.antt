@@ -17,7 +17,7 @@ use Rattle.fused.specs.Clauses.{within, aliased, projectionsGo, returned, retur
 use Rattle.visible.specs.Visible.{Tabled}
 use Rattle.steps.specs.Memory.{atOf, topOf, curOf, lastOf, saidOf, toldOf, lostOf, heldOf, slotsIn, tablesIn, worldAt, modeOf}
 use Rattle.steps.specs.Hold.{Fit, Holds, Frame, Steps, Ready, Left, onNames}
-use Rattle.steps.proofs.Held.{Numbers, unset, store, lower, refit, framed, frame-more}
+use Rattle.steps.proofs.Held.{Numbers, unset, store, lower, refit, framed, frame-more, recounted}
 use Rattle.steps.proofs.Moved.{left-numbers, left-fits, left-frame, left-holds}
 use Rattle.walk.specs.Goes.{Goer, Walked}
 use Rattle.clause_parts.specs.Passes.{Passes}
@@ -143,7 +143,7 @@ module _ {ws tab m vis found m1 found1 m2 vis2 : List ℕ} {a b : ℕ} (ready : 
           fit = λ k f. let g1 = x .fit (2 + k) (2 + k) (lower (omega arith) (omega arith) f) in let g = y .fit (2 + k) (inner-fits k f) in
               refit g q (l .kept) refl (l .tabled)
               (rw see (below-descends (slotsIn tab) (topOf m) (topOf m1) (curOf m1) vis (x .frame .top) (g1 .descends)))
-              (omega (arith, g1 .cur, z .1 .1, y .frame .last)) (omega (arith, g .last)) (omega (arith, g .count)) (omega (arith, g .stack, fr .top));
+              (omega (arith, g1 .cur, z .1 .1, y .frame .last)) (omega (arith, g .last)) (omega (arith, g .count)) (omega (arith, g .stack, fr .top)) (omega arith);
           goes = λ id s h. let v = y .goes id _ (inner-holds h) in
               record {
                 state = returned (modeOf mode) s (v .state);
@@ -154,6 +154,8 @@ module _ {ws tab m vis found m1 found1 m2 vis2 : List ℕ} {a b : ℕ} (ready : 
                   log = rw (q .said, live) (v .holds .log);
                   kinds = rw (q .told) (v .holds .kinds);
                   known = rw (q .lost) (v .holds .known);
+                  counts = rw live (recounted q (v .holds .counts));
+                  uses = v .holds .uses;
                 };
                 same = return-as ws tab mode a b id s sorts (drop (atOf m) ws) ∙ rw (names-step (modeOf mode) (λ y. leave y (enter 8 a b y)) s live, ← at, v .same, q .at);
               };

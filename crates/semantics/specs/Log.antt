@@ -1,5 +1,6 @@
 -- What the walks say, in order: the log (document 01, "What comes out"). The five lists are views of it.
 use Prim.Native.Nat.{ℕ}
+use mathlib.Core.Bool.{Bool}
 use mathlib.Core.List.{List, [], _∷_, flatMap}
 use lib.ListN.{length}
 use Rattle.scope.specs.Graph.{Scope, Carried}
@@ -46,7 +47,7 @@ pub data Write : Type 0 where
 -- what a walk does, one thing at a time
 pub data Event : Type 0 where
   open' : Scope → Event  -- a scope is added; its number is the count of those before it
-  bind : Bound → Event  -- a name is bound in a scope
+  bind : (over again : Bool) → Bound → Event  -- a name is bound in a scope: whether it came over a WITH, and whether its scope binds it already
   carry : Carried → Event  -- a barrier carries a name
   answer : Write → Event  -- a use id is recorded
   find : Finding → Event  -- a finding is pushed
@@ -54,35 +55,35 @@ pub data Event : Type 0 where
 -- The entries of one sort in a log.
 unfoldable pub scopeOf : Event → List Scope
 scopeOf (open' s) = s ∷ []
-scopeOf (bind b) = []
+scopeOf (bind o g b) = []
 scopeOf (carry c) = []
 scopeOf (answer a) = []
 scopeOf (find f) = []
 
 unfoldable pub bindOf : Event → List Bound
 bindOf (open' s) = []
-bindOf (bind b) = b ∷ []
+bindOf (bind o g b) = b ∷ []
 bindOf (carry c) = []
 bindOf (answer a) = []
 bindOf (find f) = []
 
 unfoldable pub carryOf : Event → List Carried
 carryOf (open' s) = []
-carryOf (bind b) = []
+carryOf (bind o g b) = []
 carryOf (carry c) = c ∷ []
 carryOf (answer a) = []
 carryOf (find f) = []
 
 unfoldable pub answerOf : Event → List Write
 answerOf (open' s) = []
-answerOf (bind b) = []
+answerOf (bind o g b) = []
 answerOf (carry c) = []
 answerOf (answer a) = a ∷ []
 answerOf (find f) = []
 
 unfoldable pub findOf : Event → List Finding
 findOf (open' s) = []
-findOf (bind b) = []
+findOf (bind o g b) = []
 findOf (carry c) = []
 findOf (answer a) = []
 findOf (find f) = f ∷ []

@@ -45,6 +45,15 @@ unfoldable pub ifSome : Option ℕ → ℕ → List Pair
 ifSome none x = []
 ifSome (some v) x = pair x v ∷ []
 
+-- each visible name once, with its newest variable, newest first
+unfoldable pub without : ℕ → List Pair → List Pair
+without x [] = []
+without x (pair y v ∷ ps) = cond (eqb x y) (without x ps) (pair y v ∷ without x ps)
+
+unfoldable pub once : List Seen → List Pair
+once [] = []
+once (seen x v p ∷ vis) = pair x v ∷ without x (once vis)
+
 -- The steps. An event is said, always or if a test holds; a scope is opened under the current one, which it becomes; a name is bound in
 -- the current scope, and visible from then on; what is visible and current is again as in s.
 abbrev pub say : Event → State → State
@@ -57,8 +66,17 @@ sayIf false e s = s
 abbrev pub enter : ℕ → ℕ → ℕ → State → State
 enter k a b s = record { visible = s .visible; cur = suc (s .last); last = suc (s .last); log = open' (scope k (some (s .cur)) a b) ∷ s .log }
 
+abbrev pub bindOver : Bool → ℕ → ℕ → ℕ → State → State
+bindOver over x v k s =
+    record {
+      visible = seen x v (s .cur) ∷ s .visible;
+      cur = s .cur;
+      last = s .last;
+      log = bind over (binds (s .cur) x (s .visible)) (bound (s .cur) x v k) ∷ s .log;
+    }
+
 abbrev pub bindName : ℕ → ℕ → ℕ → State → State
-bindName x v k s = record { visible = seen x v (s .cur) ∷ s .visible; cur = s .cur; last = s .last; log = bind (bound (s .cur) x v k) ∷ s .log }
+bindName = bindOver false
 
 abbrev pub leave : State → State → State
 leave s t = record { visible = s .visible; cur = s .cur; last = t .last; log = t .log }
@@ -119,18 +137,39 @@ module _ (w : World) where
     bindPattern (part p r) s = bindPattern r (bindPath (variable p) s)
     bindPattern (elem k a b v es r) s = bindPattern r (resolves es (bindElem k (variable v) s))
 
-  -- "Carried: an aliased Var under its alias; an unaliased Var with a binding under its name; an unaliased Unresolved that is found"
+  -- "Carried: an aliased Var under its alias; an unaliased Var with a binding under its name; an unaliased Unresolved that is found". "An
+  -- aliased Unresolved name is carried under its alias if it is found, else not. An alias of any other expression save Var is carried with
+  -- the use id of the alias as its variable" (document 02, CR 2). What an unaliased star carries stands below, also where `*` itself is visible
   unfoldable pub carries : Option ℕ → Direct → List Seen → List Pair
   carries (some x) (aVar v) vis = pair x v ∷ []
-  carries (some x) (aName y) vis = []
-  carries (some x) other vis = []
+  carries (some x) (aName y) vis = ifSome (lookup y vis) x
+  carries (some x) other vis = pair x (w .id x) ∷ []
   carries none (aVar v) vis = ifRow (w .row v) v
-  carries none (aName x) vis = ifSome (lookup x vis) x
+  carries none (aName x) vis = cond (w .isStar x) [] (ifSome (lookup x vis) x)
   carries none other vis = []
 
+  unfoldable pub projected : List Projection → List Seen → List Pair
+  projected [] vis = []
+  projected (projection a e ∷ ps) vis = carries a (direct e) vis ++ projected ps vis
+
+  -- whether a projection is an unaliased star, and whether one of several is: "Several stars in one WITH act as one" (document 02, CR 2)
+  unfoldable pub isAll : Option ℕ → Direct → Bool
+  isAll (some x) d = false
+  isAll none (aVar v) = false
+  isAll none (aName x) = w .isStar x
+  isAll none other = false
+
+  unfoldable pub anyStar : List Projection → Bool
+  anyStar [] = false
+  anyStar (projection a e ∷ ps) = isAll a (direct e) || anyStar ps
+
+  -- "An unaliased star now carries each visible name once with its newest variable, the oldest such binding first, before other
+  -- projections" (document 02, CR 2)
+  unfoldable pub starred : List Projection → List Seen → List Pair
+  starred ps vis = cond (anyStar ps) (reverse (once vis)) []
+
   unfoldable pub carriedBy : List Projection → List Seen → List Pair
-  carriedBy [] vis = []
-  carriedBy (projection a e ∷ ps) vis = carries a (direct e) vis ++ carriedBy ps vis
+  carriedBy ps vis = starred ps vis ++ projected ps vis
 
   -- pairs carried by the current scope; and bound there: "carried names .. take the table's" kind
   unfoldable pub carryAll : List Pair → State → State
@@ -139,7 +178,7 @@ module _ (w : World) where
 
   unfoldable pub bindAll : List Pair → State → State
   bindAll [] s = s
-  bindAll (pair x v ∷ ps) s = bindAll ps (bindName x v (kindOf w v) s)
+  bindAll (pair x v ∷ ps) s = bindAll ps (bindOver true x v (kindOf w v) s)
 
   -- WITH "opens a WithBarrier, then a Root with the span (end, end), and binds the carried names there": all that is visible then
   unfoldable pub barrier : ℕ → ℕ → List Pair → State → State
@@ -205,5 +244,5 @@ log warns s = reverse (run warns s .log)
 
 -- `unfolding walk` opens all of the walk.
 unfoldable pub walk : Unit {0}
-unfolding worlds lookup binds ifRow ifSome sayIf useVar useName visit bindAnew bindNew bindPath bindElem resolve carries carriedBy carryAll bindAll barrier fresh yields aliasIn aliases sortBy clause clauses arms start run log exprs keysOf
+unfolding worlds lookup binds ifRow ifSome without once sayIf useVar useName visit bindAnew bindNew bindPath bindElem resolve carries projected isAll anyStar starred carriedBy carryAll bindAll barrier fresh yields aliasIn aliases sortBy clause clauses arms start run log exprs keysOf
 walk = tt

@@ -33,7 +33,8 @@ use Rattle.steps.specs.Memory.{atOf, topOf, curOf, slotsIn, starIn, want
 use Rattle.steps.specs.Hold.{Fits, Holds, Frame, Steps, Ready, Says, SaysIf, Tells, shown, AtRow, actOf, acts, opensIn, ClosedIf, Closed, costIn, costOf, NamedIn, Named, onNames, onKinds, varRecord, nameRecord, pairOf}
 use Rattle.steps.specs.declared.row.Row.the-variants as row'
 use Rattle.steps.specs.declared.head.Act.{Act}
-use Rattle.steps.proofs.Held.{idle-step, then-steps, more-costs, more-steps, instead, as-steps, wanted, unwanted, says-step, says-if, tells-step}
+use Rattle.steps.proofs.Held.{idle-step, then-steps, more-costs, more-steps, instead, as-steps, wanted, unwanted, no-count, says-step, says-if, tells-step}
+use Rattle.theorems.specs.Needs.{made, carriedIn}
 use Rattle.steps.proofs.Moved.{left-numbers, left-fits, left-frame, left-holds}
 
 -- ---- settings as numbers
@@ -207,7 +208,7 @@ module _ {j : ℕ} {ws tab m vis found : List ℕ} (mode : ℕ) where
 -- ---- a use of a variable
 module _ {ws tab m vis found : List ℕ} (mode v k : ℕ) where
   pub var-said : {m' found' : List ℕ} → length m ≡ 64 → mode / 64 % 2 ≡ 1 → SaysIf (wantsIn tab) 4 v k 0 0 0 m found m' found' → Steps 1 ws tab m vis found m' vis found' (λ id. onNames (varRecord (modeOf mode) v k))
-  var-said z r p = as-steps _ (more-costs (omega arith) (omega arith) (says-if z p (λ id l. refl))) (λ id s. rw (eq-eqb (mode / 64 % 2) 1 r))
+  var-said z r p = as-steps _ (more-costs (omega arith) (omega arith) (says-if z p (λ id l. refl) (λ id l. refl) (λ id. no-count (λ n. refl) (λ n. refl)))) (λ id s. rw (eq-eqb (mode / 64 % 2) 1 r))
 
   pub var-unresolved : {j : ℕ} → (mode / 64 % 2 ≡ 1 → ⊥) → Steps j ws tab m vis found m vis found (λ id. onNames (varRecord (modeOf mode) v k))
   var-unresolved r = idle-as _ (λ id s. rw (ne-eqb (mode / 64 % 2) 1 r))
@@ -218,6 +219,8 @@ record Unmoved (wants : Bool) (s t : State) : Type 0 where
   cur : s .cur ≡ t .cur
   last : s .last ≡ t .last
   log : kept wants (s .log) ≡ kept wants (t .log)
+  made : made (s .log) ≡ made (t .log)
+  taken : carriedIn (s .log) ≡ carriedIn (t .log)
 
 still-holds : {id : ℕ → ℕ} {tab m vis found : List ℕ} {s : Both} {t : State} {fs : List Finding} → Holds id tab m vis found s → Unmoved (wantsIn tab) (s .names) t → s .kinds ≡ fs → Holds id tab m vis found (record { names = t; kinds = fs; known = s .known })
 still-holds h u e =
@@ -228,14 +231,16 @@ still-holds h u e =
       log = h .log ∙ u .log;
       kinds = h .kinds ∙ e;
       known = h .known;
+      counts = record { made = h .counts .made ∙ u .made; taken = h .counts .taken ∙ u .taken };
+      uses = h .uses;
     }
 
 use-unmoved : (w : World) (v : ℕ) (wants resolves : Bool) (o : Option Row) (s : State) → wants && resolves ≡ false → Unmoved wants s (when resolves (useVar w v o) s)
-unfolding useVar kept
-use-unmoved w v wants false o s e = record { visible = refl; cur = refl; last = refl; log = refl }
-use-unmoved w v wants true none s e = record { visible = refl; cur = refl; last = refl; log = refl }
+unfolding useVar kept made carriedIn
+use-unmoved w v wants false o s e = record { visible = refl; cur = refl; last = refl; log = refl; made = refl; taken = refl }
+use-unmoved w v wants true none s e = record { visible = refl; cur = refl; last = refl; log = refl; made = refl; taken = refl }
 use-unmoved w v true true (some (row i x k a b)) s e = let z : _≡_ {A = ℕ} 0 1 = cc e in absurd (omega arith)
-use-unmoved w v false true (some (row i x k a b)) s e = record { visible = refl; cur = refl; last = refl; log = refl }
+use-unmoved w v false true (some (row i x k a b)) s e = record { visible = refl; cur = refl; last = refl; log = refl; made = refl; taken = refl }
 
 row-quiet : (n : ℕ) (o : Option Row) → eqb n 0 || eqb n 3 ≡ true → atRow (settingOf n) o ≡ []
 unfolding atRow
@@ -306,8 +311,9 @@ module _ {ws tab m vis found m1 found1 : List ℕ} (mode v x k : ℕ) (o : Optio
 
 -- ---- a use of a name
 name-unmoved : {wants : Bool} → wants ≡ false → (w : World) (x : ℕ) (o : Option ℕ) (s : State) → Unmoved wants s (nameRecord w x o s)
-name-unmoved e w x none s = record { visible = refl; cur = refl; last = refl; log = sym (unwanted _ e (λ l. refl) (s .log)) }
-name-unmoved e w x (some v) s = record { visible = refl; cur = refl; last = refl; log = sym (unwanted _ e (λ l. refl) (s .log)) }
+unfolding made carriedIn
+name-unmoved e w x none s = record { visible = refl; cur = refl; last = refl; log = sym (unwanted _ e (λ l. refl) (s .log)); made = refl; taken = refl }
+name-unmoved e w x (some v) s = record { visible = refl; cur = refl; last = refl; log = sym (unwanted _ e (λ l. refl) (s .log)); made = refl; taken = refl }
 
 -- what is recorded of a name, by what is visible
 abbrev RecordsAs : (ws tab : List ℕ) → ℕ → (ℕ → ℕ) → Both → Both
@@ -321,7 +327,7 @@ module _ {ws tab m vis found : List ℕ} (x : ℕ) where
   module _ {m1 found1 : List ℕ} (p : ℕ) (size : length m ≡ 64) (e : getD tab 9 0 ≡ 1) where
     pub missing-name : answer (lookup x (seens (slotsIn tab) (topOf m) vis)) p ≡ found'.No → Says 5 x 0 0 0 0 m found m1 found1 → Steps 1 ws tab m vis found m1 vis found1 (RecordsAs ws tab x)
     missing-name q s =
-        instead _ (says-step size s (λ id l. wanted (eq-eqb (getD tab 9 0) 1 e) _ l))
+        instead _ (says-step size s (λ id l. wanted _ (eq-eqb (getD tab 9 0) 1 e) (λ r. refl) l) (λ id. no-count (λ n. refl) (λ n. refl)))
         (λ id t h. let z : lookup x (t .names .visible) ≡ none = ap (λ l. lookup x l) (sym (h .visible)) ∙ go (lookup x (seens (slotsIn tab) (topOf m) vis)) q in rw z)
       where
         go : (o : Option ℕ) → answer o p ≡ found'.No → o ≡ none
@@ -332,7 +338,7 @@ module _ {ws tab m vis found : List ℕ} (x : ℕ) where
         Steps 1 ws tab m vis found m1 vis found1 (RecordsAs ws tab x)
     unfolding kindOf
     found-name v k c q r s =
-        instead _ (says-step size s (λ id l. wanted (eq-eqb (getD tab 9 0) 1 e) _ l))
+        instead _ (says-step size s (λ id l. wanted _ (eq-eqb (getD tab 9 0) 1 e) (λ r. refl) l) (λ id. no-count (λ n. refl) (λ n. refl)))
         (λ id t h. let z : lookup x (t .names .visible) ≡ some v = ap (λ l. lookup x l) (sym (h .visible)) ∙ go (lookup x (seens (slotsIn tab) (topOf m) vis)) q in rw (z, r))
       where
         go : (o : Option ℕ) → answer o p ≡ found'.Is v c → o ≡ some v

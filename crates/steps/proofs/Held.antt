@@ -1,6 +1,6 @@
 -- Laws of steps. Numbers: what m holds after stores (`unset`, `store`). Room: `lower`, `weaken`, `ready-less`, `roomy`, `roomy-in`.
 -- Steps: nothing done (`idle-step`), one after another (`then-steps`, `framed`), for more words (`more-steps`), put another way
--- (`as-steps`, `instead`). What is said and told: `says-step`, `says-costs`, `says-if`, `unsaid-step`, `tells-step`, `tells-costs`, `tells-if`, with `wanted`,
+-- (`as-steps`, `instead`). What is counted: `uncounted`, `recounted`. What is said and told: `says-step`, `says-costs`, `says-if`, `unsaid-step`, `tells-step`, `tells-costs`, `tells-if`, with `wanted`,
 -- `always` and `unwanted` for what is kept of a log.
 use Prim.Native.Nat.{ℕ, zero, suc, _+_, _-_, _*_, _<_, _≤_}
 use native.Mathlib.Nat.{suc-add, zero-add}
@@ -14,10 +14,12 @@ use lib.Seq.{getD-set-same, getD-set-other}
 use borrow.Author.Tests.{eqb-true, eqb-false}
 use Rattle.semantics.specs.Log.{Finding, finding, Event, find}
 use Rattle.semantics.specs.Resolve.{say}
+use Rattle.theorems.specs.Needs.{madeOne, carriedOne, made, carriedIn}
+use Rattle.theorems.specs.Woven.{writtenOne, written}
 use Rattle.fused.specs.Fused.{Both, told}
 use Rattle.visible.specs.Visible.{seens, Descends, Tabled}
-use Rattle.steps.specs.Memory.{atOf, topOf, curOf, lastOf, saidOf, toldOf, lostOf, heldOf, levelOf, slotsIn, wantsIn, events, findings, eventOf, keptOne, kept}
-use Rattle.steps.specs.Hold.{Fine, Fits, Fit, Holds, Frame, Costs, Steps, Ready, Roomy, Says, SaysIf, Tells, TellsIf, onNames, onKinds}
+use Rattle.steps.specs.Memory.{atOf, topOf, curOf, lastOf, saidOf, toldOf, lostOf, heldOf, madeOf, takenOf, levelOf, slotsIn, wantsIn, events, findings, eventOf, keptOne, kept}
+use Rattle.steps.specs.Hold.{Fine, Fits, Fit, Counted, Holds, Frame, Costs, Steps, Ready, Roomy, Says, SaysIf, Tells, TellsIf, onNames, onKinds}
 
 -- ---- numbers: n is m after stores
 pub record Numbers (m n : List ℕ) (a t c l s o b h : ℕ) : Type 0 where
@@ -30,11 +32,13 @@ pub record Numbers (m n : List ℕ) (a t c l s o b h : ℕ) : Type 0 where
   pub told : toldOf n ≡ o
   pub lost : lostOf n ≡ b
   pub held : heldOf n ≡ h
+  pub made : madeOf n ≡ madeOf m
+  pub taken : takenOf n ≡ takenOf m
   pub levels : (d : ℕ) → levelOf n d ≡ levelOf m d
 
 pub unset : {m : List ℕ} → Numbers m m (atOf m) (topOf m) (curOf m) (lastOf m) (saidOf m) (toldOf m) (lostOf m) (heldOf m)
 unset =
-    record { size = refl; at = refl; top = refl; cur = refl; last = refl; said = refl; told = refl; lost = refl; held = refl; levels = λ d. refl }
+    record { size = refl; at = refl; top = refl; cur = refl; last = refl; said = refl; told = refl; lost = refl; held = refl; made = refl; taken = refl; levels = λ d. refl }
 
 set-at : (n : List ℕ) (i x j a : ℕ) → i < length n → getD n j 0 ≡ a → getD (set n i x) j 0 ≡ cond (eqb j i) x a
 set-at n i x j a h e = go (eqb j i) refl
@@ -58,7 +62,9 @@ store {m} {n} i x h z q =
       told = set-at n i x 5 _ l (q .told);
       lost = set-at n i x 6 _ l (q .lost);
       held = set-at n i x 7 _ l (q .held);
-      levels = λ d. getD-set-other n i (8 + d) x 0 (λ e. omega arith) ∙ q .levels d;
+      made = getD-set-other n i 8 x 0 (λ e. omega arith) ∙ q .made;
+      taken = getD-set-other n i 9 x 0 (λ e. omega arith) ∙ q .taken;
+      levels = λ d. getD-set-other n i (10 + d) x 0 (λ e. omega arith) ∙ q .levels d;
     }
 
 -- ---- room
@@ -73,6 +79,7 @@ lower a b f =
       last = omega (arith, f .last);
       count = omega (arith, f .count);
       stack = omega (arith, f .stack);
+      needs = omega (arith, f .needs);
       within = f .within;
       names = f .names;
       room = f .room;
@@ -185,8 +192,8 @@ module _ {ws tab m vis found m1 vis1 found1 : List ℕ} {F : (ℕ → ℕ) → B
 -- ---- what fits after stores, and what stays
 pub refit : {ws tab m vis found n vis' found' : List ℕ} {e t i k top cur last said told lost held : ℕ} → Fits e t ws tab m vis found → Numbers m n (atOf m) top cur last said told lost held →
     length vis' ≡ length vis → length found' ≡ length found → Tabled (slotsIn tab) top vis' → Descends cur (seens (slotsIn tab) top vis') → cur ≤ last → last + k ≤ atOf m →
-    said + told + i ≤ atOf m + 1 → slotsIn tab + top * 3 + k ≤ atOf m + 1 → Fits i k ws tab n vis' found'
-refit f q v w a b c d g h =
+    said + told + i ≤ atOf m + 1 → slotsIn tab + top + k ≤ atOf m + 1 → k ≤ t → Fits i k ws tab n vis' found'
+refit f q v w a b c d g h z =
     record {
       size = q .size ∙ f .size;
       tabled = rw (q .top) a;
@@ -195,6 +202,7 @@ refit f q v w a b c d g h =
       last = rw (q .last, q .at) d;
       count = rw (q .said, q .told, q .at) g;
       stack = rw (q .top, q .at) h;
+      needs = rw (q .made, q .taken, q .at) (omega (arith, f .needs));
       within = rw (q .at) (f .within);
       names = rw v (f .names);
       room = rw w (f .room);
@@ -204,12 +212,13 @@ pub reframe : {tab m vis n vis' : List ℕ} {at top cur last said told lost : �
 reframe q a b c = record { top = omega (arith, q .top); last = omega (arith, q .last); below = c; held = q .held; levels = λ d h. q .levels d }
 
 -- ---- what is kept of a log
-pub wanted : {b : Bool} → b ≡ true → (e : Event) (l : List Event) → kept b (e ∷ l) ≡ e ∷ kept b l
-unfolding kept
-wanted q e l = rw q
+-- an event that no WITH carries or binds: `λ l. refl`
+pub wanted : {b : Bool} (e : Event) → b ≡ true → ((l : List Event) → writtenOne e l ≡ e ∷ l) → (l : List Event) → kept b (e ∷ l) ≡ e ∷ kept b l
+unfolding kept written
+wanted e q z l = rw q (z (written l))
 
 pub always : (b : Bool) (f : Finding) (l : List Event) → kept b (find f ∷ l) ≡ find f ∷ kept b l
-unfolding kept
+unfolding kept written
 always true f l = refl
 always false f l = refl
 
@@ -218,21 +227,40 @@ pub unwanted : {b : Bool} (e : Event) → b ≡ false → ((l : List Event) → 
 unfolding kept
 unwanted e q z l = rw q (z (kept false l))
 
+-- ---- what is counted
+-- an event that neither binds nor carries
+pub record Uncounted (e : Event) : Type 0 where
+  pub made : (n : ℕ) → madeOne e n ≡ n
+  pub taken : (n : ℕ) → carriedOne e n ≡ n
+
+pub no-count : {e : Event} → ((n : ℕ) → madeOne e n ≡ n) → ((n : ℕ) → carriedOne e n ≡ n) → Uncounted e
+no-count a b = record { made = a; taken = b }
+
+pub find-uncounted : (f : Finding) → Uncounted (find f)
+find-uncounted f = record { made = λ n. refl; taken = λ n. refl }
+
+pub uncounted : {m : List ℕ} {e : Event} {l : List Event} → Uncounted e → Counted m l → Counted m (e ∷ l)
+unfolding made carriedIn
+uncounted {l = l} u c = record { made = c .made ∙ sym (u .made (made l)); taken = c .taken ∙ sym (u .taken (carriedIn l)) }
+
+pub recounted : {m n : List ℕ} {at top cur last said told lost held : ℕ} {l : List Event} → Numbers m n at top cur last said told lost held → Counted m l → Counted n l
+recounted q c = record { made = q .made ∙ c .made; taken = q .taken ∙ c .taken }
+
 -- ---- what is said and told
 module _ {m found m' found' : List ℕ} {tag a b c d x : ℕ} (size : length m ≡ 64) (p : Says tag a b c d x m found m' found') where
   pub said-numbers : Numbers m m' (atOf m) (topOf m) (curOf m) (lastOf m) (suc (saidOf m)) (toldOf m) (lostOf m) (heldOf m)
   said-numbers = rw (p .numbers) (store 4 (suc (saidOf m)) (omega arith) size unset)
 
   module _ {ws tab vis : List ℕ} where
-    pub says-costs : ((id : ℕ → ℕ) (l : List Event) → kept (wantsIn tab) (eventOf id tag a b c d x ∷ l) ≡ eventOf id tag a b c d x ∷ kept (wantsIn tab) l) → Costs 1 0 ws tab m vis found m' vis found' (λ id. onNames (say (eventOf id tag a b c d x)))
-    says-costs z =
+    pub says-costs : ((id : ℕ → ℕ) (l : List Event) → kept (wantsIn tab) (eventOf id tag a b c d x ∷ l) ≡ eventOf id tag a b c d x ∷ kept (wantsIn tab) l) → ((id : ℕ → ℕ) → Uncounted (eventOf id tag a b c d x)) → Costs 1 0 ws tab m vis found m' vis found' (λ id. onNames (say (eventOf id tag a b c d x)))
+    says-costs z y =
         let q = said-numbers in
         record {
           at = q .at;
           sized = q .size;
           seen = refl;
           wrote = p .wrote;
-          fit = λ i k f. refit f q refl (p .wrote) (f .tabled) (f .descends) (f .cur) (omega (arith, f .last)) (omega (arith, f .count)) (omega (arith, f .stack));
+          fit = λ i k f. refit f q refl (p .wrote) (f .tabled) (f .descends) (f .cur) (omega (arith, f .last)) (omega (arith, f .count)) (omega (arith, f .stack)) (omega arith);
           frame = reframe q (omega arith) (omega arith) refl;
           goes = λ id s h.
               record {
@@ -242,16 +270,18 @@ module _ {m found m' found' : List ℕ} {tag a b c d x : ℕ} (size : length m �
                 log = rw (q .said, p .events id, h .log) (sym (z id (s .names .log)));
                 kinds = rw (q .told, p .findings) (h .kinds);
                 known = rw (q .lost) (h .known);
+                counts = uncounted (y id) (recounted q (h .counts));
+                uses = h .uses;
               };
         }
 
-    pub says-step : ((id : ℕ → ℕ) (l : List Event) → kept (wantsIn tab) (eventOf id tag a b c d x ∷ l) ≡ eventOf id tag a b c d x ∷ kept (wantsIn tab) l) → Steps 1 ws tab m vis found m' vis found' (λ id. onNames (say (eventOf id tag a b c d x)))
-    says-step z = more-costs (omega arith) (omega arith) (says-costs z)
+    pub says-step : ((id : ℕ → ℕ) (l : List Event) → kept (wantsIn tab) (eventOf id tag a b c d x ∷ l) ≡ eventOf id tag a b c d x ∷ kept (wantsIn tab) l) → ((id : ℕ → ℕ) → Uncounted (eventOf id tag a b c d x)) → Steps 1 ws tab m vis found m' vis found' (λ id. onNames (say (eventOf id tag a b c d x)))
+    says-step z y = more-costs (omega arith) (omega arith) (says-costs z y)
 
 -- what is not wanted is not said
-pub unsaid-step : {j k : ℕ} {ws tab m vis found : List ℕ} (e : (ℕ → ℕ) → Event) → ((id : ℕ → ℕ) (l : List Event) → kept (wantsIn tab) (e id ∷ l) ≡ kept (wantsIn tab) l) → Costs j k ws tab m vis found m vis found (λ id. onNames (say (e id)))
-unsaid-step e z =
-    idle-step _ (λ id s h. record { visible = h .visible; cur = h .cur; last = h .last; log = h .log ∙ sym (z id (s .names .log)); kinds = h .kinds; known = h .known })
+pub unsaid-step : {j k : ℕ} {ws tab m vis found : List ℕ} (e : (ℕ → ℕ) → Event) → ((id : ℕ → ℕ) (l : List Event) → kept (wantsIn tab) (e id ∷ l) ≡ kept (wantsIn tab) l) → ((id : ℕ → ℕ) → Uncounted (e id)) → Costs j k ws tab m vis found m vis found (λ id. onNames (say (e id)))
+unsaid-step e z y =
+    idle-step _ (λ id s h. record { visible = h .visible; cur = h .cur; last = h .last; log = h .log ∙ sym (z id (s .names .log)); kinds = h .kinds; known = h .known; counts = uncounted (y id) (h .counts); uses = h .uses })
 
 module _ {m found m' found' : List ℕ} {code a b c d x : ℕ} (size : length m ≡ 64) (p : Tells code a b c d x m found m' found') where
   pub told-numbers : Numbers m m' (atOf m) (topOf m) (curOf m) (lastOf m) (saidOf m) (suc (toldOf m)) (lostOf m) (heldOf m)
@@ -267,7 +297,7 @@ module _ {m found m' found' : List ℕ} {code a b c d x : ℕ} (size : length m 
           sized = q .size;
           seen = refl;
           wrote = p .wrote;
-          fit = λ i k f. refit f q refl (p .wrote) (f .tabled) (f .descends) (f .cur) (omega (arith, f .last)) (omega (arith, f .count)) (omega (arith, f .stack));
+          fit = λ i k f. refit f q refl (p .wrote) (f .tabled) (f .descends) (f .cur) (omega (arith, f .last)) (omega (arith, f .count)) (omega (arith, f .stack)) (omega arith);
           frame = reframe q (omega arith) (omega arith) refl;
           goes = λ id s h.
               record {
@@ -277,22 +307,25 @@ module _ {m found m' found' : List ℕ} {code a b c d x : ℕ} (size : length m 
                 log = rw (q .said, p .events id) (h .log);
                 kinds = rw (q .told, p .findings, h .kinds);
                 known = rw (q .lost) (h .known);
+                counts = recounted q (h .counts);
+                uses = h .uses;
               };
         }
 
     pub tells-step : Steps 1 ws tab m vis found m' vis found' (λ id. onKinds (finding code a b c d x ∷ []))
     tells-step = more-costs (omega arith) (omega arith) tells-costs
 
--- the same where a test holds: an event that is no finding, for which `λ id l. refl` says that
+-- the same where a test holds: an event that is no finding, and that no WITH carries or binds, for which `λ id l. refl` says so twice
 pub says-if : {ws tab m vis found m' found' : List ℕ} {tag a b c d x : ℕ} → length m ≡ 64 → SaysIf (wantsIn tab) tag a b c d x m found m' found' → ((id : ℕ → ℕ) (l : List Event) → keptOne (eventOf id tag a b c d x) l ≡ l) →
+    ((id : ℕ → ℕ) (l : List Event) → writtenOne (eventOf id tag a b c d x) l ≡ eventOf id tag a b c d x ∷ l) → ((id : ℕ → ℕ) → Uncounted (eventOf id tag a b c d x)) →
     Costs 1 0 ws tab m vis found m' vis found' (λ id. onNames (say (eventOf id tag a b c d x)))
-says-if {ws} {tab} {m} {vis} {found} {m'} {found'} {tag} {a} {b} {c} {d} {x} size p z = go (wantsIn tab) refl
+says-if {ws} {tab} {m} {vis} {found} {m'} {found'} {tag} {a} {b} {c} {d} {x} size p z o y = go (wantsIn tab) refl
   where
     go : (t : Bool) → wantsIn tab ≡ t → Costs 1 0 ws tab m vis found m' vis found' (λ id. onNames (say (eventOf id tag a b c d x)))
-    go true q = says-costs size (p .yes q) (λ id l. wanted q (eventOf id tag a b c d x) l)
+    go true q = says-costs size (p .yes q) (λ id l. wanted (eventOf id tag a b c d x) q (o id) l) y
     go false q =
         let e = p .no q in
-        rw (e .0, e .1) (unsaid-step (λ id. eventOf id tag a b c d x) (λ id l. unwanted (eventOf id tag a b c d x) q (z id) l))
+        rw (e .0, e .1) (unsaid-step (λ id. eventOf id tag a b c d x) (λ id l. unwanted (eventOf id tag a b c d x) q (z id) l) y)
 
 pub tells-if : {ws tab m vis found m' found' : List ℕ} {t : Bool} {code a b c d x : ℕ} → length m ≡ 64 → TellsIf t code a b c d x m found m' found' →
     Costs 1 0 ws tab m vis found m' vis found' (λ id. onKinds (cond t (finding code a b c d x ∷ []) []))

@@ -17,24 +17,30 @@ use Rattle.semantics.specs.Resolve.{State, lookup, sayIf, bindName, bindAnew, b
 use Rattle.semantics.specs.Kinds.{misplaced, rowFor}
 use Rattle.fused.specs.Fused.{Both, when, told, step, noting}
 use Rattle.visible.specs.Visible.{seens}
-use Rattle.steps.specs.Memory.{topOf, curOf, slotsIn, warnsIn, wantsIn, worldAt, modeOf}
-use Rattle.steps.specs.Hold.{Costs, Steps, Says, TellsIf, onNames, pathStep, shownTo, nameIn, kindIn, misplacedIn}
+use Rattle.steps.specs.Memory.{slotsIn, warnsIn, wantsIn, worldAt, modeOf}
+use Rattle.steps.specs.Hold.{Costs, Steps, Binds, Says, TellsIf, onNames, pathStep, shownTo, nameIn, kindIn, misplacedIn}
 use Rattle.steps.specs.declared.row.Row.{Row as Row'}
-use Rattle.steps.proofs.Held.{idle-step, then-steps, instead, as-steps, says-costs, always, tells-if}
+use Rattle.steps.proofs.Held.{idle-step, then-steps, instead, as-steps, says-costs, no-count, always, tells-if}
 use Rattle.steps.proofs.Shown.{name-as, misplaced-as}
 
--- E1002 follows the binding
-module _ {ws tab m vis found m1 vis1 found1 : List ℕ} {x v k : ℕ} {t : Bool} (a b : ℕ) (q : t ≡ warnsIn tab && binds (curOf m) x (seens (slotsIn tab) (topOf m) vis))
-    (y : Costs 1 3 ws tab m vis found m1 vis1 found1 (λ id. onNames (bindName x v k))) where
-  pub anew : {m2 found2 : List ℕ} → t ≡ true → length m ≡ 64 → Says 1002 a b (x + 1) 0 0 m1 found1 m2 found2 → Costs 2 3 ws tab m vis found m2 vis1 found2 (λ id. onNames (bindAnew (worldAt ws tab id) a b x v k))
-  unfolding bindAnew sayIf
-  anew z size p =
-      instead _ (then-steps y (says-costs (y .sized ∙ size) p (λ id l. always (wantsIn tab) (finding 1002 a b (x + 1) 0 0) l)))
-      (λ id s h. rw (← (h .cur), ← (h .visible), ← q, z, add-one x))
+and-false : (b : Bool) → b && false ≡ false
+and-false true = refl
+and-false false = refl
 
-  pub anew-not : t ≡ false → Costs 1 3 ws tab m vis found m1 vis1 found1 (λ id. onNames (bindAnew (worldAt ws tab id) a b x v k))
+-- E1002 follows the binding
+module _ {ws tab m vis found m1 vis1 found1 : List ℕ} {x v k : ℕ} {t : Bool} (a b : ℕ) (y : Binds ws tab m vis found m1 vis1 found1 x v k t) where
+  pub anew : {m2 found2 : List ℕ} → t ≡ true → warnsIn tab ≡ true → length m ≡ 64 → Says 1002 a b (x + 1) 0 0 m1 found1 m2 found2 → Costs 2 3 ws tab m vis found m2 vis1 found2 (λ id. onNames (bindAnew (worldAt ws tab id) a b x v k))
   unfolding bindAnew sayIf
-  anew-not z = instead _ y (λ id s h. rw (← (h .cur), ← (h .visible), ← q, z))
+  anew z w size p =
+      instead _ (then-steps (y .costs) (says-costs (y .costs .sized ∙ size) p (λ id l. always (wantsIn tab) (finding 1002 a b (x + 1) 0 0) l) (λ id. no-count (λ n. refl) (λ n. refl))))
+      (λ id s h. rw (← (h .cur), ← (h .visible), ← (y .again), z, w, add-one x))
+
+  pub anew-not : warnsIn tab && t ≡ false → Costs 1 3 ws tab m vis found m1 vis1 found1 (λ id. onNames (bindAnew (worldAt ws tab id) a b x v k))
+  unfolding bindAnew sayIf
+  anew-not z = instead _ (y .costs) (λ id s h. rw (← (h .cur), ← (h .visible), ← (y .again), z))
+
+  pub anew-no : t ≡ false → Costs 1 3 ws tab m vis found m1 vis1 found1 (λ id. onNames (bindAnew (worldAt ws tab id) a b x v k))
+  anew-no z = anew-not (rw z (and-false (warnsIn tab)))
 
 both-same : {n n' : State} {k k' : List Finding} (b : Bool) → n ≡ n' → k ≡ k' → _≡_ {A = Both} (record { names = n; kinds = k; known = b }) (record { names = n'; kinds = k'; known = b })
 both-same b p q = rw (p, q)

@@ -12,15 +12,16 @@ use Rattle.heads.specs.declared.Form.{Form}
 use Rattle.heads.specs.declared.Form.the-variants.{Leaf, Var, Unresolved, Prop, Two, Slice, Many, BinOp, UnaryOp, Case, IsNull, PatternPredicate, ListComprehension, PatternComprehension, ListPredicate, MapProjection}
 use Rattle.expr.specs.Binders.{binder}
 use Rattle.tables.specs.Row.{pathKind, Row, row}
-use Rattle.semantics.specs.Log.{Finding, finding, missing, write, answer}
+use Rattle.semantics.specs.Log.{Finding, finding, missing, write, answer, Event}
 use Rattle.semantics.specs.Log.{found as found-as}
 use Rattle.semantics.specs.World.{World, variable, kindOf}
-use Rattle.semantics.specs.Resolve.{State, say, enter, useVar, bindPath}
+use Rattle.semantics.specs.Resolve.{State, binds, say, enter, bindName, useVar, bindPath}
 use Rattle.semantics.specs.Kinds.{Setting, Pair, both, patternType, typeOf, atType, atRow, misplaced, rowFor}
+use Rattle.theorems.specs.Needs.{made, carriedIn}
 use Rattle.fused.specs.Fused.{Both, Mode, when, told, step, same, noting, nameUse}
 use Rattle.rows.specs.Rows.{idAt, Hung}
 use Rattle.visible.specs.Visible.{seens, Descends, Tabled}
-use Rattle.steps.specs.Memory.{atOf, topOf, curOf, lastOf, saidOf, toldOf, lostOf, heldOf, levelOf, namesIn, slotsIn, rowsIn, bindingsIn, multIn, shiftIn, wantsIn, chainsIn, settingOf, events, findings, eventOf, kept}
+use Rattle.steps.specs.Memory.{atOf, topOf, curOf, lastOf, saidOf, toldOf, lostOf, heldOf, madeOf, takenOf, levelOf, namesIn, slotsIn, useIn, rowsIn, bindingsIn, multIn, shiftIn, wantsIn, chainsIn, settingOf, events, findings, eventOf, kept}
 use Rattle.steps.specs.declared.head.Act.{Act}
 use Rattle.steps.specs.declared.head.Act.the-variants.{Shows, Uses, Names, Opens}
 use Rattle.steps.specs.declared.row.Row.{Row as Row'}
@@ -28,7 +29,7 @@ use Rattle.steps.specs.declared.row.Row.the-variants as row'
 
 -- the tables are in order: the rows stand in the words, with names that `vis` has a place for and kinds up to Value, and hang in chains
 pub record Fine (ws tab : List ℕ) : Type 0 where
-  pub long : 16 + slotsIn tab ≤ length tab
+  pub long : 16 + slotsIn tab * 2 ≤ length tab
   pub short : length ws ≤ 2048
   pub some : 0 < slotsIn tab
   pub places : namesIn tab ≤ slotsIn tab
@@ -46,14 +47,20 @@ pub record Fits (e t : ℕ) (ws tab m vis found : List ℕ) : Type 0 where
   pub cur : curOf m ≤ lastOf m
   pub last : lastOf m + t ≤ atOf m
   pub count : saidOf m + toldOf m + e ≤ atOf m + 1
-  pub stack : slotsIn tab + topOf m * 3 + t ≤ atOf m + 1
+  pub stack : slotsIn tab + topOf m + t ≤ atOf m + 1
+  pub needs : madeOf m + takenOf m + t * 16384 ≤ atOf m * 16384
   pub within : atOf m ≤ length ws
-  pub names : 4 * (length ws + 2) ≤ 3 * length vis
+  pub names : 4 * (length ws + 2) ≤ length vis
   pub room : (length ws + 1) * 6 ≤ length found
 
 -- k words were read that nothing was done for yet
 abbrev pub Fit : ℕ → (ws tab m vis found : List ℕ) → Type 0
 Fit k = Fits k k
+
+-- how many bindings and carried names a log has, counted
+pub record Counted (m : List ℕ) (l : List Event) : Type 0 where
+  pub made : madeOf m ≡ made l
+  pub taken : takenOf m ≡ carriedIn l
 
 -- the words hold the state
 pub record Holds (id : ℕ → ℕ) (tab m vis found : List ℕ) (s : Both) : Type 0 where
@@ -63,6 +70,8 @@ pub record Holds (id : ℕ → ℕ) (tab m vis found : List ℕ) (s : Both) : Ty
   pub log : events id (saidOf m) found ≡ kept (wantsIn tab) (s .names .log)
   pub kinds : findings (toldOf m) found ≡ s .kinds
   pub known : eqb (lostOf m) 0 ≡ s .known
+  pub counts : Counted m (s .names .log)
+  pub uses : (x : ℕ) → x < namesIn tab → useIn tab x ≡ id x
 
 -- what was visible stays below what came, and the levels above `room` stay
 pub record Frame (room : ℕ) (tab m vis m' vis' : List ℕ) : Type 0 where
@@ -71,6 +80,13 @@ pub record Frame (room : ℕ) (tab m vis m' vis' : List ℕ) : Type 0 where
   pub below : seens (slotsIn tab) (topOf m) vis' ≡ seens (slotsIn tab) (topOf m) vis
   pub held : heldOf m' ≡ heldOf m
   pub levels : (d : ℕ) → room < d → levelOf m' d ≡ levelOf m d
+
+-- what a step does to one of the two walks
+abbrev pub onNames : (State → State) → Both → Both
+onNames f s = record { names = f (s .names); kinds = s .kinds; known = s .known }
+
+abbrev pub onKinds : List Finding → Both → Both
+onKinds fs s = record { names = s .names; kinds = told fs (s .kinds); known = s .known }
 
 -- A step of the state, at the same word: e words pay for what it says, t words for what it opens or binds. It may go by the use ids of names,
 -- which the words don't hold.
@@ -86,6 +102,18 @@ pub record Costs (e t : ℕ) (ws tab m vis found m' vis' found' : List ℕ) (F :
 -- a step for which j words pay
 abbrev pub Steps : ℕ → (ws tab m vis found m' vis' found' : List ℕ) → ((ℕ → ℕ) → Both → Both) → Type 0
 Steps j = Costs j j
+
+-- A name was bound in the current scope, for three words; whether that binds it already.
+pub record Binds (ws tab m vis found m' vis' found' : List ℕ) (x v k : ℕ) (r : Bool) : Type 0 where
+  pub again : r ≡ binds (curOf m) x (seens (slotsIn tab) (topOf m) vis)
+  pub costs : Costs 1 3 ws tab m vis found m' vis' found' (λ id. onNames (bindName x v k))
+
+-- What telling whether the current scope binds a name asks.
+pub record Binding (tab m vis : List ℕ) : Type 0 where
+  pub long : 10 ≤ length tab
+  pub size : length m ≡ 64
+  pub tabled : Tabled (slotsIn tab) (topOf m) vis
+  pub descends : Descends (curOf m) (seens (slotsIn tab) (topOf m) vis)
 
 -- What a step asks.
 pub record Ready (j : ℕ) (ws tab m vis found : List ℕ) : Type 0 where
@@ -128,6 +156,16 @@ pub record SaysIf (t : Bool) (tag a b c d e : ℕ) (m found m' found' : List ℕ
   pub yes : t ≡ true → Says tag a b c d e m found m' found'
   pub no : t ≡ false → (m' ≡ m) × (found' ≡ found)
 
+-- a binding was said in the current scope, and counted unless it replaces another
+pub record Makes (wants : Bool) (x v k : ℕ) (m found m' found' : List ℕ) : Type 0 where
+  pub between : List ℕ
+  pub says : SaysIf wants 2 (curOf m) x v k 0 m found between found'
+  pub counts : m' ≡ set between 8 (suc (madeOf between))
+
+pub record SaysBound (wants again : Bool) (x v k : ℕ) (m found m' found' : List ℕ) : Type 0 where
+  pub yes : again ≡ true → SaysIf wants 3 (curOf m) x v k 0 m found m' found'
+  pub no : again ≡ false → Makes wants x v k m found m' found'
+
 pub record TellsIf (t : Bool) (code a b c d e : ℕ) (m found m' found' : List ℕ) : Type 0 where
   pub yes : t ≡ true → Tells code a b c d e m found m' found'
   pub no : t ≡ false → (m' ≡ m) × (found' ≡ found)
@@ -159,13 +197,6 @@ InRange slots row'.No = Unit {0}
 pub record shownTo (slots : ℕ) (o : Option Row) (r : Row') : Type 0 where
   pub same : r ≡ shown o
   pub range : InRange slots r
-
--- what a step does to one of the two walks
-abbrev pub onNames : (State → State) → Both → Both
-onNames f s = record { names = f (s .names); kinds = s .kinds; known = s .known }
-
-abbrev pub onKinds : List Finding → Both → Both
-onKinds fs s = record { names = s .names; kinds = told fs (s .kinds); known = s .known }
 
 -- a row with the name x and the kind k, in a setting
 abbrev pub AtRow : (ws tab m vis found m' found' : List ℕ) → (set x k : ℕ) → Type 0

@@ -8,17 +8,18 @@ use lib.Dec.{eqb, ltb}
 use lib.ListN.{length, getD, drop}
 use Rattle.heads.specs.Got.{look}
 use Rattle.heads.specs.Head.{Tables}
-use Rattle.scope.specs.Graph.{scope, carried}
+use Rattle.scope.specs.Graph.{scope}
 use Rattle.scope.specs.Flat.{parentOf}
 use Rattle.sheet.specs.Read.{anyBinder}
 use Rattle.semantics.specs.Log.{e5010, e5011, Finding, finding, Answer, found, missing, bound, write, Event, open', bind, carry, answer, find}
 use Rattle.semantics.specs.World.{World}
 use Rattle.semantics.specs.Kinds.{Setting, general, arithmetic, property, boolean, listed}
+use Rattle.theorems.specs.Woven.{written}
 use Rattle.fused.specs.Fused.{Mode}
 use Rattle.rows.specs.Rows.{idAt, seek, rowTold}
 
 -- m: the next word, how many names are visible, the current scope, the last scope, how many events and how many findings there are, whether
--- a binder had no row, how many pairs a WITH holds; then a word for each open level
+-- a binder had no row, how many pairs a WITH holds, how many bindings were made and how many names were carried; then a word for each open level
 abbrev pub atOf : List ℕ → ℕ
 atOf m = getD m 0 0
 
@@ -43,12 +44,18 @@ lostOf m = getD m 6 0
 abbrev pub heldOf : List ℕ → ℕ
 heldOf m = getD m 7 0
 
+abbrev pub madeOf : List ℕ → ℕ
+madeOf m = getD m 8 0
+
+abbrev pub takenOf : List ℕ → ℕ
+takenOf m = getD m 9 0
+
 abbrev pub levelOf : List ℕ → ℕ → ℕ
-levelOf m d = getD m (8 + d) 0
+levelOf m d = getD m (10 + d) 0
 
 -- tab: how many names there are, for how many `vis` has a place, the index + 1 of `*` and of `id` or 0, the warning choice, the
 -- first word and the number of the bindings, the multiplier and the shift of their chains, and whether every event is wanted or findings
--- alone; from 16 on a mark for each place of a name, 1 where the name is no use; then the chains
+-- alone; from 16 on a mark for each place of a name, 1 where the name is no use; then the use id of each; then the chains
 abbrev pub namesIn : List ℕ → ℕ
 namesIn tab = getD tab 0 0
 
@@ -82,13 +89,16 @@ wantsIn tab = eqb (getD tab 9 0) 1
 abbrev pub hushedIn : List ℕ → ℕ → Bool
 hushedIn tab x = ltb x (slotsIn tab) && eqb (getD tab (16 + x) 0) 1
 
+abbrev pub useIn : List ℕ → ℕ → ℕ
+useIn tab x = getD tab (16 + slotsIn tab + x) 0
+
 abbrev pub chainsIn : List ℕ → List ℕ
-chainsIn tab = drop (16 + slotsIn tab) tab
+chainsIn tab = drop (16 + slotsIn tab * 2) tab
 
 abbrev pub tablesIn : List ℕ → Tables
 tablesIn tab = anyBinder (namesIn tab)
 
--- what the walks know, where the use ids of names are whatever `id` gives: only who reads the events needs them
+-- what the walks know, where `id` gives the use ids of names
 abbrev pub worldAt : List ℕ → List ℕ → (ℕ → ℕ) → World
 worldAt ws tab id =
     record {
@@ -115,7 +125,8 @@ laterOf mode = settingOf (mode / 8 % 8)
 abbrev pub modeOf : ℕ → Mode
 modeOf mode = record { resolves = eqb (mode / 64 % 2) 1; checks = eqb (mode / 128 % 2) 1 }
 
--- An event by its six words: 1 a scope, 2 a binding, 3 a carried name, 4 a use of a variable, 5 a use of a name, and else a finding.
+-- An event by its six words: 1 a scope, 2 a binding, 3 one that replaces another, 4 a use of a variable, 5 a use of a name, and else a finding.
+-- What a WITH carries and binds is not among them.
 abbrev pub answered : ℕ → ℕ → ℕ → Answer
 answered flag v k = cond (eqb flag 0) missing (found v k 0)
 
@@ -123,8 +134,8 @@ abbrev pub eventOf : (ℕ → ℕ) → (tag a b c d e : ℕ) → Event
 eventOf id tag a b c d e =
     look tag
     ((1, open' (scope a (parentOf b) c d))
-    ∷ (2, bind (bound a b c d))
-    ∷ (3, carry (carried a b c))
+    ∷ (2, bind false false (bound a b c d))
+    ∷ (3, bind false true (bound a b c d))
     ∷ (4, answer (write a (found a b 0)))
     ∷ (5, answer (write (id a) (answered b c d)))
     ∷ [])
@@ -145,16 +156,16 @@ unfoldable pub findings : ℕ → List ℕ → List Finding
 findings zero l = []
 findings (suc n) l = findingAt l (length l - suc n * 6) ∷ findings n l
 
--- what is written of a log: all of it, or its findings
+-- what is written of a log: all but what its WITHs carry and bind, or its findings
 abbrev pub keptOne : Event → List Event → List Event
 keptOne (open' s) l = l
-keptOne (bind b) l = l
+keptOne (bind o g b) l = l
 keptOne (carry c) l = l
 keptOne (answer a) l = l
 keptOne (find f) l = find f ∷ l
 
 unfoldable pub kept : Bool → List Event → List Event
-kept true l = l
+kept true l = written l
 kept false [] = []
 kept false (e ∷ l) = keptOne e (kept false l)
 

@@ -3,6 +3,7 @@ use crate::CHECKS;
 use crate::CUR;
 use crate::LAST;
 use crate::LOST;
+use crate::MADE;
 use crate::RESOLVES;
 use crate::Row;
 use crate::SLOTS;
@@ -19,7 +20,6 @@ use visible::bind;
 use visible::cut;
 use visible::find;
 ghost use mathlib.Core.Path.{_≡_};
-ghost use mathlib.Core.Bool.{Bool, _&&_};
 ghost use mathlib.Core.List.{List, [], _∷_};
 ghost use Prim.Native.Nat.{ℕ, suc, _+_, _≤_, _<_};
 ghost use lib.ListN.{length, set};
@@ -28,8 +28,8 @@ ghost use Rattle.heads.specs.declared.Maybe.the-variants as maybe;
 ghost use Rattle.semantics.specs.Resolve.{lookup, enter, bindName, bindAnew, bindNew, binds};
 ghost use Rattle.fused.specs.Fused.{noting, elemStep, when};
 ghost use Rattle.visible.specs.Visible.{seens, Descends, Tabled};
-ghost use Rattle.steps.specs.Memory.{topOf, curOf, slotsIn, warnsIn, worldAt, modeOf};
-ghost use Rattle.steps.specs.Hold.{Ready, Roomy, Costs, Steps, TellsIf, Left, onNames, pathStep, shownTo, nameIn, kindIn, misplacedIn};
+ghost use Rattle.steps.specs.Memory.{topOf, curOf, madeOf, slotsIn, wantsIn, worldAt, modeOf};
+ghost use Rattle.steps.specs.Hold.{Binding, Ready, Roomy, Costs, Steps, Binds, SaysBound, TellsIf, Left, onNames, pathStep, shownTo, nameIn, kindIn, misplacedIn};
 
 // A scope of the kind under the current one, which it becomes.
 pub fn enter(
@@ -52,7 +52,7 @@ pub fn enter(
     m[CUR] = t;
 }
 
-// A name is bound in the current scope.
+// A name is bound in the current scope; whether that binds it already.
 pub fn bind_name(
     s: &[u8],
     tab: &[u32],
@@ -62,28 +62,40 @@ pub fn bind_name(
     x: u32,
     v: u32,
     kind: u32,
-)
+) -> bool
     requires { ⌜ (x < slotsIn (now tab)) × Ready 3 (words (now s)) (now tab) (now m) (now vis) (now found) ⌝ }
-    ensures { λ r. ⌜ Costs 1 3 (words (now (s .entry))) (now (tab .entry)) (now (m .entry)) (now (vis .entry)) (now (found .entry)) (now (m .exit)) (now (vis .exit)) (now (found .exit)) (λ id. onNames (bindName x v kind)) ⌝ }
+    ensures { λ r. ⌜ Binds (words (now (s .entry))) (now (tab .entry)) (now (m .entry)) (now (vis .entry)) (now (found .entry)) (now (m .exit)) (now (vis .exit)) (now (found .exit)) x v kind r ⌝ }
 {
-    let scope = m[CUR];
-    say_wanted(tab, m, found, 2, scope, x, v, kind);
+    let again = is_again(tab, m, vis, x);
+    say_bound(tab, m, found, again, x, v, kind);
     let t = bind(vis, tab[SLOTS], m[TOP], x, v, m[CUR]);
     m[TOP] = t;
+    again
 }
 
-// Whether warnings are on and the current scope binds x already.
-fn is_again(tab: &[u32], m: &[u32], vis: &[u32], x: u32) -> bool
-    requires { ⌜ (10 ≤ length (now tab)) × ((length (now m) ≡ 64) × (Tabled (slotsIn (now tab)) (topOf (now m)) (now vis) × Descends (curOf (now m)) (seens (slotsIn (now tab)) (topOf (now m)) (now vis)))) ⌝ }
-    ensures { λ r. ⌜ r ≡ warnsIn (now (tab .entry)) && binds (curOf (now (m .entry))) x (seens (slotsIn (now (tab .entry))) (topOf (now (m .entry))) (now (vis .entry))) ⌝ }
+// Whether the current scope binds x already.
+pub fn is_again(tab: &[u32], m: &[u32], vis: &[u32], x: u32) -> bool
+    requires { ⌜ Binding (now tab) (now m) (now vis) ⌝ }
+    ensures { λ r. ⌜ r ≡ binds (curOf (now (m .entry))) x (seens (slotsIn (now (tab .entry))) (topOf (now (m .entry))) (now (vis .entry))) ⌝ }
 {
-    if tab[WARNS] == 1 {
-        match find(vis, tab[SLOTS], m[TOP], x) {
-            Found::Is(_, scope) => scope == m[CUR],
-            Found::No => false,
-        }
+    match find(vis, tab[SLOTS], m[TOP], x) {
+        Found::Is(_, scope) => scope == m[CUR],
+        Found::No => false,
+    }
+}
+
+// A binding in the current scope is said, and counted unless it replaces another.
+fn say_bound(tab: &[u32], m: &mut [u32], found: &mut [u32], again: bool, x: u32, v: u32, kind: u32)
+    requires { ⌜ (10 ≤ length (now tab)) × ((madeOf (now m) < 4294967295) × Roomy (now m) (now found)) ⌝ }
+    ensures { λ r. ⌜ SaysBound (wantsIn (now (tab .entry))) again x v kind (now (m .entry)) (now (found .entry)) (now (m .exit)) (now (found .exit)) ⌝ }
+{
+    let scope = m[CUR];
+    if again {
+        say_wanted(tab, m, found, 3, scope, x, v, kind);
     } else {
-        false
+        say_wanted(tab, m, found, 2, scope, x, v, kind);
+        let n = m[MADE];
+        m[MADE] = n + 1;
     }
 }
 
@@ -103,10 +115,11 @@ pub fn bind_anew(
     requires { ⌜ (x < slotsIn (now tab)) × Ready 3 (words (now s)) (now tab) (now m) (now vis) (now found) ⌝ }
     ensures { λ r. ⌜ Costs 2 3 (words (now (s .entry))) (now (tab .entry)) (now (m .entry)) (now (vis .entry)) (now (found .entry)) (now (m .exit)) (now (vis .exit)) (now (found .exit)) (λ id. onNames (bindAnew (worldAt (words (now (s .entry))) (now (tab .entry)) id) start end x v kind)) ⌝ }
 {
-    let again = is_again(tab, m, vis, x);
-    bind_name(s, tab, m, vis, found, x, v, kind);
+    let again = bind_name(s, tab, m, vis, found, x, v, kind);
     if again {
-        say(m, found, 1002, start, end, x + 1, 0, 0);
+        if tab[WARNS] == 1 {
+            say(m, found, 1002, start, end, x + 1, 0, 0);
+        }
     }
 }
 

@@ -11,6 +11,7 @@ pub use bound::bind_elem;
 pub use bound::bind_name;
 pub use bound::bind_path;
 pub use bound::enter;
+pub use bound::is_again;
 pub use bound::leave;
 pub use bound::note;
 pub use head::begin;
@@ -44,7 +45,11 @@ pub const LOST: usize = 6;
 
 pub const HELD: usize = 7;
 
-pub const LEVELS: usize = 8;
+pub const MADE: usize = 8;
+
+pub const TAKEN: usize = 9;
+
+pub const LEVELS: usize = 10;
 
 // and in tab.
 pub const NAMES: usize = 0;
@@ -67,7 +72,7 @@ pub const SHIFT: usize = 8;
 
 pub const WANTS: usize = 9;
 
-// From here on a mark for each name's place, then the chains.
+// From here on a mark for each name's place, then the use id of each, then the chains.
 pub const MARKS: usize = 16;
 
 // What a mode holds besides the settings.

@@ -25,7 +25,7 @@ pub fn row_of(s: &[u8], tab: &[u32], v: u32) -> Row
     ensures { λ r. ⌜ r ≡ shown (worldAt (words (now (s .entry))) (now (tab .entry)) (λ x. x) .row v) ⌝ }
 {
     let rows = tab[ROWS] as usize;
-    let chains = MARKS + tab[SLOTS] as usize;
+    let chains = MARKS + tab[SLOTS] as usize * 2;
     let i = find_row(
         s,
         &tab[chains..],

@@ -45,7 +45,7 @@ scopes-blank l = pick-map scopeOf blank blankScope each l
   where
     each : (e : Event) → scopeOf (blank e) ≡ map blankScope (scopeOf e)
     each (open' s) = refl
-    each (bind b) = refl
+    each (bind o g b) = refl
     each (carry c) = refl
     each (answer a) = refl
     each (find f) = refl
@@ -56,7 +56,7 @@ scopes-number f l = pick-map scopeOf (number f) (numberScope f) each l
   where
     each : (e : Event) → scopeOf (number f e) ≡ map (numberScope f) (scopeOf e)
     each (open' s) = refl
-    each (bind b) = refl
+    each (bind o g b) = refl
     each (carry c) = refl
     each (answer a) = refl
     each (find f) = refl
@@ -65,7 +65,7 @@ scopes-number f l = pick-map scopeOf (number f) (numberScope f) each l
 binds-blank : (e : Event) → bindOf (blank e) ≡ bindOf e
 unfolding bindOf blank
 binds-blank (open' s) = refl
-binds-blank (bind b) = refl
+binds-blank (bind o g b) = refl
 binds-blank (carry c) = refl
 binds-blank (answer a) = refl
 binds-blank (find x) = refl
@@ -73,7 +73,7 @@ binds-blank (find x) = refl
 answers-blank : (e : Event) → answerOf (blank e) ≡ answerOf e
 unfolding answerOf blank
 answers-blank (open' s) = refl
-answers-blank (bind b) = refl
+answers-blank (bind o g b) = refl
 answers-blank (carry c) = refl
 answers-blank (answer a) = refl
 answers-blank (find x) = refl
@@ -81,7 +81,7 @@ answers-blank (find x) = refl
 finds-blank : (e : Event) → findOf (blank e) ≡ map blankFinding (findOf e)
 unfolding findOf blank
 finds-blank (open' s) = refl
-finds-blank (bind b) = refl
+finds-blank (bind o g b) = refl
 finds-blank (carry c) = refl
 finds-blank (answer a) = refl
 finds-blank (find x) = refl
@@ -89,7 +89,7 @@ finds-blank (find x) = refl
 binds-number : (f : ℕ → ℕ) (e : Event) → bindOf (number f e) ≡ map (numberBound f) (bindOf e)
 unfolding bindOf number
 binds-number f (open' s) = refl
-binds-number f (bind b) = refl
+binds-number f (bind o g b) = refl
 binds-number f (carry c) = refl
 binds-number f (answer a) = refl
 binds-number f (find x) = refl
@@ -97,7 +97,7 @@ binds-number f (find x) = refl
 answers-number : (f : ℕ → ℕ) (e : Event) → answerOf (number f e) ≡ answerOf e
 unfolding answerOf number
 answers-number f (open' s) = refl
-answers-number f (bind b) = refl
+answers-number f (bind o g b) = refl
 answers-number f (carry c) = refl
 answers-number f (answer a) = refl
 answers-number f (find x) = refl
@@ -105,7 +105,7 @@ answers-number f (find x) = refl
 finds-number : (f : ℕ → ℕ) (e : Event) → findOf (number f e) ≡ findOf e
 unfolding findOf number
 finds-number f (open' s) = refl
-finds-number f (bind b) = refl
+finds-number f (bind o g b) = refl
 finds-number f (carry c) = refl
 finds-number f (answer a) = refl
 finds-number f (find x) = refl

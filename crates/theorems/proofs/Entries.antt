@@ -101,7 +101,7 @@ pub inside-binds : {lo hi : ℕ} {l : List Event} → Within lo hi l → Inside 
 unfolding logs inside
 inside-binds nil = none″
 inside-binds (cons {e = open' s} h p) = inside-binds p
-inside-binds (cons {e = bind (bound s x v k)} h p) = more″ (h .0) (h .1) (inside-binds p)
+inside-binds (cons {e = bind o g (bound s x v k)} h p) = more″ (h .0) (h .1) (inside-binds p)
 inside-binds (cons {e = carry (carried b x v)} h p) = inside-binds p
 inside-binds (cons {e = answer a} h p) = inside-binds p
 inside-binds (cons {e = find f} h p) = inside-binds p
@@ -111,7 +111,7 @@ unfolding puts
 puts-ranged none″ q = q
 puts-ranged (more″ {s = s} {x = x} {v = v} {k = k} a b p) q = puts-ranged p (put-ranged s x v k a b q)
 
-puts-append : (xs ys : List Bound) (es : List Entry) → puts (xs ++ ys) es ≡ puts ys (puts xs es)
+pub puts-append : (xs ys : List Bound) (es : List Entry) → puts (xs ++ ys) es ≡ puts ys (puts xs es)
 unfolding puts
 puts-append [] ys es = refl
 puts-append (x ∷ xs) ys es = puts-append xs ys (put x es)

@@ -16,7 +16,7 @@ use Rattle.expr.specs.Tree.{Exprs, Steps, end, part, elem}
 use Rattle.tables.specs.Row.{pathKind}
 use Rattle.semantics.specs.Log.{Finding, bound, Event, open', bind, find, bindsIn, opened, logs}
 use Rattle.semantics.specs.World.{World, variable, nameOf}
-use Rattle.semantics.specs.Resolve.{Seen, seen, State, lookup, sayIf, enter, bindName, bindAnew, bindNew, bindPath, bindElem, resolves, bindPattern, log}
+use Rattle.semantics.specs.Resolve.{Seen, seen, State, lookup, binds, sayIf, enter, bindName, bindAnew, bindNew, bindPath, bindElem, resolves, bindPattern, log}
 use Rattle.theorems.specs.Site.{silent}
 use Rattle.theorems.specs.Agree.{seenAs, look, orParent}
 use Rattle.theorems.specs.Agree
@@ -83,7 +83,8 @@ quiet-find n x d false f s = refl
 one-bind : (n : ℕ) (x : ℕ) (d : Option ℕ) (y : ℕ) (v k : ℕ) (s : State)
     → bindsOf n x (bindName y v k s .log) d ≡ cond (eqb (s .cur) n && eqb y x) (some v) (bindsOf n x (s .log) d)
 one-bind n x d y v k s =
-    ap (λ l. newest n x (bindsIn l) d) (reverse-cons (bind (bound (s .cur) y v k)) (s .log)) ∙ rw (binds-append (reverse (s .log)) (bind (bound (s .cur) y v k) ∷ []), newest-append) (unfold logs newest in refl)
+    let g = binds (s .cur) y (s .visible) in
+    ap (λ l. newest n x (bindsIn l) d) (reverse-cons (bind false g (bound (s .cur) y v k)) (s .log)) ∙ rw (binds-append (reverse (s .log)) (bind false g (bound (s .cur) y v k) ∷ []), newest-append) (unfold logs newest in refl)
 
 -- A pattern binds in its own scope and above.
 record Clear (n : ℕ) (s t : State) : Type 0 where

@@ -5,7 +5,7 @@
 use Prim.Native.Nat.{ℕ}
 use native.Mathlib.Omega.{arith}
 use mathlib.Core.Path.{_≡_, refl}
-use mathlib.Core.Bool.{true}
+use mathlib.Core.Bool.{true, false}
 use mathlib.Core.List.{[], _∷_, map}
 use mathlib.Core.Option.{none, some}
 use Rattle.words.specs.Fnv.{useId, fnv1Of, fnvFrom, fnvStep}
@@ -49,7 +49,7 @@ agreeing-keys = record { stands₁ = refl; stands₂ = refl; sort = refl; names 
 pub left-out : (keysLog true (statement nodeB) (site nodeB)
     ≡ open' (scope 9 (some 4) 3 4) ∷ answer (write 0xFAF3A282 (found 2 1 0)) ∷ answer (write 0xFAF3A282 (found 2 1 0)) ∷ [])
     × (keysLog true (statement nodeA) (site nodeA)
-    ≡ open' (scope 9 (some 4) 3 4) ∷ bind (bound 5 1 2 1) ∷ answer (write 0xFAF3A282 (found 2 1 0)) ∷ answer (write 0xFAF3A282 missing) ∷ find (finding 1001 0 0 2 0 0) ∷ [])
+    ≡ open' (scope 9 (some 4) 3 4) ∷ bind false false (bound 5 1 2 1) ∷ answer (write 0xFAF3A282 (found 2 1 0)) ∷ answer (write 0xFAF3A282 missing) ∷ find (finding 1001 0 0 2 0 0) ∷ [])
 unfolding small nodeA nodeB nameB logs walk sites useId fnv1Of fnvFrom fnvStep
 left-out = (refl, refl)
 

@@ -15,6 +15,7 @@ pub mod Agreeing
 pub mod Keyed
 pub mod Codes
 pub mod Uses
+pub mod Woven
 pub mod Sizes
 pub mod Looks
 pub mod Shows
@@ -23,3 +24,5 @@ pub mod Inners
 pub mod Mets
 pub mod Agrees
 pub mod Forgets
+pub mod Needs
+pub mod Alike

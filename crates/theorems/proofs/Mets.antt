@@ -17,7 +17,7 @@ use Rattle.tables.specs.Row.{valueKind, pathKind, Row, row}
 use Rattle.sheet.specs.Statement.{Statement}
 use Rattle.semantics.specs.Log.{Finding, Event, open', bind, carry, answer, find, opened}
 use Rattle.semantics.specs.World.{World, hush, variable, opens, yieldName, nameOf, kindOf, worldOf}
-use Rattle.semantics.specs.Resolve.{Seen, Pair, pair, State, lookup, say, sayIf, enter, bindName, leave, standing, useVar, useName, visit, bindAnew, bindNew, bindPath, bindElem, resolve, resolves, bindPattern, carriedBy, carryAll, bindAll, barrier, fresh, yields, aliases, sortBy, clause, clauses, arms, start, run, log}
+use Rattle.semantics.specs.Resolve.{Seen, Pair, pair, State, lookup, say, sayIf, enter, bindName, bindOver, leave, standing, useVar, useName, visit, bindAnew, bindNew, bindPath, bindElem, resolve, resolves, bindPattern, carriedBy, carryAll, bindAll, barrier, fresh, yields, aliases, sortBy, clause, clauses, arms, start, run, log}
 use Rattle.semantics.specs.Lists.{scopes, bindings, carriedList}
 use Rattle.theorems.specs.Site.{Cut, whole, inHead, inArm, silent, entry, before}
 use Rattle.theorems.specs.Agree.{seenAs, look, orParent, openedAfter, inLists}
@@ -67,7 +67,7 @@ module _ (warns : Bool) (st : Statement) where
   Here : Event → List Event → Type 0
   Here (open' (scope k none a b)) l = Unit {0}
   Here (open' (scope k (some p) a b)) l = eqb k comprehensionScope ≡ true → Opened l p a b
-  Here (bind b) l = Unit {0}
+  Here (bind o g b) l = Unit {0}
   Here (carry c) l = Unit {0}
   Here (answer a) l = Unit {0}
   Here (find f) l = Unit {0}
@@ -103,13 +103,13 @@ module _ (warns : Bool) (st : Statement) where
     visit-M true x o s h = h
     visit-M false x o s h = name-M x o s h
 
-    bind-M : (x v k : ℕ) (s : State) → Met (s .log) → Met (bindName x v k s .log)
+    bind-M : (over : Bool) (x v k : ℕ) (s : State) → Met (s .log) → Met (bindOver over x v k s .log)
     unfolding Met Here
-    bind-M x v k s h = (tt, h)
+    bind-M over x v k s h = (tt, h)
 
     anew-M : (a b x v k : ℕ) (s : State) → Met (s .log) → Met (bindAnew w a b x v k s .log)
     unfolding bindAnew
-    anew-M a b x v k s h = if-M _ _ (bindName x v k s) (bind-M x v k s h)
+    anew-M a b x v k s h = if-M _ _ (bindName x v k s) (bind-M false x v k s h)
 
     path-M : (o : Option ℕ) (s : State) → Met (s .log) → Met (bindPath w o s .log)
     unfolding bindPath
@@ -118,7 +118,7 @@ module _ (warns : Bool) (st : Statement) where
 
     new-M : (o : Option ℕ) (x v k : ℕ) (s : State) → Met (s .log) → Met (bindNew w o x v k s .log)
     unfolding bindNew
-    new-M none x v k s h = bind-M x v k s h
+    new-M none x v k s h = bind-M false x v k s h
     new-M (some u) x v k s h = h
 
     elem-M : (k : ℕ) (o : Option ℕ) (s : State) → Met (s .log) → Met (bindElem w k o s .log)
@@ -134,7 +134,7 @@ module _ (warns : Bool) (st : Statement) where
     all-M : (ps : List Pair) (s : State) → Met (s .log) → Met (bindAll w ps s .log)
     unfolding bindAll
     all-M [] s h = h
-    all-M (pair x v ∷ ps) s h = all-M ps (bindName x v (kindOf w v) s) (bind-M x v (kindOf w v) s h)
+    all-M (pair x v ∷ ps) s h = all-M ps (bindOver true x v (kindOf w v) s) (bind-M true x v (kindOf w v) s h)
 
     yields-M : (a b : ℕ) (ys : List Yield) (s : State) → Met (s .log) → Met (yields w a b ys s .log)
     unfolding yields
@@ -242,7 +242,7 @@ module _ (warns : Bool) (st : Statement) where
       let e0 : Ends all [] (resolves v (keysOf ks) r) = record { pre = e .pre; clear = e .clear } in
       inner-Es k (keysOf ks) [] {s = r} tt hr e0
       (inner-Es plain (exprs ps done) [] {s = t} tt ht (ends-Es all v (keysOf ks) r (hr .fine) e0) (enter-M returnScope a b s refl m))
-  inner-C (unwind a b v x) rest {s} sites h e m = bind-M W (nameOf W v) v valueKind (enter unwindScope a b s) (enter-M unwindScope a b s refl m)
+  inner-C (unwind a b v x) rest {s} sites h e m = bind-M W false (nameOf W v) v valueKind (enter unwindScope a b s) (enter-M unwindScope a b s refl m)
   inner-C (call a b es ys) rest {s} sites h e m = yields-M W a b ys (enter callScope a b s) (enter-M callScope a b s refl m)
 
   ends-Cs : (cs : List Clause) (s : State) → Ends all [] (clauses W cs s) → Ends all [] s

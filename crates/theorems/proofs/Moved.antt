@@ -5,7 +5,7 @@
 -- sort keys without spans have the expressions without spans.
 use Prim.Native.Nat.{ℕ, zero, suc, _+_}
 use native.Mathlib.Omega.{arith}
-use mathlib.Core.Path.{_≡_, refl, sym, _∙_, ap, ap₂}
+use mathlib.Core.Path.{_≡_, refl, sym, _∙_, ap, ap₂, subst}
 use mathlib.Core.Bool.{Bool, true, false, cond, not, _&&_, _||_}
 use mathlib.Core.List.{List, [], _∷_, _++_, map, map-append}
 use mathlib.Core.Option.{Option, none, some}
@@ -18,14 +18,14 @@ use Rattle.expr.specs.Erase.{eraseE, erases, eraseS}
 use Rattle.clauses.specs.Erase.{eraseProjection, eraseKeys, eraseC, eraseA}
 use Rattle.semantics.specs.Log.{e1002, finding, Bound, bound, Event, open', bind, carry, answer, find}
 use Rattle.semantics.specs.World.{World, hush, variable, opens, Direct, aVar, aName, other, direct, yieldName, nameOf, kindOf}
-use Rattle.semantics.specs.Resolve.{Seen, seen, Pair, pair, State, lookup, binds, say, sayIf, enter, bindName, leave, standing, useVar, useName, visit, bindAnew, bindNew, bindPath, bindElem, resolve, resolves, bindPattern, carries, carriedBy, carryAll, bindAll, barrier, fresh, yields, aliasIn, aliases, sortBy, clause, clauses, arms}
+use Rattle.semantics.specs.Resolve.{Seen, seen, Pair, pair, State, lookup, binds, say, sayIf, enter, bindName, bindOver, leave, standing, useVar, useName, visit, bindAnew, bindNew, bindPath, bindElem, resolve, resolves, bindPattern, without, once, carries, projected, anyStar, starred, carriedBy, carryAll, bindAll, barrier, fresh, yields, aliasIn, aliases, sortBy, clause, clauses, arms}
 use Rattle.theorems.specs.Compare.{blankScope, blankFinding, numberScope}
 use Rattle.theorems.proofs.Tests.{bool-ext, eq→eqb}
 
 -- Spans away.
 unfoldable pub blank : Event → Event
 blank (open' s) = open' (blankScope s)
-blank (bind b) = bind b
+blank (bind o g b) = bind o g b
 blank (carry c) = carry c
 blank (answer a) = answer a
 blank (find f) = find (blankFinding f)
@@ -39,7 +39,7 @@ numberCarried f (carried b x v) = carried (f b) x v
 
 unfoldable pub number : (ℕ → ℕ) → Event → Event
 number f (open' s) = open' (numberScope f s)
-number f (bind b) = bind (numberBound f b)
+number f (bind o g b) = bind o g (numberBound f b)
 number f (carry c) = carry (numberCarried f c)
 number f (answer a) = answer a
 number f (find x) = find x
@@ -108,16 +108,30 @@ module _ (w : World) (m : ℕ) where
   carries-up : (a : Option ℕ) (d : Direct) (vis : List Seen) → carries w a d (map (numberSeen (up m)) vis) ≡ carries w a d vis
   unfolding carries
   carries-up (some x) (aVar v) vis = refl
-  carries-up (some x) (aName y) vis = refl
+  carries-up (some x) (aName y) vis = rw (lookup-up y vis)
   carries-up (some x) other vis = refl
   carries-up none (aVar v) vis = refl
   carries-up none (aName x) vis = rw (lookup-up x vis)
   carries-up none other vis = refl
 
+  projected-up : (ps : List Projection) (vis : List Seen) → projected w ps (map (numberSeen (up m)) vis) ≡ projected w (map eraseProjection ps) vis
+  unfolding projected eraseProjection
+  projected-up [] vis = refl
+  projected-up (projection a e ∷ ps) vis = rw (direct-erase e, carries-up a (direct e) vis, projected-up ps vis)
+
+  star-erase : (ps : List Projection) → anyStar w (map eraseProjection ps) ≡ anyStar w ps
+  unfolding anyStar eraseProjection
+  star-erase [] = refl
+  star-erase (projection a e ∷ ps) = rw (direct-erase e, star-erase ps)
+
+  once-up : (vis : List Seen) → once (map (numberSeen (up m)) vis) ≡ once vis
+  unfolding once
+  once-up [] = refl
+  once-up (seen x v p ∷ vis) = ap (λ ps. pair x v ∷ without x ps) (once-up vis)
+
   carried-up : (ps : List Projection) (vis : List Seen) → carriedBy w ps (map (numberSeen (up m)) vis) ≡ carriedBy w (map eraseProjection ps) vis
-  unfolding carriedBy eraseProjection
-  carried-up [] vis = refl
-  carried-up (projection a e ∷ ps) vis = rw (direct-erase e, carries-up a (direct e) vis, carried-up ps vis)
+  unfolding carriedBy starred
+  carried-up ps vis = rw (star-erase ps, once-up vis, projected-up ps vis)
 
   module _ {s c : State} (h : R m s c) where
     found-R : (x : ℕ) → lookup x (s .visible) ≡ lookup x (c .visible)
@@ -137,13 +151,13 @@ module _ (w : World) (m : ℕ) where
     unfolding blank blankScope number numberScope up
     enter-R k a b = record { visible = h .visible; cur = ap suc (h .last); last = omega (arith, h .last); log = ap₂ (λ n l. open' (scope k (some n) 0 0) ∷ l) (h .cur) (h .log) }
 
-    bind-R : (x v k : ℕ) → R m (bindName x v k s) (bindName x v k c)
+    bind-R : (over : Bool) (x v k : ℕ) → R m (bindOver over x v k s) (bindOver over x v k c)
     unfolding blank number numberBound
-    bind-R x v k = record {
+    bind-R over x v k = record {
       visible = ap₂ (λ n l. seen x v n ∷ l) (h .cur) (h .visible);
       cur = h .cur;
       last = h .last;
-      log = ap₂ (λ n l. bind (bound n x v k) ∷ l) (h .cur) (h .log);
+      log = ap₂ _∷_ (ap₂ (λ g n. bind over g (bound n x v k)) (owned-R x) (h .cur)) (h .log);
     }
 
     leave-R : {t d : State} → R m t d → R m (leave s t) (leave c d)
@@ -159,7 +173,7 @@ module _ (w : World) (m : ℕ) where
 
     new-R : (o : Option ℕ) (x v k : ℕ) → R m (bindNew w o x v k s) (bindNew w o x v k c)
     unfolding bindNew
-    new-R none x v k = bind-R x v k
+    new-R none x v k = bind-R false x v k
     new-R (some u) x v k = h
 
   sayIf-R : (b : Bool) (e f : Event) {s c : State} → R m s c → blank e ≡ number (up m) f → R m (sayIf b e s) (sayIf b f c)
@@ -179,7 +193,9 @@ module _ (w : World) (m : ℕ) where
 
   anew-R : (a b x v k : ℕ) {s c : State} → R m s c → R m (bindAnew w a b x v k s) (bindAnew w 0 0 x v k c)
   unfolding bindAnew blank number blankFinding
-  anew-R a b x v k {s} {c} h = rw (owned-R h x) (sayIf-R (w .warns && binds (c .cur) x (c .visible)) (find (finding e1002 a b (suc x) 0 0)) (find (finding e1002 0 0 (suc x) 0 0)) (bind-R h x v k) refl)
+  anew-R a b x v k {s} {c} h =
+      subst (λ (own : Bool). R m (sayIf (w .warns && own) (find (finding e1002 a b (suc x) 0 0)) (bindName x v k s)) (bindAnew w 0 0 x v k c)) (sym (owned-R h x))
+      (sayIf-R (w .warns && binds (c .cur) x (c .visible)) (find (finding e1002 a b (suc x) 0 0)) (find (finding e1002 0 0 (suc x) 0 0)) (bind-R h false x v k) refl)
 
   path-R : (o : Option ℕ) {s c : State} → R m s c → R m (bindPath w o s) (bindPath w o c)
   unfolding bindPath
@@ -219,7 +235,7 @@ module _ (w : World) (m : ℕ) where
   binds-R : (ps : List Pair) {s c : State} → R m s c → R m (bindAll w ps s) (bindAll w ps c)
   unfolding bindAll
   binds-R [] h = h
-  binds-R (pair x v ∷ ps) h = binds-R ps (bind-R h x v (kindOf w v))
+  binds-R (pair x v ∷ ps) h = binds-R ps (bind-R h true x v (kindOf w v))
 
   pub fresh-R : (b : ℕ) (ps : List Pair) {s c : State} → R m s c → R m (fresh w b ps s) (fresh w 0 ps c)
   unfolding fresh
@@ -250,7 +266,7 @@ module _ (w : World) (m : ℕ) where
       (let g = resolves-R w m (exprs ps done) (leave-R w m h (enter-R w m h returnScope a b)) in
       let k = resolves-R (hush (aliases ps) w) m (keysOf ks) g in
       record { visible = h .visible; cur = ap suc (h .last); last = k .last; log = k .log })
-  clause-R (unwind a b v e) h = bind-R w m (enter-R w m h unwindScope a b) (nameOf w v) v valueKind
+  clause-R (unwind a b v e) h = bind-R w m (enter-R w m h unwindScope a b) false (nameOf w v) v valueKind
   clause-R (call a b es ys) h = yields-R w m a b ys (enter-R w m h callScope a b)
 
   pub clauses-R : (ts : List Clause) {s c : State} → R m s c → R m (clauses w ts s) (clauses w (map eraseC ts) c)

@@ -21,7 +21,7 @@ use Rattle.clauses.specs.Tree.{Clause, with', Arm, arm, exprs, keysOf}
 use Rattle.sheet.specs.Statement.{Statement}
 use Rattle.semantics.specs.Log.{Answer, write, answersIn, findsIn, bindsIn, bound, Event, open', bind, carry, answer, find, scopesIn, carriesIn, carryOf, opened, logs}
 use Rattle.semantics.specs.World.{World, kindOf, worldOf}
-use Rattle.semantics.specs.Resolve.{Pair, pair, State, enter, standing, carryAll, bindAll, barrier, fresh, sortBy, clause, clauses, arms, start, run, log}
+use Rattle.semantics.specs.Resolve.{Seen, seen, Pair, pair, State, binds, enter, standing, carryAll, bindAll, barrier, fresh, sortBy, clause, clauses, arms, start, run, log}
 use Rattle.semantics.specs.Lists
 use Rattle.semantics.specs.Lists.{puts, notes, answerFor, pairsAt, scopes, bindings, recorded}
 use Rattle.theorems.proofs.Views.{pick-append, answers-append, opened-reverse}
@@ -40,7 +40,7 @@ pub inside-carries : {lo hi : ℕ} {l : List Event} → Within lo hi l → Carri
 unfolding logs inside
 inside-carries nil = none′
 inside-carries (cons {e = open' s} h p) = inside-carries p
-inside-carries (cons {e = bind (bound s x v k)} h p) = inside-carries p
+inside-carries (cons {e = bind o g (bound s x v k)} h p) = inside-carries p
 inside-carries (cons {e = carry (carried b x v)} h p) = more′ (h .0) (h .1) (inside-carries p)
 inside-carries (cons {e = answer a} h p) = inside-carries p
 inside-carries (cons {e = find f} h p) = inside-carries p
@@ -110,19 +110,20 @@ carry-is w (pair x v ∷ cs) s = carry-is w cs _
 pub carry-log : (w : World) (cs : List Pair) (s : State) → reverse (carryAll w cs s .log) ≡ reverse (s .log) ++ map (carryAt (s .cur)) cs
 carry-log w cs s = ap reverse (carry-is w cs s .0) ∙ reverseAux-reverseAux-nil (map (carryAt (s .cur)) cs) (s .log) ∙ reverseAux-eq (s .log) (map (carryAt (s .cur)) cs)
 
--- The new Root binds what the barrier carries.
-abbrev bindAt : World → ℕ → Pair → Event
-bindAt w n (pair x v) = bind (bound n x v (kindOf w v))
+-- The new Root binds what the barrier carries; vis is visible there.
+unfoldable pub boundAt : World → ℕ → List Pair → List Seen → List Event
+boundAt w n [] vis = []
+boundAt w n (pair x v ∷ cs) vis = bind true (binds n x vis) (bound n x v (kindOf w v)) ∷ boundAt w n cs (seen x v n ∷ vis)
 
-bind-is : (w : World) (cs : List Pair) (s : State) → (bindAll w cs s .log ≡ reverseAux (map (bindAt w (s .cur)) cs) (s .log)) × (bindAll w cs s .last ≡ s .last)
-unfolding bindAll
+bind-is : (w : World) (cs : List Pair) (s : State) → (bindAll w cs s .log ≡ reverseAux (boundAt w (s .cur) cs (s .visible)) (s .log)) × (bindAll w cs s .last ≡ s .last)
+unfolding bindAll boundAt
 bind-is w [] s = (refl, refl)
 bind-is w (pair x v ∷ cs) s = bind-is w cs _
 
-binds-quiet : (w : World) (n : ℕ) (cs : List Pair) → (answersIn (map (bindAt w n) cs) ≡ []) × (findsIn (map (bindAt w n) cs) ≡ []) × (scopesIn (map (bindAt w n) cs) ≡ [])
-unfolding logs
-binds-quiet w n [] = (refl, refl, refl)
-binds-quiet w n (pair x v ∷ cs) = binds-quiet w n cs
+binds-quiet : (w : World) (n : ℕ) (cs : List Pair) (vis : List Seen) → (answersIn (boundAt w n cs vis) ≡ []) × (findsIn (boundAt w n cs vis) ≡ []) × (scopesIn (boundAt w n cs vis) ≡ [])
+unfolding logs boundAt
+binds-quiet w n [] vis = (refl, refl, refl)
+binds-quiet w n (pair x v ∷ cs) vis = binds-quiet w n cs _
 
 -- The barrier is the next scope, and the current one.
 pub root-at : (warns : Bool) (s : Statement) (p : Site) → (atBarrier warns s p .cur ≡ barrierOf warns s p) × (atBarrier warns s p .last ≡ barrierOf warns s p)
@@ -197,17 +198,17 @@ module _ (warns : Bool) (s : Statement) where
   barrier-fine p = barrier-W w 0 0 _ _ (pairs warns s p) (resolved-W p)
 
   -- What the new Root says, and its number.
-  pub root-said : (p : Site) → rootLog warns s p ≡ open' (scope rootScope (some (barrierOf warns s p)) (cutOf p .stop) (cutOf p .stop)) ∷ map (bindAt w (newRoot warns s p)) (pairs warns s p)
+  pub root-said : (p : Site) → rootLog warns s p ≡ open' (scope rootScope (some (barrierOf warns s p)) (cutOf p .stop) (cutOf p .stop)) ∷ boundAt w (newRoot warns s p) (pairs warns s p) []
   unfolding rootLog fresh newRoot
   root-said p =
       let b = atBarrier warns s p in
       let t = enter rootScope (cutOf p .stop) (cutOf p .stop) (standing [] (b .cur) (silent b)) in
-      ap reverse (bind-is w (pairs warns s p) t .0) ∙ reverseAux-reverseAux-nil (map (bindAt w (t .cur)) (pairs warns s p)) (t .log) ∙ rw (root-at warns s p .0, root-at warns s p .1) refl
+      ap reverse (bind-is w (pairs warns s p) t .0) ∙ reverseAux-reverseAux-nil (boundAt w (t .cur) (pairs warns s p) []) (t .log) ∙ rw (root-at warns s p .0, root-at warns s p .1) refl
 
   pub root-quiet : (p : Site) → (answersIn (rootLog warns s p) ≡ []) × (findsIn (rootLog warns s p) ≡ [])
       × (scopesIn (rootLog warns s p) ≡ scope rootScope (some (barrierOf warns s p)) (cutOf p .stop) (cutOf p .stop) ∷ [])
   unfolding logs
-  root-quiet p = let q = binds-quiet w (newRoot warns s p) (pairs warns s p) in rw (root-said p, q .0, q .1, q .2) (refl, refl, refl)
+  root-quiet p = let q = binds-quiet w (newRoot warns s p) (pairs warns s p) [] in rw (root-said p, q .0, q .1, q .2) (refl, refl, refl)
 
   rooted-last : (p : Site) → rooted warns s p .last ≡ newRoot warns s p
   unfolding rooted fresh newRoot

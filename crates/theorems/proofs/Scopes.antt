@@ -74,7 +74,7 @@ opens-log {m} {s} {c} h =
     turned : (l k : List Event) → scopesIn (reverseAux l k) ≡ reverseAux (scopesIn l) (scopesIn k)
     turned [] k = refl
     turned (open' s ∷ l) k = turned l (open' s ∷ k)
-    turned (bind b ∷ l) k = turned l (bind b ∷ k)
+    turned (bind o g b ∷ l) k = turned l (bind o g b ∷ k)
     turned (carry c ∷ l) k = turned l (carry c ∷ k)
     turned (answer a ∷ l) k = turned l (answer a ∷ k)
     turned (find f ∷ l) k = turned l (find f ∷ k)

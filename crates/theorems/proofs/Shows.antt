@@ -21,7 +21,7 @@ use Rattle.scope.specs.Lookup.{boundIn, kindAt, parentAt, passes, carries}
 use Rattle.semantics.specs.Lookup.{Looked, at, answerAt, climb, lookupIn}
 use Rattle.semantics.specs.Lists.{puts, scopes, bindings, carriedList}
 use Rattle.semantics.specs.World.{World, hush, variable, opens, yieldName, nameOf, kindOf, worldOf}
-use Rattle.semantics.specs.Resolve.{Seen, seen, Pair, pair, State, lookup, binds, say, sayIf, enter, bindName, leave, standing, bindAnew, bindNew, bindPath, bindElem, resolves, bindPattern, carriedBy, carryAll, bindAll, barrier, fresh, yields, aliases, sortBy, clause, clauses, arms, start, run, log}
+use Rattle.semantics.specs.Resolve.{Seen, seen, Pair, pair, State, lookup, binds, say, sayIf, enter, bindOver, leave, standing, bindAnew, bindNew, bindPath, bindElem, resolves, bindPattern, carriedBy, carryAll, bindAll, barrier, fresh, yields, aliases, sortBy, clause, clauses, arms, start, run, log}
 use Rattle.theorems.proofs.Views.{opened-append, scopes-append, binds-append, carried-append, opened-reverse}
 use Rattle.theorems.proofs.Adds.{after, resolves-after, clauses-after, arms-after}
 use Rattle.theorems.proofs.Keeps.{Keeps, all-keep}
@@ -45,9 +45,9 @@ just-open : (n : ℕ) (s : Scope) → Within n n (open' s ∷ [])
 unfolding inside
 just-open n s = cons tt nil
 
-just-bind : (s y v k : ℕ) {r : ℕ} → s ≡ suc r → Within r s (bind (bound s y v k) ∷ [])
+just-bind : (o g : Bool) (s y v k : ℕ) {r : ℕ} → s ≡ suc r → Within r s (bind o g (bound s y v k) ∷ [])
 unfolding inside
-just-bind s y v k e = cons {e = bind (bound s y v k)} (omega arith, omega arith) nil
+just-bind o g s y v k e = cons {e = bind o g (bound s y v k)} (omega arith, omega arith) nil
 
 just-carry : (s y v : ℕ) {r : ℕ} → s ≡ suc r → Within r s (carry (carried s y v) ∷ [])
 unfolding inside
@@ -59,15 +59,15 @@ unfolding answerAt
 answer-bind s v o true g p f h e = refl
 answer-bind s v o false g p f h e = answer-same s o g p f h e
 
-look-bind : (l : List Event) (s y v k x : ℕ) → 0 < s → s < opened l → look (l ++ bind (bound s y v k) ∷ []) s x ≡ cond (eqb x y) (at v s) (look l s x)
-look-bind l s y v k x z q =
-    let m = bind (bound s y v k) ∷ [] in
+look-bind : (o g : Bool) (l : List Event) (s y v k x : ℕ) → 0 < s → s < opened l → look (l ++ bind o g (bound s y v k) ∷ []) s x ≡ cond (eqb x y) (at v s) (look l s x)
+look-bind o g l s y v k x z q =
+    let m = bind o g (bound s y v k) ∷ [] in
     let j = one-above s z in
     look-by (l ++ m) s x (omega (arith, opened-append l m))
     ∙ rw (scopes-append l m, binds-append l m, carried-append l m, newest-append)
     (unfold logs newest in
     rw (append-nil (scopesIn l), append-nil (carriesIn l), eqb-same s, eqb-comm y x)
-    (answer-bind s v _ (eqb x y) _ _ _ (λ p. look l p x) (λ p h. look-stays l p x (just-bind s y v k (j .1)) (omega (arith, j .1)) (omega arith))))
+    (answer-bind s v _ (eqb x y) _ _ _ (λ p. look l p x) (λ p h. look-stays l p x (just-bind o g s y v k (j .1)) (omega (arith, j .1)) (omega arith))))
     ∙ ap (cond (eqb x y) (at v s)) (sym (look-by l s x q))
 
 -- A name that a barrier carries changes nothing for the others.
@@ -134,16 +134,16 @@ module _ (w : World) where
       stays (resolves w es (silent s) .log) h (all-keep w es s) (ap (λ (t : State). t .log) (resolves-after w (s .log) es (silent s)))
       (resolves-W w n (suc n) es (silent-W n s refl) .fine .within) (r .later) (r .fine)
 
-  bind-A : {but : List Pair} {beyond : List Seen} {s : State} (x v k : ℕ) → 0 < s .cur → Shows (pair x v ∷ but) beyond s → Shows but beyond (bindName x v k s)
+  bind-A : {but : List Pair} {beyond : List Seen} {s : State} (over : Bool) (x v k : ℕ) → 0 < s .cur → Shows (pair x v ∷ but) beyond s → Shows but beyond (bindOver over x v k s)
   unfolding named seenAs
-  bind-A {but} {beyond} {s} x v k z h = record {
-    fine = bind-W w 0 0 x v k z (h .low) (h .fine) .fine;
+  bind-A {but} {beyond} {s} over x v k z h = record {
+    fine = bind-W w 0 0 over x v k z (h .low) (h .fine) .fine;
     low = h .low;
     reach = seen x v (s .cur) ∷ h .reach;
     splits = ap (_∷_ (seen x v (s .cur))) (h .splits);
     gives = λ y n.
-        ap (λ l. look l (s .cur) y) (reverse-cons (bind (bound (s .cur) x v k)) (s .log))
-        ∙ look-bind (reverse (s .log)) (s .cur) x v k y z (omega (arith, count (h .fine), h .low))
+        ap (λ l. look l (s .cur) y) (reverse-cons (bind over (binds (s .cur) x (s .visible)) (bound (s .cur) x v k)) (s .log))
+        ∙ look-bind over (binds (s .cur) x (s .visible)) (reverse (s .log)) (s .cur) x v k y z (omega (arith, count (h .fine), h .low))
         ∙ go y (eqb y x) refl n (h .gives y);
   }
     where
@@ -163,11 +163,11 @@ module _ (w : World) where
 
   anew-A : (a b x v k : ℕ) {beyond : List Seen} {s : State} → 0 < s .cur → Shows [] beyond s → Shows [] beyond (bindAnew w a b x v k s)
   unfolding bindAnew
-  anew-A a b x v k {s = s} z h = find-A (w .warns && binds (s .cur) x (s .visible)) (finding e1002 a b (suc x) 0 0) (bind-A x v k z (more (pair x v) h))
+  anew-A a b x v k {s = s} z h = find-A (w .warns && binds (s .cur) x (s .visible)) (finding e1002 a b (suc x) 0 0) (bind-A false x v k z (more (pair x v) h))
 
   new-A : (o : Option ℕ) (x v k : ℕ) {beyond : List Seen} {s : State} → 0 < s .cur → Shows [] beyond s → Shows [] beyond (bindNew w o x v k s)
   unfolding bindNew
-  new-A none x v k z h = bind-A x v k z (more (pair x v) h)
+  new-A none x v k z h = bind-A false x v k z (more (pair x v) h)
   new-A (some u) x v k z h = h
 
   pub path-A : (o : Option ℕ) {beyond : List Seen} {s : State} → 0 < s .cur → Shows [] beyond s → Shows [] beyond (bindPath w o s)
@@ -245,7 +245,7 @@ module _ (w : World) where
   bindAll-A : (ps : List Pair) {s : State} → 0 < s .cur → Shows ps [] s → Shows [] [] (bindAll w ps s)
   unfolding bindAll
   bindAll-A [] z h = h
-  bindAll-A (pair x v ∷ ps) z h = bindAll-A ps z (bind-A x v (kindOf w v) z h)
+  bindAll-A (pair x v ∷ ps) z h = bindAll-A ps z (bind-A true x v (kindOf w v) z h)
 
   -- the state in which a RETURN's expressions look from outside its scope
   pub left-A : (k a b : ℕ) {s : State} → Shows [] [] s → Shows [] [] (leave s (enter k a b s))
@@ -285,7 +285,7 @@ module _ (w : World) where
       let v = hush (aliases ps) w in
       subst (λ u. Shows [] [] (standing (s .visible) (suc (s .last)) (resolves v (keysOf ks) u))) (sym e)
       (away-A v (keysOf ks) (s .visible) (s .cur) (away-A w (exprs ps done) (s .visible) (s .cur) (enter-A returnScope a b refl h)))
-  clause-A (unwind a b v e) {s} h = bind-A {s = enter unwindScope a b s} (nameOf w v) v valueKind (omega arith) (more (pair (nameOf w v) v) (enter-A unwindScope a b refl h))
+  clause-A (unwind a b v e) {s} h = bind-A {s = enter unwindScope a b s} false (nameOf w v) v valueKind (omega arith) (more (pair (nameOf w v) v) (enter-A unwindScope a b refl h))
   clause-A (call a b es ys) {s} h = yields-A a b ys {s = enter callScope a b s} (omega arith) (enter-A callScope a b refl h)
 
   pub clauses-A : (ts : List Clause) {s : State} → Shows [] [] s → Shows [] [] (clauses w ts s)

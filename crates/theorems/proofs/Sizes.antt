@@ -1,15 +1,15 @@
--- Both walks together say at most as much as there are words: a word or more pays for each event of the log and for each finding of the
--- kinds walk, and sort keys pay by their own. `few-E`, `few-Es`, `few-S` say it of trees (the two walks may have Worlds of their own);
--- `few-C` of one clause, from any state, so that a log of one clause has room in that clause's words; `few-Cs` of clauses, `few-As` of arms
--- (which get no kind check), `few` of a statement, `few-words` of an accepted sheet, and `fits` of its lists.
-use Prim.Native.Nat.{ℕ, suc, _+_, _-_, _*_, _≤_}
+-- Both walks together say at most as much as there are words, save what WITHs carry and bind: a word or more pays for each other event of the
+-- log and for each finding of the kinds walk, and sort keys pay by their own. `few-E`, `few-Es`, `few-S` say it of trees (the two walks may
+-- have Worlds of their own); `few-C` of one clause, from any state, so that what one clause writes has room in its words; `few-Cs` of
+-- clauses, `few-As` of arms (which get no kind check), `few` of a statement, `few-words` of an accepted sheet, and `fits` of three lists.
+use Prim.Native.Nat.{ℕ, suc, _+_, _-_, _≤_}
 use native.Mathlib.Omega.{arith}
-use mathlib.Core.Path.{_≡_, refl, _∙_, ap}
+use mathlib.Core.Path.{_≡_, refl, ap}
 use mathlib.Core.Bool.{Bool, true, false, cond, not, _&&_}
-use mathlib.Core.List.{List, [], _∷_, _++_, flatMap, reverseAux}
+use mathlib.Core.List.{List, [], _∷_, _++_, flatMap}
 use mathlib.Core.Option.{Option, none, some}
 use lib.Dec.{eqb, leb}
-use lib.ListN.{length, length-append, length-take, length-drop}
+use lib.ListN.{length, length-append, length-reverse, length-take, length-drop}
 use Rattle.words.specs.Words.{words}
 use Rattle.heads.specs.declared.Form.{Form}
 use Rattle.heads.specs.declared.Form.the-variants.{Leaf, Var, Unresolved, Prop, Two, Slice, Many, BinOp, UnaryOp, Case, IsNull, PatternPredicate, ListComprehension, PatternComprehension, ListPredicate, MapProjection}
@@ -25,15 +25,16 @@ use Rattle.sheet.specs.Trailer.{placesOf, section}
 use Rattle.sheet.specs.Statement.{Statement}
 use Rattle.sheet.specs.Read.{accepted, readSheet}
 use Rattle.sheet.proofs.Accepted.{accepted-words}
-use Rattle.scope.specs.Graph.{comprehensionScope, returnScope, withBarrier, callScope, rootScope, carried, Entry, entry}
-use Rattle.semantics.specs.Log.{Bound, bound, Write, write, Event, open', bind, carry, answer, find, scopesIn, bindsIn, carriesIn, answersIn, findsIn, logs}
-use Rattle.semantics.specs.World.{World, hush, variable, opens, other, direct, yieldName, nameOf, kindOf, worldOf}
-use Rattle.semantics.specs.Resolve.{Seen, Pair, pair, State, lookup, ifRow, ifSome, say, sayIf, enter, bindName, leave, standing, useVar, useName, visit, bindAnew, bindNew, bindPath, bindElem, resolve, resolves, bindPattern, carries, carriedBy, carryAll, bindAll, barrier, fresh, yields, aliases, sortBy, clause, clauses, arms, start, run, log}
+use Rattle.scope.specs.Graph.{comprehensionScope, returnScope, withBarrier, callScope, unwindScope, rootScope, scope, carried}
+use Rattle.semantics.specs.Log.{e1001, e1002, finding, found, missing, bound, Write, write, Event, open', bind, carry, answer, find, scopesIn, bindsIn, carriesIn, answersIn, findsIn, logs}
+use Rattle.semantics.specs.World.{World, hush, variable, opens, yieldName, nameOf, kindOf, worldOf}
+use Rattle.semantics.specs.Resolve.{Pair, pair, State, lookup, binds, say, sayIf, enter, bindName, bindOver, leave, standing, useVar, useName, visit, bindAnew, bindNew, bindPath, bindElem, resolve, resolves, bindPattern, carriedBy, carryAll, bindAll, barrier, fresh, yields, aliases, sortBy, clause, clauses, arms, start, run, log}
 use Rattle.semantics.specs.Kinds.{patternType, stringType, intType, noType, Setting, general, arithmetic, property, boolean, listed, both, plain, typeOf, settings, atType, atRow, misplaced, rowFor, kindsE, kindsEs, kindsS, kindsC, kinds}
 use Rattle.semantics.specs.Kinds as Walk
-use Rattle.semantics.specs.Lists.{put, puts, note, notes, lists}
+use Rattle.semantics.specs.Lists.{note, notes, lists}
+use Rattle.theorems.specs.Woven.{written}
 use Rattle.theorems.specs.Fits.{ClauseFits, Fits}
-use Rattle.theorems.proofs.Keeps.{keeps}
+use Rattle.theorems.proofs.Woven.{written-reverse, scopes-written, answers-written, finds-written}
 
 -- One step of a walk: what it says against its own words.
 cond-few : {A : Type 0} (b : Bool) (l m : List A) → length l ≤ 1 → length m ≤ 1 → length (cond b l m) ≤ 1
@@ -81,59 +82,59 @@ unfolding misplaced
 misplaced-few one want a b none = omega arith
 misplaced-few one want a b (some (row i x k c d)) = cond-few (eqb k want) _ _ (omega arith) (omega arith)
 
--- how much was said
+-- how much was said, save what WITHs carry and bind
 abbrev said : State → ℕ
-said s = length (s .log)
+said s = length (written (s .log))
 
 -- where nothing was said: what is not resolved has its kinds findings alone
 abbrev nowhere : State
 nowhere = record { visible = []; cur = 0; last = 0; log = [] }
 
+nothing-said : said nowhere ≡ 0
+unfolding written
+nothing-said = refl
+
+-- one event more, but for those
+one-more : (e : Event) (l : List Event) → length (written (e ∷ l)) ≤ suc (length (written l))
+unfolding written
+one-more (open' s) l = omega arith
+one-more (bind true g b) l = omega arith
+one-more (bind false g b) l = omega arith
+one-more (carry c) l = omega arith
+one-more (answer a) l = omega arith
+one-more (find f) l = omega arith
+
 if-few : (b : Bool) (e : Event) (s : State) → said (sayIf b e s) ≤ suc (said s)
 unfolding sayIf
-if-few true e s = omega arith
+if-few true e s = one-more e (s .log)
 if-few false e s = omega arith
 
+bind-few : (x v k : ℕ) (s : State) → said (bindName x v k s) ≤ suc (said s)
+bind-few x v k s = one-more (bind false (binds (s .cur) x (s .visible)) (bound (s .cur) x v k)) (s .log)
+
+enter-few : (k a b : ℕ) (s : State) → said (enter k a b s) ≤ suc (said s)
+enter-few k a b s = one-more (open' (scope k (some (s .cur)) a b)) (s .log)
+
 module _ (w : World) where
-  var-few : (v : ℕ) (r : Option Row) (s : State) → said (useVar w v r s) + length (atRow general r) + 2 * length (ifRow r v) ≤ 3 + said s
-  unfolding useVar atRow ifRow
-  var-few v none s = omega arith
-  var-few v (some (row i x k a b)) s = omega arith
-
-  var-once : (v : ℕ) (r : Option Row) (s : State) → said (useVar w v r s) ≤ 1 + said s
+  var-few : (v : ℕ) (r : Option Row) (s : State) → said (useVar w v r s) ≤ 1 + said s
   unfolding useVar
-  var-once v none s = omega arith
-  var-once v (some (row i x k a b)) s = omega arith
+  var-few v none s = omega arith
+  var-few v (some (row i x k a b)) s = omega (arith, one-more (answer (write v (found v k 0))) (s .log))
 
-  var-plain : (v : ℕ) (r : Option Row) (s : State) → said (useVar w v r s) + length (atRow general r) ≤ 1 + said s
-  unfolding useVar atRow
-  var-plain v none s = omega arith
-  var-plain v (some (row i x k a b)) s = omega arith
-
-  name-twice : (x : ℕ) (o : Option ℕ) (s : State) → said (useName w x o s) ≤ suc (suc (said s))
+  name-few : (x : ℕ) (o : Option ℕ) (s : State) → said (useName w x o s) ≤ suc (suc (said s))
   unfolding useName
-  name-twice x (some v) s = omega arith
-  name-twice x none s = if-few (not (w .isStar x)) _ _
-
-  name-few : (x : ℕ) (o : Option ℕ) (s : State) → said (useName w x o s) + 2 * length (ifSome o x) ≤ 3 + said s
-  unfolding ifSome
-  name-few x (some v) s = unfold useName in omega arith
-  name-few x none s = omega (arith, name-twice x none s)
-
-  some-few : (x : ℕ) (o : Option ℕ) → length (ifSome o x) ≤ 1
-  unfolding ifSome
-  some-few x none = omega arith
-  some-few x (some v) = omega arith
+  name-few x (some v) s = omega (arith, one-more (answer (write (w .id x) (found v (kindOf w v) 0))) (s .log))
+  name-few x none s = omega (arith, one-more (answer (write (w .id x) missing)) (s .log), if-few (not (w .isStar x)) (find (finding e1001 0 0 (suc x) 0 0)) (say (answer (write (w .id x) missing)) s))
 
   -- a hushed name says nothing
-  visit-few : (hushed : Bool) (x : ℕ) (o : Option ℕ) (s : State) → (said (visit w hushed x o s) ≤ suc (suc (said s))) × (said (visit w hushed x o s) + 2 * length (ifSome o x) ≤ 3 + said s)
+  visit-few : (hushed : Bool) (x : ℕ) (o : Option ℕ) (s : State) → said (visit w hushed x o s) ≤ suc (suc (said s))
   unfolding visit
-  visit-few true x o s = omega (arith, some-few x o)
-  visit-few false x o s = (name-twice x o s, name-few x o s)
+  visit-few true x o s = omega arith
+  visit-few false x o s = name-few x o s
 
   anew-few : (a b x v k : ℕ) (s : State) → said (bindAnew w a b x v k s) ≤ suc (suc (said s))
   unfolding bindAnew
-  anew-few a b x v k s = if-few _ _ _
+  anew-few a b x v k s = omega (arith, bind-few x v k s, if-few (w .warns && binds (s .cur) x (s .visible)) (find (finding e1002 a b (suc x) 0 0)) (bindName x v k s))
 
   path-few : (p : Maybe) (s : State) → said (bindPath w (variable p) s) ≤ length (maybeWords p) + said s
   unfolding bindPath variable maybeWords
@@ -142,7 +143,7 @@ module _ (w : World) where
 
   new-few : (o : Option ℕ) (x v k : ℕ) (s : State) → said (bindNew w o x v k s) ≤ 1 + said s
   unfolding bindNew
-  new-few none x v k s = omega arith
+  new-few none x v k s = omega (arith, bind-few x v k s)
   new-few (some u) x v k s = omega arith
 
   elem-few : (k : ℕ) (p : Maybe) (s : State) → said (bindElem w k (variable p) s) ≤ length (maybeWords p) + said s
@@ -161,12 +162,12 @@ module _ (v w : World) where
     unfolding resolve kindsE writeE formWords
 
     pub few-E : (t : Expr) (d : Setting) (s : State) → said (resolve v t s) + length (kindsE w t d) ≤ length (writeE t) + said s
-    few-E (var u) d s = omega (arith, var-once v u (v .row u) s, row-few d (w .row u))
-    few-E (unresolved x) d s = omega (arith, visit-few v (v .hushed x) x (lookup x (s .visible)) s .0)
+    few-E (var u) d s = omega (arith, var-few v u (v .row u) s, row-few d (w .row u))
+    few-E (unresolved x) d s = omega (arith, visit-few v (v .hushed x) x (lookup x (s .visible)) s)
     few-E (node f es) d s = simp length-append (omega (arith, form-words f, type-few d (typeOf f), few-Es es (settings (w .isId) f d) s))
-    few-E (predicate p) d s = simp length-append (omega (arith, type-few d patternType, few-S p nowhere))
+    few-E (predicate p) d s = simp length-append (omega (arith, type-few d patternType, nothing-said, few-S p nowhere))
     few-E (comprehension a b p es) d s =
-        simp length-append (omega (arith, few-S p (enter comprehensionScope a b s), few-Es es plain (bindPattern v p (enter comprehensionScope a b s))))
+        simp length-append (omega (arith, enter-few comprehensionScope a b s, few-S p (enter comprehensionScope a b s), few-Es es plain (bindPattern v p (enter comprehensionScope a b s))))
 
     pub few-Es : (t : Exprs) (p : Walk.Pair) (s : State) → said (resolves v t s) + length (kindsEs w t p) ≤ length (writes t) + said s
     few-Es done p s = omega arith
@@ -183,39 +184,23 @@ module _ (v w : World) where
         (omega (arith, elem-few v k p s, misplaced-few (suc k) k a b (rowFor w p), few-Es es plain t, few-S r (resolves v es t)))
 
 module _ (w : World) where
-  -- Projections: with what WITH carries of them, which counts twice, as carried and as bound.
-  carries-other : (a : Option ℕ) (vis : List Seen) → length (carries w a other vis) ≤ 0
-  unfolding carries
-  carries-other (some y) vis = omega arith
-  carries-other none vis = omega arith
+  -- Projections with the expressions after them.
+  exprs-few : (ps : List Projection) (f : Exprs) (s : State)
+      → said (resolves w (exprs ps f) s) + length (kindsEs w (exprs ps f) plain) ≤ length (flatMap writeProjection ps) + length (writes f) + said s
+  unfolding exprs writeProjection flatMap resolve kindsE
+  exprs-few [] f s = omega (arith, few-Es w w f plain s)
+  exprs-few (projection a e ∷ ps) f s = simp length-append (omega (arith, few-E w w e general s, exprs-few ps f (resolve w e s)))
 
-  one-few : (a : Option ℕ) (e : Expr) (vis : List Seen) (s : State) → s .visible ≡ vis
-      → said (resolve w e s) + length (kindsE w e general) + 2 * length (carries w a (direct e) vis) ≤ 1 + length (writeE e) + said s
-  unfolding carries direct resolve kindsE writeE formWords
-  one-few (some y) (var v) vis s p = omega (arith, var-plain w v (w .row v) s)
-  one-few none (var v) vis s p = var-few w v (w .row v) s
-  one-few (some y) (unresolved x) vis s p = omega (arith, visit-few w (w .hushed x) x (lookup x (s .visible)) s .0)
-  one-few none (unresolved x) vis s p = rw (← p) (omega (arith, visit-few w (w .hushed x) x (lookup x (s .visible)) s .1))
-  one-few a (node f es) vis s p = omega (arith, carries-other a vis, few-E w w (node f es) general s)
-  one-few a (predicate i) vis s p = omega (arith, carries-other a vis, few-E w w (predicate i) general s)
-  one-few a (comprehension i j q es) vis s p = omega (arith, carries-other a vis, few-E w w (comprehension i j q es) general s)
+  -- What a WITH carries and binds is not counted.
+  carry-all : (ps : List Pair) (s : State) → said (carryAll w ps s) ≡ said s
+  unfolding carryAll written
+  carry-all [] s = refl
+  carry-all (pair x v ∷ ps) s = carry-all ps (say (carry (carried (s .cur) x v)) s)
 
-  exprs-few : (ps : List Projection) (f : Exprs) (vis : List Seen) (s : State) → s .visible ≡ vis
-      → said (resolves w (exprs ps f) s) + length (kindsEs w (exprs ps f) plain) + 2 * length (carriedBy w ps vis) ≤ length (flatMap writeProjection ps) + length (writes f) + said s
-  unfolding exprs carriedBy writeProjection flatMap resolve kindsE
-  exprs-few [] f vis s p = omega (arith, few-Es w w f plain s)
-  exprs-few (projection a e ∷ ps) f vis s p =
-      simp length-append (omega (arith, one-few a e vis s p, exprs-few ps f vis (resolve w e s) (keeps w e s .visible ∙ p)))
-
-  carry-few : (ps : List Pair) (s : State) → said (carryAll w ps s) ≡ length ps + said s
-  unfolding carryAll
-  carry-few [] s = omega arith
-  carry-few (pair x v ∷ ps) s = omega (arith, carry-few ps (say (carry (carried (s .cur) x v)) s))
-
-  bind-few : (ps : List Pair) (s : State) → said (bindAll w ps s) ≡ length ps + said s
-  unfolding bindAll
-  bind-few [] s = omega arith
-  bind-few (pair x v ∷ ps) s = omega (arith, bind-few ps (bindName x v (kindOf w v) s))
+  bind-all : (ps : List Pair) (s : State) → said (bindAll w ps s) ≡ said s
+  unfolding bindAll written
+  bind-all [] s = refl
+  bind-all (pair x v ∷ ps) s = bind-all ps (bindOver true x v (kindOf w v) s)
 
   yields-few : (a b : ℕ) (ys : List Yield) (s : State) → said (yields w a b ys s) ≤ length (flatMap writeYield ys) + said s
   unfolding yields writeYield flatMap
@@ -225,7 +210,7 @@ module _ (w : World) where
   -- Clauses.
   pub few-C : (t : Clause) (s : State) → ClauseFits w t s
   unfolding clause sortBy kindsC writeClause countedWords barrier fresh writes
-  few-C (opening o a b p) s = simp length-append (omega (arith, few-S w w p (enter (opens o) a b s)))
+  few-C (opening o a b p) s = simp length-append (omega (arith, enter-few (opens o) a b s, few-S w w p (enter (opens o) a b s)))
   few-C (reading r a b es) s = simp length-append (omega (arith, few-Es w w es plain s))
   few-C (with' a b ps f ks) s =
       let cs = carriedBy w ps (s .visible) in
@@ -235,9 +220,11 @@ module _ (w : World) where
       simp length-append
       (omega (
         arith,
-        exprs-few ps f (s .visible) s refl,
-        carry-few cs (enter withBarrier a b t),
-        bind-few cs (enter rootScope b b (standing [] (u .cur) u)),
+        exprs-few ps f s,
+        enter-few withBarrier a b t,
+        carry-all cs (enter withBarrier a b t),
+        enter-few rootScope b b (standing [] (u .cur) u),
+        bind-all cs (enter rootScope b b (standing [] (u .cur) u)),
         few-Es w w (keysOf ks) plain (standing (v .visible ++ s .visible) (v .cur) v),
         key-few ks,
       ))
@@ -246,12 +233,13 @@ module _ (w : World) where
       simp length-append
       (omega (
         arith,
-        exprs-few ps done (s .visible) t refl,
+        enter-few returnScope a b s,
+        exprs-few ps done t,
         few-Es (hush (aliases ps) w) w (keysOf ks) plain (resolves w (exprs ps done) t),
         key-few ks,
       ))
-  few-C (unwind a b v e) s = omega (arith, few-E w w e general nowhere)
-  few-C (call a b es ys) s = simp length-append (omega (arith, yields-few a b ys (enter callScope a b s), few-Es w w es plain nowhere))
+  few-C (unwind a b v e) s = omega (arith, enter-few unwindScope a b s, bind-few (nameOf w v) v valueKind (enter unwindScope a b s), nothing-said, few-E w w e general nowhere)
+  few-C (call a b es ys) s = simp length-append (omega (arith, enter-few callScope a b s, yields-few a b ys (enter callScope a b s), nothing-said, few-Es w w es plain nowhere))
 
   pub few-Cs : (ts : List Clause) (s : State) → said (clauses w ts s) + length (kinds w ts) ≤ length (flatMap writeClause ts) + said s
   unfolding clauses kinds flatMap
@@ -263,17 +251,22 @@ module _ (w : World) where
   few-As [] s = omega arith
   few-As (arm a b cs ∷ ts) s = simp length-append (omega (arith, few-Cs cs (standing [] 0 s), few-As ts (clauses w cs (standing [] 0 s))))
 
-turned : (l m : List Event) → length (reverseAux l m) ≡ length l + length m
-turned [] m = omega arith
-turned (e ∷ l) m = omega (arith, turned l (e ∷ m))
-
 -- The whole: one event more than the words of the head and the arms, for scope 0.
 pub few : (warns : Bool) (st : Statement) →
-    length (log warns st) + length (kinds (worldOf warns st) (st .head)) ≤ 1 + (length (flatMap writeClause (st .head)) + length (flatMap writeArm (st .arms)))
+    length (written (log warns st)) + length (kinds (worldOf warns st) (st .head)) ≤ 1 + (length (flatMap writeClause (st .head)) + length (flatMap writeArm (st .arms)))
 unfolding log run start
 few warns st =
     let w = worldOf warns st in
-    omega (arith, turned (run warns st .log) [], few-Cs w (st .head) (start st), few-As w (st .arms) (clauses w (st .head) (start st)))
+    let l = run warns st .log in
+    omega (
+      arith,
+      ap length (written-reverse l),
+      length-reverse (written l),
+      one-more (open' (scope rootScope none (st .start) (st .stop))) [],
+      nothing-said,
+      few-Cs w (st .head) (start st),
+      few-As w (st .arms) (clauses w (st .head) (start st)),
+    )
 
 -- Each event of a log is an entry of one of its five views, and their lists make no more of it.
 views : (l : List Event) →
@@ -281,25 +274,10 @@ views : (l : List Event) →
 unfolding logs
 views [] = omega arith
 views (open' s ∷ l) = omega (arith, views l)
-views (bind b ∷ l) = omega (arith, views l)
+views (bind o g b ∷ l) = omega (arith, views l)
 views (carry c ∷ l) = omega (arith, views l)
 views (answer a ∷ l) = omega (arith, views l)
 views (find f ∷ l) = omega (arith, views l)
-
-put-few : (b : Bound) (es : List Entry) → length (put b es) ≤ suc (length es)
-unfolding put
-put-few (bound s x v k) [] = omega arith
-put-few (bound s x v k) (entry t y u j r ∷ es) = go (eqb s t && eqb x y) (put-few (bound s x v k) es)
-  where
-    go : (c : Bool) → length (put (bound s x v k) es) ≤ suc (length es) →
-        length (cond c (entry s x v k (some u) ∷ es) (entry t y u j r ∷ put (bound s x v k) es)) ≤ suc (suc (length es))
-    go true h = omega arith
-    go false h = omega arith
-
-puts-few : (bs : List Bound) (es : List Entry) → length (puts bs es) ≤ length bs + length es
-unfolding puts
-puts-few [] es = omega arith
-puts-few (b ∷ bs) es = omega (arith, puts-few bs (put b es), put-few b es)
 
 note-few : (x : Write) (ws : List Write) → length (note x ws) ≤ suc (length ws)
 unfolding note
@@ -322,7 +300,7 @@ sections-fit ws a b c p q = simp (length-drop, length-take) (omega arith)
 
 -- An accepted sheet: both walks say no more than it has words. The trailer pays for scope 0.
 pub few-words : (warns : Bool) (s : List ℕ) (st : Statement) → readSheet s ≡ accepted st →
-    length (log warns st) + length (kinds (worldOf warns st) (st .head)) ≤ length (words s)
+    length (written (log warns st)) + length (kinds (worldOf warns st) (st .head)) ≤ length (words s)
 unfolding placesOf
 few-words warns s st e =
     let h = accepted-words s st e in
@@ -341,12 +319,10 @@ unfolding lists
 fits warns s st e =
     let l = log warns st in
     let h = few-words warns s st e in
-    let v = views l in
+    let v = rw (scopes-written l, answers-written l, finds-written l) at (views (written l)) in
     record {
-      log = omega arith;
+      written = h;
       scopes = omega arith;
-      bindings = omega (arith, puts-few (bindsIn l) []);
-      carriedList = omega arith;
       recorded = omega (arith, notes-few (answersIn l) []);
       findings = simp length-append (omega arith);
     }

@@ -20,7 +20,7 @@ use Rattle.sheet.specs.Statement.{Statement}
 use Rattle.semantics.specs.Log
 use Rattle.semantics.specs.Log.{e1002, Finding, finding, missing, Write, write, Bound, bound, Event, open', bind, carry, answer, find, answerOf, findOf, answersIn, findsIn}
 use Rattle.semantics.specs.World.{World, hush, variable, opens, yieldName, nameOf, kindOf, starName, bytesOf, worldOf}
-use Rattle.semantics.specs.Resolve.{Seen, seen, Pair, pair, State, lookup, binds, say, sayIf, enter, bindName, leave, standing, useVar, useName, visit, bindAnew, bindNew, bindPath, bindElem, resolve, resolves, bindPattern, carriedBy, carryAll, bindAll, barrier, fresh, yields, aliases, sortBy, clause, clauses, arms, start, run, log}
+use Rattle.semantics.specs.Resolve.{Seen, seen, Pair, pair, State, lookup, binds, say, sayIf, enter, bindName, bindOver, leave, standing, useVar, useName, visit, bindAnew, bindNew, bindPath, bindElem, resolve, resolves, bindPattern, carriedBy, carryAll, bindAll, barrier, fresh, yields, aliases, sortBy, clause, clauses, arms, start, run, log}
 use Rattle.semantics.specs.Kinds.{kinds}
 use Rattle.semantics.specs.Lists.{findings}
 use Rattle.theorems.specs.Uses.{Use, byVar, byName, Lacks, lacks, usesE, usesEs, usesS, sortAt, usesC, usesCs, usesAs, e1001, answerBy, ofRow, recordOf, unresolvedOf, uses, coded, withCode, unresolvedAs, unresolvedIn, Arises, OfUses}
@@ -47,7 +47,7 @@ hush-use xs w (byName x vis) = refl
 -- A view that passes over all else.
 pub record Quiet {B : Type 0} (f : Event → List B) : Type 0 where
   pub opens : (s : Scope) → f (open' s) ≡ []
-  pub binds : (b : Bound) → f (bind b) ≡ []
+  pub binds : (o g : Bool) (b : Bound) → f (bind o g b) ≡ []
   pub carries : (c : Carried) → f (carry c) ≡ []
   pub repeats : (a b x : ℕ) → f (find (finding e1002 a b x 0 0)) ≡ []
 
@@ -93,11 +93,11 @@ module _ {B : Type 0} {f : Event → List B} (q : Quiet f) (w : World) where
 
   sees-anew : (i j x v k : ℕ) (s : State) → Seen′ (s .log) (bindAnew w i j x v k s .log) []
   unfolding bindAnew
-  sees-anew i j x v k s = then (quiet _ (q .binds (bound (s .cur) x v k))) (quiet-if _ i j (suc x) (bindName x v k s))
+  sees-anew i j x v k s = then (quiet _ (q .binds _ _ (bound (s .cur) x v k))) (quiet-if _ i j (suc x) (bindName x v k s))
 
   sees-new : (o : Option ℕ) (x v k : ℕ) (s : State) → Seen′ (s .log) (bindNew w o x v k s .log) []
   unfolding bindNew
-  sees-new none x v k s = quiet _ (q .binds _)
+  sees-new none x v k s = quiet _ (q .binds _ _ _)
   sees-new (some u) x v k s = none′
 
   sees-path : (o : Option ℕ) (s : State) → Seen′ (s .log) (bindPath w o s .log) []
@@ -158,7 +158,7 @@ module _ {B : Type 0} {f : Event → List B} (q : Quiet f) (w : World) where
   sees-bind : (ps : List Pair) (s : State) → Seen′ (s .log) (bindAll w ps s .log) []
   unfolding bindAll
   sees-bind [] s = none′
-  sees-bind (pair x v ∷ ps) s = then (quiet _ (q .binds _)) (sees-bind ps (bindName x v (kindOf w v) s))
+  sees-bind (pair x v ∷ ps) s = then (quiet _ (q .binds _ _ _)) (sees-bind ps (bindOver true x v (kindOf w v) s))
 
   sees-yields : (a b : ℕ) (ys : List Yield) (s : State) → Seen′ (s .log) (yields w a b ys s .log) []
   unfolding yields
@@ -184,7 +184,7 @@ module _ {B : Type 0} {f : Event → List B} (q : Quiet f) (w : World) where
   sees-C (return a b ps ks) s =
       let t = leave s (enter returnScope a b s) in
       then (quiet _ (q .opens _)) (then (sees-Es q w (exprs ps done) t) (hush-sees (aliases ps) (sees-Es q (hush (aliases ps) w) (keysOf ks) (resolves w (exprs ps done) t))))
-  sees-C (unwind a b v e) s = then (quiet _ (q .opens _)) (quiet _ (q .binds _))
+  sees-C (unwind a b v e) s = then (quiet _ (q .opens _)) (quiet _ (q .binds _ _ _))
   sees-C (call a b es ys) s = then (quiet _ (q .opens _)) (sees-yields q w a b ys (enter callScope a b s))
 
   sees-Cs : (ts : List Clause) (s : State) → Seen′ q w (s .log) (clauses w ts s .log) (usesCs w ts s)
@@ -324,11 +324,11 @@ findsOf e = withCode Log.e1001 (findOf e)
 
 quiet-finds : Quiet findsOf
 unfolding findOf withCode coded flatMap
-quiet-finds = record { opens = λ s. refl; binds = λ b. refl; carries = λ c. refl; repeats = λ a b x. refl }
+quiet-finds = record { opens = λ s. refl; binds = λ o g b. refl; carries = λ c. refl; repeats = λ a b x. refl }
 
 quiet-answers : Quiet answerOf
 unfolding answerOf
-quiet-answers = record { opens = λ s. refl; binds = λ b. refl; carries = λ c. refl; repeats = λ a b x. refl }
+quiet-answers = record { opens = λ s. refl; binds = λ o g b. refl; carries = λ c. refl; repeats = λ a b x. refl }
 
 pick-pick : {A B C : Type 0} (g : B → List C) (f : A → List B) (l : List A) → flatMap g (flatMap f l) ≡ flatMap (λ a. flatMap g (f a)) l
 unfolding flatMap

@@ -53,7 +53,7 @@ pub opened-reverse : (l m : List Event) → opened (reverseAux l m) ≡ opened l
 unfolding logs
 opened-reverse [] m = omega arith
 opened-reverse (open' s ∷ l) m = omega (arith, opened-reverse l (open' s ∷ m))
-opened-reverse (bind b ∷ l) m = opened-reverse l (bind b ∷ m)
+opened-reverse (bind o g b ∷ l) m = opened-reverse l (bind o g b ∷ m)
 opened-reverse (carry c ∷ l) m = opened-reverse l (carry c ∷ m)
 opened-reverse (answer a ∷ l) m = opened-reverse l (answer a ∷ m)
 opened-reverse (find f ∷ l) m = opened-reverse l (find f ∷ m)

@@ -18,12 +18,12 @@ use Rattle.clauses.specs.Tree.{Yield, yield, Clause, opening, reading, with', r
 use Rattle.tables.specs.Row.{valueKind, pathKind, Row, row}
 use Rattle.semantics.specs.Log.{e1002, e1001, Finding, finding, Write, bound, Event, open', bind, carry, answer, find, opened, logs}
 use Rattle.semantics.specs.World.{World, hush, variable, opens, yieldName, nameOf, kindOf}
-use Rattle.semantics.specs.Resolve.{Seen, Pair, pair, State, lookup, binds, say, sayIf, enter, bindName, standing, useVar, useName, visit, bindAnew, bindNew, bindPath, bindElem, resolve, resolves, bindPattern, carriedBy, carryAll, bindAll, barrier, fresh, yields, aliases, sortBy, clause, clauses, arms}
+use Rattle.semantics.specs.Resolve.{Seen, Pair, pair, State, lookup, binds, say, sayIf, enter, bindOver, standing, useVar, useName, visit, bindAnew, bindNew, bindPath, bindElem, resolve, resolves, bindPattern, carriedBy, carryAll, bindAll, barrier, fresh, yields, aliases, sortBy, clause, clauses, arms}
 
 -- Every binding of the log stands in a scope, every carried name at a barrier, above lo and not above hi.
 unfoldable pub inside : ℕ → ℕ → Event → Type 0
 inside lo hi (open' s) = Unit {0}
-inside lo hi (bind (bound s x v k)) = (lo < s) × (s ≤ hi)
+inside lo hi (bind o g (bound s x v k)) = (lo < s) × (s ≤ hi)
 inside lo hi (carry (carried b x v)) = (lo < b) × (b ≤ hi)
 inside lo hi (answer a) = Unit {0}
 inside lo hi (find f) = Unit {0}
@@ -36,7 +36,7 @@ pub within-wide : {lo lo′ hi hi′ : ℕ} {l : List Event} → lo′ ≤ lo �
 unfolding inside
 within-wide a b nil = nil
 within-wide a b (cons {e = open' s} h p) = cons tt (within-wide a b p)
-within-wide a b (cons {e = bind (bound s x v k)} h p) = cons {e = bind (bound s x v k)} (omega arith, omega arith) (within-wide a b p)
+within-wide a b (cons {e = bind o g (bound s x v k)} h p) = cons {e = bind o g (bound s x v k)} (omega arith, omega arith) (within-wide a b p)
 within-wide a b (cons {e = carry (carried c x v)} h p) = cons {e = carry (carried c x v)} (omega arith, omega arith) (within-wide a b p)
 within-wide a b (cons {e = answer i} h p) = cons tt (within-wide a b p)
 within-wide a b (cons {e = find f} h p) = cons tt (within-wide a b p)
@@ -95,9 +95,9 @@ module _ (w : World) (lo z : ℕ) where
   unfolding inside logs
   carry-W x v {s} p q h = record { within = cons {e = carry (carried (s .cur) x v)} (p, q) (h .within); count = h .count; low = h .low }
 
-  pub bind-W : (x v k : ℕ) {s : State} → lo < s .cur → s .cur ≤ s .last → Fine s → Runs s (bindName x v k s)
+  pub bind-W : (over : Bool) (x v k : ℕ) {s : State} → lo < s .cur → s .cur ≤ s .last → Fine s → Runs s (bindOver over x v k s)
   unfolding inside logs
-  bind-W x v k {s} p q h = still refl refl (record { within = cons {e = bind (bound (s .cur) x v k)} (p, q) (h .within); count = h .count; low = h .low })
+  bind-W over x v k {s} p q h = still refl refl (record { within = cons {e = bind over (binds (s .cur) x (s .visible)) (bound (s .cur) x v k)} (p, q) (h .within); count = h .count; low = h .low })
 
   var-W : (v : ℕ) (r : Option Row) {s : State} → Fine s → Runs s (useVar w v r s)
   unfolding useVar
@@ -116,11 +116,11 @@ module _ (w : World) (lo z : ℕ) where
 
   pub anew-W : (a b x v k : ℕ) {s : State} → lo < s .cur → s .cur ≤ s .last → Fine s → Runs s (bindAnew w a b x v k s)
   unfolding bindAnew
-  anew-W a b x v k {s} p q h = let g = bind-W x v k p q h in then g (find-W (w .warns && binds (s .cur) x (s .visible)) (finding e1002 a b (suc x) 0 0) (g .fine))
+  anew-W a b x v k {s} p q h = let g = bind-W false x v k p q h in then g (find-W (w .warns && binds (s .cur) x (s .visible)) (finding e1002 a b (suc x) 0 0) (g .fine))
 
   pub new-W : (o : Option ℕ) (x v k : ℕ) {s : State} → lo < s .cur → s .cur ≤ s .last → Fine s → Runs s (bindNew w o x v k s)
   unfolding bindNew
-  new-W none x v k p q h = bind-W x v k p q h
+  new-W none x v k p q h = bind-W false x v k p q h
   new-W (some u) x v k p q h = still refl refl h
 
   pub path-W : (o : Option ℕ) {s : State} → lo < s .cur → s .cur ≤ s .last → Fine s → Runs s (bindPath w o s)
@@ -169,7 +169,7 @@ module _ (w : World) (lo z : ℕ) where
   pub bindAll-W : (ps : List Pair) {s : State} → lo < s .cur → s .cur ≤ s .last → Fine s → Runs s (bindAll w ps s)
   unfolding bindAll
   bindAll-W [] p q h = still refl refl h
-  bindAll-W (pair x v ∷ ps) p q h = let g = bind-W x v (kindOf w v) p q h in then g (bindAll-W ps p q (g .fine))
+  bindAll-W (pair x v ∷ ps) p q h = let g = bind-W true x v (kindOf w v) p q h in then g (bindAll-W ps p q (g .fine))
 
   pub yields-W : (a b : ℕ) (ys : List Yield) {s : State} → lo < s .cur → s .cur ≤ s .last → Fine s → Runs s (yields w a b ys s)
   unfolding yields
@@ -201,7 +201,7 @@ module _ (w : World) (lo z : ℕ) where
   clause-W (return a b ps ks) {s} h =
       let g = resolves-W w lo z (exprs ps done) (standing-W w lo z (s .visible) (s .cur) (enter-W w lo z returnScope a b h)) in
       standing-W w lo z _ _ (resolves-W (hush (aliases ps) w) lo z (keysOf ks) (g .fine) .fine)
-  clause-W (unwind a b v e) {s} h = bind-W w lo z (nameOf w v) v valueKind {s = enter unwindScope a b s} (omega (arith, h .low)) (le-refl _) (enter-W w lo z unwindScope a b h) .fine
+  clause-W (unwind a b v e) {s} h = bind-W w lo z false (nameOf w v) v valueKind {s = enter unwindScope a b s} (omega (arith, h .low)) (le-refl _) (enter-W w lo z unwindScope a b h) .fine
   clause-W (call a b es ys) {s} h = yields-W w lo z a b ys {s = enter callScope a b s} (omega (arith, h .low)) (le-refl _) (enter-W w lo z callScope a b h) .fine
 
   pub clauses-W : (ts : List Clause) {s : State} → Well lo z s → Well lo z (clauses w ts s)

@@ -6,3 +6,5 @@ pub mod Fits
 pub mod Sheets
 pub mod InLists
 pub mod Agree
+pub mod Needs
+pub mod Woven

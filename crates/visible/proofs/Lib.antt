@@ -1,2 +1,4 @@
 pub mod Places
 pub mod Names
+pub mod Once
+pub mod Halves

@@ -1,5 +1,5 @@
--- Laws of the stack of visible names: where the newest entry of a name stands and what it tells (`told`), one entry more (`bind-new`),
--- and one less (`fall`).
+-- Laws of the stack of visible names: where the newest entry of a name stands and what it tells (`told`), an entry as it is written
+-- (`write`), one entry more (`bind-new`), and one less (`fall`).
 use Prim.Native.Nat.{ℕ, zero, suc, _+_, _-_, _*_, _<_, _≤_}
 use native.Mathlib.Omega.{arith}
 use native.Mathlib.Numerals.{add-one}
@@ -59,18 +59,50 @@ seens-alike n zero new old e = refl
 seens-alike n (suc t) new old e =
     rw (e (n + t * 4) (omega arith) (omega arith), e (n + t * 4 + 1) (omega arith) (omega arith), e (n + t * 4 + 2) (omega arith) (omega arith), seens-alike n t new old (λ i h k. e i h (omega arith)))
 
+-- an entry is written over the height top, and the head of its name
+pub record Written (n top x v c before : ℕ) (m new : List ℕ) : Type 0 where
+  pub len : length new ≡ length m
+  pub keep : (i : ℕ) → i < n + top * 4 → i ≢ x → getD new i 0 ≡ getD m i 0
+  pub above : (i : ℕ) → n + top * 4 + 4 ≤ i → getD new i 0 ≡ getD m i 0
+  pub at0 : getD new (n + top * 4) 0 ≡ x
+  pub at1 : getD new (n + top * 4 + 1) 0 ≡ v
+  pub at2 : getD new (n + top * 4 + 2) 0 ≡ c
+  pub at3 : getD new (n + top * 4 + 3) 0 ≡ before
+  pub head : getD new x 0 ≡ top + 1
+
+pub write : (n top x v c before : ℕ) (m : List ℕ) → x < n → n + (top + 1) * 4 ≤ length m →
+    Written n top x v c before m (set (set (set (set (set m (n + top * 4) x) (n + top * 4 + 1) v) (n + top * 4 + 2) c) (n + top * 4 + 3) before) x (top + 1))
+write n top x v c before m h r =
+    let k = n + top * 4 in
+    let a = set m k x in
+    let b = set a (k + 1) v in
+    let d = set b (k + 2) c in
+    let e = set d (k + 3) before in
+    let la = length-set m k x in
+    let lb = length-set a (k + 1) v in
+    let ld = length-set b (k + 2) c in
+    let le = length-set d (k + 3) before in
+    let out : (i : ℕ) → i ≢ x → getD (set e x (top + 1)) i 0 ≡ getD e i 0 = λ i q. getD-set-other e x i (top + 1) 0 q in
+    record {
+      len = length-set e x (top + 1) ∙ le ∙ ld ∙ lb ∙ la;
+      keep = λ i l q. out i q ∙ getD-set-other d (k + 3) i _ 0 (λ z. omega arith) ∙ getD-set-other b (k + 2) i _ 0 (λ z. omega arith) ∙ getD-set-other a (k + 1) i _ 0 (λ z. omega arith) ∙ getD-set-other m k i _ 0 (λ z. omega arith);
+      above = λ i l. out i (λ z. omega arith) ∙ getD-set-other d (k + 3) i _ 0 (λ z. omega arith) ∙ getD-set-other b (k + 2) i _ 0 (λ z. omega arith) ∙ getD-set-other a (k + 1) i _ 0 (λ z. omega arith) ∙ getD-set-other m k i _ 0 (λ z. omega arith);
+      at0 = out k (λ z. omega arith) ∙ getD-set-other d (k + 3) k _ 0 (λ z. omega arith) ∙ getD-set-other b (k + 2) k _ 0 (λ z. omega arith) ∙ getD-set-other a (k + 1) k _ 0 (λ z. omega arith) ∙ getD-set-same m k x 0 (omega arith);
+      at1 = out (k + 1) (λ z. omega arith) ∙ getD-set-other d (k + 3) (k + 1) _ 0 (λ z. omega arith) ∙ getD-set-other b (k + 2) (k + 1) _ 0 (λ z. omega arith) ∙ getD-set-same a (k + 1) v 0 (omega arith);
+      at2 = out (k + 2) (λ z. omega arith) ∙ getD-set-other d (k + 3) (k + 2) _ 0 (λ z. omega arith) ∙ getD-set-same b (k + 2) c 0 (omega arith);
+      at3 = out (k + 3) (λ z. omega arith) ∙ getD-set-same d (k + 3) _ 0 (omega arith);
+      head = getD-set-same e x (top + 1) 0 (omega arith);
+    }
+
 -- one entry more
-module _ (n top x v c : ℕ) (old new : List ℕ) (w : Tabled n top old) (xn : x < n)
-    (len : length new ≡ length old) (room : n + (top + 1) * 4 ≤ length old)
-    (keep : (i : ℕ) → i < n + top * 4 → i ≢ x → getD new i 0 ≡ getD old i 0)
-    (at0 : getD new (n + top * 4) 0 ≡ x) (at1 : getD new (n + top * 4 + 1) 0 ≡ v) (at2 : getD new (n + top * 4 + 2) 0 ≡ c)
-    (at3 : getD new (n + top * 4 + 3) 0 ≡ getD old x 0) (head : getD new x 0 ≡ top + 1) where
+module _ (n top x v c : ℕ) (old new : List ℕ) (w : Tabled n top old) (xn : x < n) (room : n + (top + 1) * 4 ≤ length old)
+    (q : Written n top x v c (getD old x 0) old new) where
   below : (t : ℕ) → t ≤ top → seens n t new ≡ seens n t old
-  below t h = seens-alike n t new old (λ i a b. keep i (omega arith) (λ e. omega arith))
+  below t h = seens-alike n t new old (λ i a b. q .keep i (omega arith) (λ e. omega arith))
 
   all : seens n (suc top) new ≡ seen x v c ∷ seens n top old
   unfolding seens
-  all = rw (at0, at1, at2, below top (omega arith))
+  all = rw (q .at0, q .at1, q .at2, below top (omega arith))
 
   heads : (y : ℕ) → y < n → getD new y 0 ≡ place y (seens n (suc top) new)
   unfolding place
@@ -79,11 +111,11 @@ module _ (n top x v c : ℕ) (old new : List ℕ) (w : Tabled n top old) (xn : x
       go : (b : Bool) → eqb y x ≡ b → getD new y 0 ≡ cond b (suc (length (seens n top old))) (place y (seens n top old))
       go true e =
           let z : y ≡ x = eqb-true y x e in
-          ap (λ (k : ℕ). getD new k 0) z ∙ head ∙ omega (arith, length-seens n top old)
-      go false e = keep y (omega arith) (eqb-false y x e) ∙ w .heads y h
+          ap (λ (k : ℕ). getD new k 0) z ∙ q .head ∙ omega (arith, length-seens n top old)
+      go false e = q .keep y (omega arith) (eqb-false y x e) ∙ w .heads y h
 
   name-below : (i : ℕ) → i < top → nameAt n new i ≡ nameAt n old i
-  name-below i h = keep _ (omega arith) (λ e. omega arith)
+  name-below i h = q .keep _ (omega arith) (λ e. omega arith)
 
   prevs : (i : ℕ) → i < suc top → getD new (n + i * 4 + 3) 0 ≡ place (nameAt n new i) (seens n i new)
   prevs i h = go (ltb i top) refl
@@ -91,11 +123,11 @@ module _ (n top x v c : ℕ) (old new : List ℕ) (w : Tabled n top old) (xn : x
       go : (b : Bool) → ltb i top ≡ b → getD new (n + i * 4 + 3) 0 ≡ place (nameAt n new i) (seens n i new)
       go true e =
           let l : i < top = ltb-true i top e in
-          keep _ (omega arith) (λ e. omega arith) ∙ w .prevs i l ∙ rw (name-below i l, below i (omega arith))
+          q .keep _ (omega arith) (λ e. omega arith) ∙ w .prevs i l ∙ rw (name-below i l, below i (omega arith))
       go false e =
           let l : top ≤ i = ltb-false i top e in
           let z : i ≡ top = omega arith in
-          rw (z, at3, at0, below top (omega arith)) (w .heads x xn)
+          rw (z, q .at3, q .at0, below top (omega arith)) (w .heads x xn)
 
   named : (i : ℕ) → i < suc top → nameAt n new i < n
   named i h = go (ltb i top) refl
@@ -107,14 +139,14 @@ module _ (n top x v c : ℕ) (old new : List ℕ) (w : Tabled n top old) (xn : x
       go false e =
           let l : top ≤ i = ltb-false i top e in
           let z : i ≡ top = omega arith in
-          rw (z, at0) xn
+          rw (z, q .at0) xn
 
   pub bound : Bound n top x v c old new (top + 1)
   bound = record {
     height = add-one top;
     same = rw (add-one top) all;
-    kept = len;
-    tabled = rw (add-one top) (record { room = omega arith; heads = heads; prevs = prevs; named = named });
+    kept = q .len;
+    tabled = rw (add-one top) (record { room = omega (arith, q .len); heads = heads; prevs = prevs; named = named });
   }
 
 -- one entry less
@@ -168,24 +200,7 @@ fall {n} {height} {t} {old} {m} f h =
 -- what the code of `bind` writes
 pub bind-new : (n top x v c : ℕ) (m : List ℕ) → Tabled n top m → x < n → n + (top + 1) * 4 ≤ length m →
     Bound n top x v c m (set (set (set (set (set m (n + top * 4) x) (n + top * 4 + 1) v) (n + top * 4 + 2) c) (n + top * 4 + 3) (getD m x 0)) x (top + 1)) (top + 1)
-bind-new n top x v c m w h r =
-    let k = n + top * 4 in
-    let a = set m k x in
-    let b = set a (k + 1) v in
-    let d = set b (k + 2) c in
-    let e = set d (k + 3) (getD m x 0) in
-    let la = length-set m k x in
-    let lb = length-set a (k + 1) v in
-    let ld = length-set b (k + 2) c in
-    let le = length-set d (k + 3) (getD m x 0) in
-    let out : (i : ℕ) → i ≢ x → getD (set e x (top + 1)) i 0 ≡ getD e i 0 = λ i q. getD-set-other e x i (top + 1) 0 q in
-    bound n top x v c m (set e x (top + 1)) w h (length-set e x (top + 1) ∙ le ∙ ld ∙ lb ∙ la) r
-    (λ i l q. out i q ∙ getD-set-other d (k + 3) i _ 0 (λ z. omega arith) ∙ getD-set-other b (k + 2) i _ 0 (λ z. omega arith) ∙ getD-set-other a (k + 1) i _ 0 (λ z. omega arith) ∙ getD-set-other m k i _ 0 (λ z. omega arith))
-    (out k (λ z. omega arith) ∙ getD-set-other d (k + 3) k _ 0 (λ z. omega arith) ∙ getD-set-other b (k + 2) k _ 0 (λ z. omega arith) ∙ getD-set-other a (k + 1) k _ 0 (λ z. omega arith) ∙ getD-set-same m k x 0 (omega arith))
-    (out (k + 1) (λ z. omega arith) ∙ getD-set-other d (k + 3) (k + 1) _ 0 (λ z. omega arith) ∙ getD-set-other b (k + 2) (k + 1) _ 0 (λ z. omega arith) ∙ getD-set-same a (k + 1) v 0 (omega arith))
-    (out (k + 2) (λ z. omega arith) ∙ getD-set-other d (k + 3) (k + 2) _ 0 (λ z. omega arith) ∙ getD-set-same b (k + 2) c 0 (omega arith))
-    (out (k + 3) (λ z. omega arith) ∙ getD-set-same d (k + 3) _ 0 (omega arith))
-    (getD-set-same e x (top + 1) 0 (omega arith))
+bind-new n top x v c m w h r = bound n top x v c m _ w h r (write n top x v c (getD m x 0) m h r)
 
 pub fallen : {n height t : ℕ} {old m : List ℕ} → Falls n height old m t → t ≤ height → Cut n height old m t
 fallen {n} {height} {t} f h =

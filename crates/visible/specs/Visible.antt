@@ -6,7 +6,7 @@ use mathlib.Core.List.{List, [], _∷_}
 use mathlib.Core.Option.{Option, none, some}
 use lib.Dec.{eqb}
 use lib.ListN.{length, getD}
-use Rattle.semantics.specs.Resolve.{Seen, seen}
+use Rattle.semantics.specs.Resolve.{Seen, seen, Pair, pair, once}
 use Rattle.visible.specs.declared.Found.{Found}
 use Rattle.visible.specs.declared.Found.the-variants as found
 
@@ -66,3 +66,38 @@ pub record Cut (n height : ℕ) (old new : List ℕ) (r : ℕ) : Type 0 where
   pub same : seens n height new ≡ seens n height old
   pub kept : length new ≡ length old
   pub tabled : Tabled n height new
+
+-- pairs as entries of one scope
+unfoldable pub seenOnce : ℕ → List Pair → List Seen
+seenOnce c [] = []
+seenOnce c (pair x v ∷ ps) = seen x v c ∷ seenOnce c ps
+
+-- each visible name once, with its newest variable, all in the scope c
+pub record Restacked (n top c : ℕ) (old new : List ℕ) (r : ℕ) : Type 0 where
+  pub same : seens n r new ≡ seenOnce c (once (seens n top old))
+  pub kept : length new ≡ length old
+  pub tabled : Tabled n r new
+  pub few : r ≤ top
+
+-- of the entries below i, those that are the newest of their name below the height top
+unfoldable pub newest : ℕ → ℕ → List ℕ → ℕ → List Pair
+newest n top m zero = []
+newest n top m (suc i) =
+    cond (eqb (place (nameAt n m i) (seens n top m)) (suc i)) (pair (nameAt n m i) (getD m (n + i * 4 + 1) 0) ∷ newest n top m i) (newest n top m i)
+
+-- halfway: of the i oldest entries of the words `old` those j are kept in m, and from i on all is as it was
+pub record Halfway (n top c : ℕ) (old m : List ℕ) (i j : ℕ) : Type 0 where
+  pub few : j ≤ i
+  pub kept : length m ≡ length old
+  pub above : (p : ℕ) → n + i * 4 ≤ p → getD m p 0 ≡ getD old p 0
+  pub same : seens n j m ≡ seenOnce c (newest n top old i)
+  pub passed : (x : ℕ) → x < n → place x (seens n top old) ≤ i → getD m x 0 ≡ place x (seens n j m)
+  pub coming : (x : ℕ) → x < n → i < place x (seens n top old) → getD m x 0 ≡ place x (seens n top old)
+  pub unseen : (x : ℕ) → x < n → i < place x (seens n top old) → place x (seens n j m) ≡ 0
+  pub prevs : (a : ℕ) → a < j → getD m (n + a * 4 + 3) 0 ≡ place (nameAt n m a) (seens n a m)
+  pub named : (a : ℕ) → a < j → nameAt n m a < n
+
+-- one turn
+pub record Turned (n c : ℕ) (m new : List ℕ) (i j r : ℕ) : Type 0 where
+  pub kept : length new ≡ length m
+  pub on : (top : ℕ) (old : List ℕ) → Tabled n top old → i < top → Halfway n top c old m i j → Halfway n top c old new (i + 1) r

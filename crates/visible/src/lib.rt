@@ -5,7 +5,7 @@ ghost use mathlib.Core.Path.{_≡_};
 ghost use Prim.Native.Nat.{_+_, _*_, _<_, _≤_};
 ghost use lib.ListN.{length};
 ghost use Rattle.semantics.specs.Resolve.{lookup};
-ghost use Rattle.visible.specs.Visible.{seens, scopeOf, answer, Tabled, Bound, Cut};
+ghost use Rattle.visible.specs.Visible.{seens, scopeOf, nameAt, answer, Tabled, Bound, Cut, Turned, Restacked};
 
 // The newest binding of a name: its variable and its scope.
 pub enum Found {
@@ -59,4 +59,46 @@ pub fn cut(vis: &mut [u32], names: u32, height: u32, top: u32) -> u32
         vis[x] = vis[before];
     }
     t
+}
+
+// One turn of `restack`: the entry i goes to the place j if it is the newest of its name; the number of entries that are kept then.
+fn keep(vis: &mut [u32], names: u32, i: u32, j: u32, scope: u32) -> u32
+    requires { ⌜ (j ≤ i) × ((i < 4294967295) × ((names + (i + 1) * 4 ≤ length (now vis)) × (nameAt names (now vis) i < names))) ⌝ }
+    ensures { λ r. ⌜ Turned names scope (now (vis .entry)) (now (vis .exit)) i j r ⌝ }
+{
+    let k = (names as usize) + (i as usize) * 4;
+    let x = vis[k];
+    let number = i + 1;
+    if vis[x as usize] == number {
+        let kept = j + 1;
+        if j < i {
+            let v = vis[k + 1];
+            let to = (names as usize) + (j as usize) * 4;
+            vis[to] = x;
+            vis[to + 1] = v;
+            vis[to + 2] = scope;
+            vis[to + 3] = 0;
+            vis[x as usize] = kept;
+            return kept;
+        }
+        vis[k + 2] = scope;
+        vis[k + 3] = 0;
+        return kept;
+    }
+    j
+}
+
+// Each visible name once, with its newest variable, in the order of those bindings, oldest first, all in one scope: what a star carries.
+// The height then.
+pub fn restack(vis: &mut [u32], names: u32, top: u32, scope: u32) -> u32
+    requires { ⌜ Tabled names top (now vis) ⌝ }
+    ensures { λ r. ⌜ Restacked names top scope (now (vis .entry)) (now (vis .exit)) r ⌝ }
+{
+    let mut i = 0;
+    let mut j = 0;
+    while i < top {
+        j = keep(vis, names, i, j, scope);
+        i += 1;
+    }
+    j
 }

@@ -246,9 +246,9 @@ module _ {ws tab m₀ vis₀ found₀ : List ℕ} {room mode n : ℕ} {m vis fou
         }
 
 -- ---- a level's word
-leveled : {room c : ℕ} {ws tab m₀ vis₀ found₀ : List ℕ} {G : Goer} {m vis found : List ℕ} {K : Rest} (d x : ℕ) → d ≤ room → Stage (some room) 0 ws tab m₀ vis₀ found₀ G c m vis found K → Stage (some room) 0 ws tab m₀ vis₀ found₀ G c (set m (8 + d) x) vis found K
+leveled : {room c : ℕ} {ws tab m₀ vis₀ found₀ : List ℕ} {G : Goer} {m vis found : List ℕ} {K : Rest} (d x : ℕ) → d ≤ room → Stage (some room) 0 ws tab m₀ vis₀ found₀ G c m vis found K → Stage (some room) 0 ws tab m₀ vis₀ found₀ G c (set m (10 + d) x) vis found K
 leveled {m = m} d x b o =
-    let e : (j : ℕ) → j < 8 → getD (set m (8 + d) x) j 0 ≡ getD m j 0 = λ j h. getD-set-other m (8 + d) j x 0 (λ q. omega arith) in
+    let e : (j : ℕ) → j < 10 → getD (set m (10 + d) x) j 0 ≡ getD m j 0 = λ j h. getD-set-other m (10 + d) j x 0 (λ q. omega arith) in
     let at = e 0 (omega arith) in
     let top = e 1 (omega arith) in
     let cur = e 2 (omega arith) in
@@ -256,7 +256,9 @@ leveled {m = m} d x b o =
     let said = e 4 (omega arith) in
     let told = e 5 (omega arith) in
     let lost = e 6 (omega arith) in
-    let size = length-set m (8 + d) x in
+    let made = e 8 (omega arith) in
+    let taken = e 9 (omega arith) in
+    let size = length-set m (10 + d) x in
     record {
       from = omega (arith, o .from, at);
       size = size ∙ o .size;
@@ -272,15 +274,16 @@ leveled {m = m} d x b o =
             last = rw (last, at) (f .last);
             count = rw (said, told, at) (f .count);
             stack = rw (top, at) (f .stack);
+            needs = rw (made, taken, at) (f .needs);
             within = rw at (f .within);
             names = f .names;
             room = f .room;
           };
-      keeps = record { kept = framed (o .keeps .kept) (record { top = omega (arith, top); last = omega (arith, last); below = refl; held = e 7 (omega arith); levels = λ i h. getD-set-other m (8 + d) (8 + i) x 0 (λ q. omega arith) }) };
+      keeps = record { kept = framed (o .keeps .kept) (record { top = omega (arith, top); last = omega (arith, last); below = refl; held = e 7 (omega arith); levels = λ i h. getD-set-other m (10 + d) (10 + i) x 0 (λ q. omega arith) }) };
       on = λ id s h. let n = o .on id s h in let k = n .holds in
           record {
             state = n .state;
-            holds = record { visible = rw top (k .visible); cur = cur ∙ k .cur; last = last ∙ k .last; log = rw said (k .log); kinds = rw told (k .kinds); known = rw lost (k .known) };
+            holds = record { visible = rw top (k .visible); cur = cur ∙ k .cur; last = last ∙ k .last; log = rw said (k .log); kinds = rw told (k .kinds); known = rw lost (k .known); counts = record { made = made ∙ k .counts .made; taken = taken ∙ k .counts .taken }; uses = k .uses };
             same = rw at (n .same);
           };
     }
@@ -298,7 +301,7 @@ module _ {ws tab m₀ vis₀ found₀ : List ℕ} {room mode n : ℕ} {m vis fou
         stage = recast _ (o .stage) (λ id s t r. rw z);
       }
 
-  pub row-down : (k q : ℕ) → k ≡ partsOf (shape code) a → k ≤ 524287 → q < 64 → pairOf q ≡ settings (λ x. eqb (suc x) (identIn tab)) (headed code a) (settingOf now) → Rowing ws tab m₀ vis₀ found₀ room mode n (set m (8 + d) ((left - 1) * 8 + later)) vis found at k (q % 8) (q / 8) (d - 1)
+  pub row-down : (k q : ℕ) → k ≡ partsOf (shape code) a → k ≤ 524287 → q < 64 → pairOf q ≡ settings (λ x. eqb (suc x) (identIn tab)) (headed code a) (settingOf now) → Rowing ws tab m₀ vis₀ found₀ room mode n (set m (10 + d) ((left - 1) * 8 + later)) vis found at k (q % 8) (q / 8) (d - 1)
   row-down k q e l b p =
       let w = o .levels .le in
       let v = o .levels .low in
@@ -308,23 +311,23 @@ module _ {ws tab m₀ vis₀ found₀ : List ℕ} {room mode n : ℕ} {m vis fou
       let c = o .count in
       let x = (left - 1) * 8 + later in
       let z : room - (d - 1) ≡ suc (room - d) = omega arith in
-      let mine : levelOf (set m (8 + d) x) d ≡ x = getD-set-same m (8 + d) x 0 (omega (arith, o .size)) in
-      let other : (j : ℕ) → d < j → levelOf (set m (8 + d) x) j ≡ levelOf m j = λ j h. getD-set-other m (8 + d) (8 + j) x 0 (λ q. omega arith) in
+      let mine : levelOf (set m (10 + d) x) d ≡ x = getD-set-same m (10 + d) x 0 (omega (arith, o .size)) in
+      let other : (j : ℕ) → d < j → levelOf (set m (10 + d) x) j ≡ levelOf m j = λ j h. getD-set-other m (10 + d) (10 + j) x 0 (λ q. omega arith) in
       record {
         levels = record { le = omega arith; low = v; few = few mine other };
         first = omega arith;
         others = omega arith;
         count = l;
-        size = length-set m (8 + d) x ∙ o .size;
-        stage = rw (set-comm m (8 + d) 0 x at (λ q. omega arith)) (recast _ (leveled d x w (o .stage))
+        size = length-set m (10 + d) x ∙ o .size;
+        stage = rw (set-comm m (10 + d) 0 x at (λ q. omega arith)) (recast _ (leveled d x w (o .stage))
             (λ id s t r. rw (← e, ← p) (bind-each (rowGo (within ws tab mode id (d - 1)) k (pairOf q) t r) _ _
-            (λ y r2. climb-more (within ws tab mode id) (levelOf m) (levelOf (set m (8 + d) x)) d (room - d) (room - (d - 1)) (left - 1) later y r2 z u g mine (λ j h. sym (other j h))))));
+            (λ y r2. climb-more (within ws tab mode id) (levelOf m) (levelOf (set m (10 + d) x)) d (room - d) (room - (d - 1)) (left - 1) later y r2 z u g mine (λ j h. sym (other j h))))));
       }
     where
-      few : levelOf (set m (8 + d) ((left - 1) * 8 + later)) d ≡ (left - 1) * 8 + later → ((j : ℕ) → d < j → levelOf (set m (8 + d) ((left - 1) * 8 + later)) j ≡ levelOf m j) → (i : ℕ) → d - 1 < i → i ≤ room → levelOf (set m (8 + d) ((left - 1) * 8 + later)) i < 4194304
+      few : levelOf (set m (10 + d) ((left - 1) * 8 + later)) d ≡ (left - 1) * 8 + later → ((j : ℕ) → d < j → levelOf (set m (10 + d) ((left - 1) * 8 + later)) j ≡ levelOf m j) → (i : ℕ) → d - 1 < i → i ≤ room → levelOf (set m (10 + d) ((left - 1) * 8 + later)) i < 4194304
       few mine other i h r = go (ltb d i) refl
         where
-          go : (b : Bool) → ltb d i ≡ b → levelOf (set m (8 + d) ((left - 1) * 8 + later)) i < 4194304
+          go : (b : Bool) → ltb d i ≡ b → levelOf (set m (10 + d) ((left - 1) * 8 + later)) i < 4194304
           go true q = rw (other i (ltb-true d i q)) (o .levels .few i (ltb-true d i q) r)
           go false q =
               let e : i ≡ d = omega (arith, ltb-false d i q) in

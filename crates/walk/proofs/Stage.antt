@@ -19,7 +19,7 @@ use Rattle.fused.specs.Fused.{Both, Mode, Go, tailOf, rounds}
 use Rattle.steps.specs.Memory.{atOf, topOf, curOf, lastOf, saidOf, toldOf}
 use Rattle.steps.specs.Hold.{Fit, Holds, Frame, Costs, Ready, Closed}
 use Rattle.steps.proofs.Heads.{closed-fits, closed-frame, closed-stays, closed-holds}
-use Rattle.steps.proofs.Held.{Numbers, unset, store, lower, framed, framed-idle, frame-more}
+use Rattle.steps.proofs.Held.{Numbers, unset, store, recounted, lower, framed, framed-idle, frame-more}
 use Rattle.walk.specs.Goes.{Goer, Comes, Walked}
 
 -- ---- at another word
@@ -38,6 +38,7 @@ module _ (m : List ℕ) (p : ℕ) (size : length m ≡ 64) where
         last = rw (q .last, q .at) (omega (arith, f .last));
         count = rw (q .said, q .told, q .at) (omega (arith, f .count));
         stack = rw (q .top, q .at) (omega (arith, f .stack));
+        needs = rw (q .made, q .taken, q .at) (omega (arith, f .needs));
         within = rw (q .at) w;
         names = f .names;
         room = f .room;
@@ -53,6 +54,8 @@ module _ (m : List ℕ) (p : ℕ) (size : length m ≡ 64) where
         log = rw (q .said) (h .log);
         kinds = rw (q .told) (h .kinds);
         known = rw (q .lost) (h .known);
+        counts = recounted q (h .counts);
+        uses = h .uses;
       }
 
   pub placed-frame : {room : ℕ} {tab vis : List ℕ} → Frame room tab m vis (set m 0 p) vis

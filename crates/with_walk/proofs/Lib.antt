@@ -1,4 +1,5 @@
-pub mod Barrier
-pub mod Rebound
+pub mod Names
 pub mod Seeing
+pub mod Rebound
+pub mod Settling
 pub mod Withs

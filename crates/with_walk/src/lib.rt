@@ -1,89 +1,90 @@
-// WITH: what its projections carry is held, then bound in a new Root, and alone visible. Its sort keys are walked before that, while the names
-// before the WITH are still seen below the pairs.
+// WITH: what its projections carry is held, then bound in a new Root, and alone visible; a star takes each name before it once, in its place on
+// the stack. Sort keys are walked while the names before the WITH are still seen below the pairs, unless a star carries these. No event says what
+// is carried and bound: it is counted.
 use clause_parts::Head;
 use clause_parts::walk_counted;
+use projection_walk::STARRED;
 use projection_walk::walk_filtered;
 use steps::CUR;
 use steps::HELD;
+use steps::MADE;
 use steps::SLOTS;
+use steps::TAKEN;
 use steps::TOP;
-use steps::WANTS;
 use steps::enter;
-use steps::kind_of;
+use steps::is_again;
 use steps::leave;
-use steps::say_wanted;
 use visible::bind;
+use visible::restack;
 ghost use mathlib.Core.Path.{_≡_};
-ghost use mathlib.Core.Bool.{true, false};
-ghost use mathlib.Core.List.{List};
-ghost use Prim.Native.Nat.{ℕ, _+_, _*_, _<_, _≤_};
-ghost use lib.ListN.{length};
+ghost use mathlib.Core.Bool.{true, false, cond};
+ghost use Prim.Native.Nat.{ℕ, _+_, _<_, _≤_};
+ghost use lib.ListN.{length, set};
 ghost use Rattle.words.specs.Words.{words};
-ghost use Rattle.semantics.specs.World.{rowKind};
-ghost use Rattle.semantics.specs.Resolve.{carryAll};
-ghost use Rattle.visible.specs.Visible.{Tabled};
-ghost use Rattle.steps.specs.Memory.{atOf, topOf, heldOf, slotsIn, wantsIn, worldAt};
-ghost use Rattle.steps.specs.Hold.{Ready, Fine, Fits, Costs, onNames};
+ghost use Rattle.semantics.specs.Resolve.{binds};
+ghost use Rattle.visible.specs.Visible.{seens};
+ghost use Rattle.steps.specs.Memory.{topOf, curOf, heldOf, madeOf, takenOf, slotsIn};
+ghost use Rattle.steps.specs.Hold.{Binding, Ready};
 ghost use Rattle.clause_parts.specs.Passes.{Held, Passes};
-ghost use Rattle.projection_walk.specs.Carries.{InNames, pairsIn};
-ghost use Rattle.with_walk.specs.Binds.{BindsAll, Rebinds, SeesAll, withAt};
+ghost use Rattle.projection_walk.specs.Carries.{keptOf};
+ghost use Rattle.with_walk.specs.Binds.{Rebinds, Sees, SeesIn, Spreads, SeenOf, BindsIn, SeesAgainIn, SeesAgain, withAt};
 
-// The barrier carries the pairs, in order.
-fn carry_pairs(s: &[u8], tab: &[u32], m: &mut [u32], vis: &[u32], found: &mut [u32], held: &[u32])
-    requires { ⌜ (heldOf (now m) * 2 ≤ length (now held)) × (Fine (words (now s)) (now tab) × Fits (heldOf (now m)) 0 (words (now s)) (now tab) (now m) (now vis) (now found)) ⌝ }
-    ensures { λ r. ⌜ Costs (heldOf (now (m .entry))) 0 (words (now (s .entry))) (now (tab .entry)) (now (m .entry)) (now (vis .entry)) (now (found .entry)) (now (m .exit)) (now (vis .entry)) (now (found .exit)) (λ id. onNames (carryAll (worldAt (words (now (s .entry))) (now (tab .entry)) id) (pairsIn (heldOf (now (m .entry))) (now (held .entry))))) ⌝ }
+// 1 where the current scope doesn't bind x yet, else 0.
+fn first_of(tab: &[u32], m: &[u32], vis: &[u32], x: u32) -> u32
+    requires { ⌜ Binding (now tab) (now m) (now vis) ⌝ }
+    ensures { λ r. ⌜ (r ≤ 1) × (r ≡ cond (binds (curOf (now (m .entry))) x (seens (slotsIn (now (tab .entry))) (topOf (now (m .entry))) (now (vis .entry)))) 0 1) ⌝ }
+{
+    if is_again(tab, m, vis, x) {
+        return 0;
+    }
+    1
+}
+
+// The pairs that are held are seen in the current scope, without an event; how many of them are the first of their name there.
+fn see_pairs(tab: &[u32], m: &mut [u32], vis: &mut [u32], held: &[u32]) -> u32
+    requires { ⌜ SeesIn (now tab) (now m) (now vis) (now held) ⌝ }
+    ensures { λ r. ⌜ Sees (heldOf (now (m .entry))) (now (tab .entry)) (now (m .entry)) (now (vis .entry)) (now (held .entry)) (now (m .exit)) (now (vis .exit)) r ⌝ }
 {
     let n = m[HELD] as usize;
+    let cur = m[CUR];
     let mut i = 0;
+    let mut made = 0;
     while i < n {
         let k = i * 2;
         let x = held[k];
-        let v = held[k + 1];
-        let cur = m[CUR];
-        say_wanted(tab, m, found, 3, cur, x, v, 0);
+        made += first_of(tab, m, vis, x);
+        let t = bind(vis, tab[SLOTS], m[TOP], x, held[k + 1], cur);
+        m[TOP] = t;
         i += 1;
     }
+    made
 }
 
-// The kind of a variable, where it is wanted.
-fn kind_wanted(s: &[u8], tab: &[u32], v: u32) -> u32
-    requires { ⌜ Fine (words (now s)) (now tab) ⌝ }
-    ensures { λ r. ⌜ (wantsIn (now (tab .entry)) ≡ true → r ≡ rowKind ((worldAt (words (now (s .entry))) (now (tab .entry)) (λ x. x)) .row v)) ⌝ }
+// Where there is a star, each name that is seen is seen once, in the current scope; how many.
+fn spread(tab: &[u32], m: &mut [u32], vis: &mut [u32]) -> u32
+    requires { ⌜ Binding (now tab) (now m) (now vis) ⌝ }
+    ensures { λ r. ⌜ Spreads (now (tab .entry)) (now (m .entry)) (now (vis .entry)) (now (m .exit)) (now (vis .exit)) r ⌝ }
 {
-    if tab[WANTS] == 1 {
-        return kind_of(s, tab, v);
+    if m[STARRED] == 1 {
+        let k = restack(vis, tab[SLOTS], m[TOP], m[CUR]);
+        m[TOP] = k;
+        return k;
     }
     0
 }
 
-// The new Root binds them, with the table's kinds.
-fn bind_pairs(
-    s: &[u8],
-    tab: &[u32],
-    m: &mut [u32],
-    vis: &mut [u32],
-    found: &mut [u32],
-    held: &[u32],
-)
-    requires { ⌜ ((heldOf (now m) * 2 ≤ length (now held)) × (InNames (slotsIn (now tab)) (pairsIn (heldOf (now m)) (now held)) × (slotsIn (now tab) + (topOf (now m) + heldOf (now m)) * 3 ≤ atOf (now m) + 1))) × (Fine (words (now s)) (now tab) × Fits (heldOf (now m)) 0 (words (now s)) (now tab) (now m) (now vis) (now found)) ⌝ }
-    ensures { λ r. ⌜ BindsAll (heldOf (now (m .entry))) (words (now (s .entry))) (now (tab .entry)) (now (m .entry)) (now (vis .entry)) (now (found .entry)) (now (held .entry)) (now (m .exit)) (now (vis .exit)) (now (found .exit)) ⌝ }
+// As many names more are carried as a star has and are held, and as many bindings made as a star has and are first.
+fn count_pairs(m: &mut [u32], star: u32, first: u32)
+    requires { ⌜ (length (now m) ≡ 64) × ((takenOf (now m) + (star + heldOf (now m)) < 4294967296) × (madeOf (now m) + (star + first) < 4294967296)) ⌝ }
+    ensures { λ r. ⌜ now (m .exit) ≡ set (set (now (m .entry)) 9 (takenOf (now (m .entry)) + (star + heldOf (now (m .entry))))) 8 (madeOf (now (m .entry)) + (star + first)) ⌝ }
 {
-    let n = m[HELD] as usize;
-    let mut i = 0;
-    while i < n {
-        let k = i * 2;
-        let x = held[k];
-        let v = held[k + 1];
-        let kind = kind_wanted(s, tab, v);
-        let cur = m[CUR];
-        say_wanted(tab, m, found, 2, cur, x, v, kind);
-        let t = bind(vis, tab[SLOTS], m[TOP], x, v, m[CUR]);
-        m[TOP] = t;
-        i += 1;
-    }
+    let n = m[TAKEN] + (star + m[HELD]);
+    let k = m[MADE] + (star + first);
+    m[TAKEN] = n;
+    m[MADE] = k;
 }
 
-// The pairs that are held are carried by a barrier, and bound in a new Root above the first `top` names that are visible.
+// What was taken is carried by a barrier, and bound in a new Root above the first `top` names that are visible, or with a star in their place.
 fn bind_with(
     s: &[u8],
     tab: &[u32],
@@ -94,31 +95,27 @@ fn bind_with(
     head: Head,
     top: u32,
 )
-    requires { ⌜ ((heldOf (now m) * 2 ≤ length (now held)) × (InNames (slotsIn (now tab)) (pairsIn (heldOf (now m)) (now held)) × ((top ≤ topOf (now m)) × (slotsIn (now tab) + (top + heldOf (now m)) * 3 ≤ atOf (now m))))) × Ready (2 + heldOf (now m) * 2) (words (now s)) (now tab) (now m) (now vis) (now found) ⌝ }
+    requires { ⌜ BindsIn top (now tab) (now m) (now held) × Ready (2 + keptOf (now m)) (words (now s)) (now tab) (now m) (now vis) (now found) ⌝ }
     ensures { λ r. ⌜ Rebinds (words (now (s .entry))) (now (tab .entry)) (now (m .entry)) (now (vis .entry)) (now (found .entry)) (now (held .entry)) (now (m .exit)) (now (vis .exit)) (now (found .exit)) (head .start) (head .end) top ⌝ }
 {
     enter(s, tab, m, vis, found, 7, head.start, head.end);
-    carry_pairs(s, tab, m, vis, found, held);
     enter(s, tab, m, vis, found, 1, head.end, head.end);
     let root = m[CUR];
     leave(tab, m, vis, top, root);
-    bind_pairs(s, tab, m, vis, found, held);
+    let star = spread(tab, m, vis);
+    let first = see_pairs(tab, m, vis, held);
+    count_pairs(m, star, first);
 }
 
-// The pairs that are held are seen in the current scope, without an event.
-fn see_pairs(tab: &[u32], m: &mut [u32], vis: &mut [u32], held: &[u32])
-    requires { ⌜ ((10 ≤ length (now tab)) × ((length (now m) ≡ 64) × (heldOf (now m) * 2 ≤ length (now held)))) × (InNames (slotsIn (now tab)) (pairsIn (heldOf (now m)) (now held)) × (Tabled (slotsIn (now tab)) (topOf (now m)) (now vis) × ((topOf (now m) + heldOf (now m) < 4294967296) × (slotsIn (now tab) + (topOf (now m) + heldOf (now m)) * 4 ≤ length (now vis))))) ⌝ }
-    ensures { λ r. ⌜ ((ws found : List ℕ) → SeesAll (heldOf (now (m .entry))) ws (now (tab .entry)) (now (m .entry)) (now (vis .entry)) found (now (held .entry)) (now (m .exit)) (now (vis .exit))) ⌝ }
+// How many of the names before are still seen: those a star carries, or the first `top`.
+fn seen_of(m: &[u32], before: u32, top: u32) -> u32
+    requires { ⌜ length (now m) ≡ 64 ⌝ }
+    ensures { λ r. ⌜ SeenOf (now (m .entry)) before top r ⌝ }
 {
-    let n = m[HELD] as usize;
-    let cur = m[CUR];
-    let mut i = 0;
-    while i < n {
-        let k = i * 2;
-        let t = bind(vis, tab[SLOTS], m[TOP], held[k], held[k + 1], cur);
-        m[TOP] = t;
-        i += 1;
+    if m[STARRED] == 1 {
+        return before;
     }
+    top
 }
 
 // WITH.
@@ -135,16 +132,32 @@ pub fn walk_with(
     requires { ⌜ Held (words (now s)) (now tab) (now held) mode × (Ready 3 (words (now s)) (now tab) (now m) (now vis) (now found)) ⌝ }
     ensures { λ r. ⌜ Passes 3 (words (now (s .entry))) (now (tab .entry)) (now (m .entry)) (now (vis .entry)) (now (found .entry)) (now (held .entry)) (now (m .exit)) (now (vis .exit)) (now (found .exit)) (now (held .exit)) (withAt (words (now (s .entry))) (now (tab .entry)) mode false (head .start) (head .end)) r ⌝ }
 {
+    let before = m[TOP];
     m[HELD] = 0;
+    m[STARRED] = 0;
     let r = walk_filtered(s, tab, m, vis, found, held, mode);
     if r != 0 {
         return r;
     }
-    bind_with(s, tab, m, vis, found, held, head, 0);
+    let top = seen_of(m, before, 0);
+    bind_with(s, tab, m, vis, found, held, head, top);
     0
 }
 
-// WITH and sort keys, which see the pairs in the new Root, and below them the names before.
+// After the keys the pairs alone are seen: those of a star are still there, and the others too.
+fn see_again(tab: &[u32], m: &mut [u32], vis: &mut [u32], held: &[u32], height: u32, root: u32)
+    requires { ⌜ SeesAgainIn height (now tab) (now m) (now vis) (now held) ⌝ }
+    ensures { λ r. ⌜ SeesAgain height root (now (tab .entry)) (now (m .entry)) (now (vis .entry)) (now (held .entry)) (now (m .exit)) (now (vis .exit)) ⌝ }
+{
+    if m[STARRED] == 1 {
+        leave(tab, m, vis, height, root);
+        return;
+    }
+    leave(tab, m, vis, 0, root);
+    see_pairs(tab, m, vis, held);
+}
+
+// WITH and sort keys, which see the pairs in the new Root, and below them the names before, unless a star carries these.
 pub fn walk_sorted_with(
     s: &[u8],
     tab: &[u32],
@@ -160,17 +173,18 @@ pub fn walk_sorted_with(
 {
     let top = m[TOP];
     m[HELD] = 0;
+    m[STARRED] = 0;
     let r = walk_filtered(s, tab, m, vis, found, held, mode);
     if r != 0 {
         return r;
     }
     bind_with(s, tab, m, vis, found, held, head, top);
     let root = m[CUR];
+    let height = m[TOP];
     let q = walk_counted(s, tab, m, vis, found, mode);
     if q != 0 {
         return q;
     }
-    leave(tab, m, vis, 0, root);
-    see_pairs(tab, m, vis, held);
+    see_again(tab, m, vis, held, height, root);
     0
 }

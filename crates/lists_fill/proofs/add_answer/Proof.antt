@@ -4,7 +4,7 @@ use mathlib.Core.Path.{refl}
 use Rattle.semantics.specs.Log.{found, missing}
 use Rattle.semantics.specs.Lists.{notes}
 use Rattle.lists_fill.specs.Said.{idIn}
-use Rattle.lists_fill.proofs.Adding.{none-added}
+use Rattle.entries.proofs.Adding.{none-added}
 use Rattle.lists_fill.proofs.Sorts.{no-answer, one-var, one-missing, one-found}
 use Rattle.lists_fill.proofs.add_answer.Statement.{statement}
 use Rattle.lists_fill.proofs.add_answer.Tie as tie

@@ -2,7 +2,7 @@
 use native.Mathlib.Omega.{arith}
 use mathlib.Core.Logic.{⊎-elim}
 use borrow.Author.Needs.{needs}
-use Rattle.lists_fill.proofs.Adding.{none-after}
+use Rattle.entries.proofs.Adding.{none-after}
 use Rattle.lists_fill.proofs.Sorts.{no-finding, one-finding}
 use Rattle.lists_fill.proofs.add_finding.Statement.{statement}
 use Rattle.lists_fill.proofs.add_finding.Tie as tie

@@ -2,7 +2,7 @@
 use native.Mathlib.Omega.{arith}
 use borrow.Author.Needs.{needs}
 use lib.ListN.{length-set}
-use Rattle.lists_fill.proofs.Adding.{none-after}
+use Rattle.entries.proofs.Adding.{none-after}
 use Rattle.lists_fill.proofs.Sorts.{no-scope, one-scope}
 use Rattle.lists_fill.proofs.add_scope.Statement.{statement}
 use Rattle.lists_fill.proofs.add_scope.Tie as tie

@@ -6,7 +6,7 @@ use lib.ListN.{length}
 use Rattle.steps.specs.Memory.{findings}
 use Rattle.finding.specs.Flat.{findingWords}
 use Rattle.lists_fill.specs.Said.{toldIn}
-use Rattle.lists_fill.specs.Adding.{after}
+use Rattle.entries.specs.Adding.{after}
 use Rattle.lists_fill.proofs.Adding.{Loop, begin, turn, finish, told-after}
 use Rattle.lists_fill.proofs.Sorts.{one-told}
 use Rattle.lists_fill.proofs.append_findings.Statement.{statement}

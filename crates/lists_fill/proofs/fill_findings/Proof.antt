@@ -6,8 +6,9 @@ use Rattle.semantics.specs.Log.{findOf, findsIn}
 use Rattle.steps.specs.Memory.{events}
 use Rattle.finding.specs.Flat.{findingWords}
 use Rattle.lists_fill.specs.Said.{eventsIn}
-use Rattle.lists_fill.specs.Adding.{after}
-use Rattle.lists_fill.proofs.Adding.{Loop, begin, turn, finish, from-none, next-after}
+use Rattle.entries.specs.Adding.{after}
+use Rattle.entries.proofs.Adding.{from-none}
+use Rattle.lists_fill.proofs.Adding.{Loop, begin, turn, finish, next-after}
 use Rattle.lists_fill.proofs.fill_findings.Statement.{statement}
 use Rattle.lists_fill.proofs.fill_findings.Tie as tie
 

@@ -6,9 +6,10 @@ use mathlib.Core.Path.{refl}
 use Rattle.semantics.specs.Log.{answersIn}
 use Rattle.semantics.specs.Lists.{notes}
 use Rattle.steps.specs.Memory.{events}
-use Rattle.lists_fill.specs.Filled.{recordedWords}
+use Rattle.entries.specs.Filled.{recordedWords}
 use Rattle.lists_fill.specs.Said.{idIn, eventsIn}
-use Rattle.lists_fill.proofs.Adding.{Loop, begin, turn, finish, from-none, next-answer}
+use Rattle.entries.proofs.Adding.{from-none}
+use Rattle.lists_fill.proofs.Adding.{Loop, begin, turn, finish, next-answer}
 use Rattle.lists_fill.proofs.fill_recorded.Statement.{statement}
 use Rattle.lists_fill.proofs.fill_recorded.Tie as tie
 

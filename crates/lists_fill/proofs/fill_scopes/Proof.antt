@@ -4,10 +4,11 @@ use native.Mathlib.Omega.{arith}
 use mathlib.Core.List.{flatMap, append-nil}
 use Rattle.semantics.specs.Log.{scopeOf, scopesIn}
 use Rattle.steps.specs.Memory.{events}
-use Rattle.lists_fill.specs.Filled.{scopeWords}
+use Rattle.entries.specs.Filled.{scopeWords}
 use Rattle.lists_fill.specs.Said.{eventsIn}
-use Rattle.lists_fill.specs.Adding.{after}
-use Rattle.lists_fill.proofs.Adding.{Loop, begin, turn, finish, from-none, next-after}
+use Rattle.entries.specs.Adding.{after}
+use Rattle.entries.proofs.Adding.{from-none}
+use Rattle.lists_fill.proofs.Adding.{Loop, begin, turn, finish, next-after}
 use Rattle.lists_fill.proofs.fill_scopes.Statement.{statement}
 use Rattle.lists_fill.proofs.fill_scopes.Tie as tie
 

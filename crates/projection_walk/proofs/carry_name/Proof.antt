@@ -1,38 +1,27 @@
--- A visible name is recorded, and held if it has no alias; any other is used.
+-- An unaliased star is used and kept in mind; any other name goes on.
 use borrow.Author.Needs.{needs}
+use mathlib.Core.Logic.{⊎-elim}
 use native.Mathlib.Omega.{arith}
-use Rattle.heads.proofs.Chain.{fact}
-use Rattle.semantics.specs.Resolve.{lookup}
 use Rattle.semantics.specs.World.{aName}
 use Rattle.steps.proofs.Held.{ready-less}
-use Rattle.steps.specs.Memory.{topOf, slotsIn}
-use Rattle.visible.specs.Visible.{seens, scopeOf}
 use Rattle.words.specs.Words.{words}
-use Rattle.projection_walk.proofs.Carrying.{adds-pair, adds-none, looked, unlooked, name-found, name-carried, name-missing, name-aliased}
+use Rattle.projection_walk.proofs.Carrying.{adds-star, name-all}
 use Rattle.projection_walk.proofs.carry_name.Statement.{statement}
 use Rattle.projection_walk.proofs.carry_name.Tie as tie
 
 pub carry-name-spec : {M : Type 1} → statement M
 carry-name-spec =
-    let seen = fact (λ (k : tie.After-known-told). let a = k .before .before .before .before .before .before .before .before .before .before .before .before .args in looked (lookup (a .x) (seens (slotsIn (a .tab .now)) (topOf (a .m .now)) (a .vis .now))) (scopeOf (a .x) (seens (slotsIn (a .tab .now)) (topOf (a .m .now)) (a .vis .now))) (k .before .before .before .find .ensures) (k .before .v .given .1)) in
-    let unseen = fact (λ (k : tie.After-enum-told). let a = k .before .before .before .before .before .before .before .before .before .before .before .args in unlooked (lookup (a .x) (seens (slotsIn (a .tab .now)) (topOf (a .m .now)) (a .vis .now))) (scopeOf (a .x) (seens (slotsIn (a .tab .now)) (topOf (a .m .now)) (a .vis .now))) (k .before .before .find .ensures) (k .enum-told .given .1)) in
     tie.close
     (tie.spec
-    (λ c. search needs)  -- shared-slice-read-find
-    (λ c. search needs)  -- slice-read-find
-    (λ c κs. search needs)  -- find-requires
-    (λ c. search needs)  -- enum-known-v
-    (λ c κs. ready-less (omega arith) (c .before .before .before .before .before .before .before .before .before .before .before .before .before .before .pre .1 .1))  -- record-name-requires
-    (λ c κs. search needs)  -- keep-requires
-    (λ c. search needs)  -- enum-told
-    (λ c κs. (c .before .before .before .before .before .before .before .before .before .before .before .before .before .pre .0, ready-less (omega arith) (c .before .before .before .before .before .before .before .before .before .before .before .before .before .pre .1 .1)))  -- use-name-requires
+    (λ c. search needs)  -- add-if2
+    (λ c. search needs)  -- shared-slice-read-if2
+    (λ c κs. (c .before .before .before .before .before .before .before .before .before .before .before .pre .0 .1, ready-less (omega arith) (c .before .before .before .before .before .before .before .before .before .before .before .pre .1 .1)))  -- use-name-requires
+    (λ c. search needs)  -- slice-write-m
     (λ c. search needs)  -- same-length
     (λ c. search needs)  -- same-length-2
+    (λ c. adds-star (c .before .before .before .before .before .before .before .before .before .before .before .before .before .before .before .before .args .alias) (aName (c .before .before .before .before .before .before .before .before .before .before .before .before .before .before .before .before .args .x)) (c .before .before .before .before .before .before .before .before .before .before .before .before .before .before .before .before .pre .1 .1 .fit .size) (c .before .before .before .before .use-name .ensures) (name-all (words (c .before .before .before .before .before .before .before .before .before .before .before .before .before .before .before .before .args .s .now)) (c .before .before .before .before .before .before .before .before .before .before .before .before .before .before .before .before .args .x) (c .before .before .before .before .before .before .before .before .before .before .before .before .before .before .before .before .args .alias) (c .before .before .before .before .before .before .before .before .before .if1 .taken) (c .before .before .before .before .before .before .before .if2 .taken)))  -- returns
+    (λ c κs. ((λ e q. ⊎-elim (λ w. w .2 .left (omega (arith, q))) (λ w. w .left e) (c .before .before .before .if1 .came), c .before .before .before .before .before .before .before .before .before .before .pre .0), c .before .before .before .before .before .before .before .before .before .before .pre .1))  -- carry-seen-requires
     (λ c. search needs)  -- same-length-3
-    (λ c. adds-pair (c .before .before .before .before .before .before .before .before .before .before .before .before .before .before .before .before .before .before .before .before .before .before .before .before .before .before .before .args .alias) (aName (c .before .before .before .before .before .before .before .before .before .before .before .before .before .before .before .before .before .before .before .before .before .before .before .before .before .before .before .args .x)) (c .before .before .before .before .before .before .before .before .before .before .before .before .before .before .before .before .before .before .before .before .before .before .before .before .before .before .before .pre .1 .1 .fit .size) (c .before .before .before .before .before .before .before .before .before .before .before .before .before .before .before .before .before .before .before .before .before .before .before .before .before .before .before .pre .0) (name-found _ (c .before .before .before .before .before .before .before .before .before .before .before .before .before .before .before .before .before .before .before .before .before .before .before .before .before .before .before .args .x) (seen (c .before .before .before .before .before .before .before .before .before .before .before .before .before .before .before)) (c .before .before .before .before .before .before .before .before .before .before .before .before .before .before .before .before .before .before .before .before .before .before .before .before .before .before .before .pre .1 .0 .unmarked (c .before .before .before .before .before .before .before .before .before .before .before .before .before .before .before .before .before .before .before .before .before .before .before .before .before .before .before .args .x)) (c .before .before .before .before .before .before .before .before .before .before .before .before .record-name .ensures)) (c .before .before .before .before .keep .ensures) (name-carried (words (c .before .before .before .before .before .before .before .before .before .before .before .before .before .before .before .before .before .before .before .before .before .before .before .before .before .before .before .args .s .now)) (c .before .before .before .before .before .before .before .before .before .before .before .before .before .before .before .before .before .before .before .before .before .before .before .before .before .before .before .args .x) (seen (c .before .before .before .before .before .before .before .before .before .before .before .before .before .before .before)) (c .before .before .before .before .before .before .before .before .before .before .before .before .before .before .before .before .before .before .before .before .before .before .before .before .before .before .before .args .alias) (c .before .before .before .before .before .before .before .if1 .taken)))  -- returns
     (λ c. search needs)  -- same-length-4
     (λ c. search needs)  -- same-length-5
-    (λ c. adds-none (c .before .before .before .before .before .before .before .before .before .before .before .before .before .before .before .before .before .before .before .before .args .alias) (aName (c .before .before .before .before .before .before .before .before .before .before .before .before .before .before .before .before .before .before .before .before .args .x)) (c .before .before .before .before .before .before .before .before .before .before .before .before .before .before .before .before .before .before .before .before .pre .1 .1 .fit .size) (omega arith) (name-found _ (c .before .before .before .before .before .before .before .before .before .before .before .before .before .before .before .before .before .before .before .before .args .x) (seen (c .before .before .before .before .before .before .before .before)) (c .before .before .before .before .before .before .before .before .before .before .before .before .before .before .before .before .before .before .before .before .pre .1 .0 .unmarked (c .before .before .before .before .before .before .before .before .before .before .before .before .before .before .before .before .before .before .before .before .args .x)) (c .before .before .before .before .before .record-name .ensures)) (λ id s h. name-aliased _ _ _ _ (c .if1 .left)))  -- returns-2
-    (λ c. search needs)  -- same-length-6
-    (λ c. search needs)  -- same-length-7
-    (λ c. adds-none (c .before .before .before .before .before .before .before .before .before .before .before .before .before .before .before .before .before .before .args .alias) (aName (c .before .before .before .before .before .before .before .before .before .before .before .before .before .before .before .before .before .before .args .x)) (c .before .before .before .before .before .before .before .before .before .before .before .before .before .before .before .before .before .before .pre .1 .1 .fit .size) (omega arith) (c .before .before .before .before .use-name .ensures) (name-missing (words (c .before .before .before .before .before .before .before .before .before .before .before .before .before .before .before .before .before .before .args .s .now)) (c .before .before .before .before .before .before .before .before .before .before .before .before .before .before .before .before .before .before .args .x) (c .before .before .before .before .before .before .before .before .before .before .before .before .before .before .before .before .before .before .args .alias) (unseen (c .before .before .before .before .before .before .before)))))  -- returns-3
+    (λ c. search needs))  -- returns-2

@@ -19,7 +19,7 @@ walk-projection-spec =
     (λ c. search needs)  -- enum-told
     (λ c. search needs)  -- same-length
     (λ c. alias-refused (c .before .before .before .before .before .before .before .before .before .before .before .before .before .args .mode) (c .before .before .before .before .next-word .ensures) (c .enum-told .given .1))  -- returns
-    (λ c κs. (omega (arith, in-range (c .before .before .before .before .before .before .before .before .before .next-word .ensures) (c .before .before .before .before .before .alias .given .1) .1, c .before .before .before .before .before .before .before .before .before .before .before .before .before .before .before .before .before .before .pre .1 .1 .fine .places), (c .before .before .before .before .before .before .before .before .before .before .before .before .before .before .before .before .before .before .pre .0, (word-holding (c .before .before .before .before .before .before .before .before .before .before .before .before .before .before .before .before .before .before .pre .1 .1 .fit .size) (c .before .before .before .before .before .before .before .before .before .next-word .ensures) (c .before .before .before .before .before .alias .given .1) (omega arith) (c .before .before .before .before .before .before .before .before .before .before .before .before .before .before .before .before .before .before .pre .1 .0), word-ready (c .before .before .before .before .before .before .before .before .before .next-word .ensures) (c .before .before .before .before .before .alias .given .1) (omega arith) (c .before .before .before .before .before .before .before .before .before .before .before .before .before .before .before .before .before .before .pre .1 .1)))))  -- walk-carried-requires
+    (λ c κs. (omega (arith, in-range (c .before .before .before .before .before .before .before .before .before .next-word .ensures) (c .before .before .before .before .before .alias .given .1) .1), (c .before .before .before .before .before .before .before .before .before .before .before .before .before .before .before .before .before .before .pre .0, (word-holding (c .before .before .before .before .before .before .before .before .before .before .before .before .before .before .before .before .before .before .pre .1 .1 .fit .size) (c .before .before .before .before .before .before .before .before .before .next-word .ensures) (c .before .before .before .before .before .alias .given .1) (omega arith) (c .before .before .before .before .before .before .before .before .before .before .before .before .before .before .before .before .before .before .pre .1 .0), word-ready (c .before .before .before .before .before .before .before .before .before .next-word .ensures) (c .before .before .before .before .before .alias .given .1) (omega arith) (c .before .before .before .before .before .before .before .before .before .before .before .before .before .before .before .before .before .before .pre .1 .1)))))  -- walk-carried-requires
     (λ c. search needs)  -- same-length-2
     (λ c. search needs)  -- same-length-3
     (λ c. search needs)  -- same-length-4

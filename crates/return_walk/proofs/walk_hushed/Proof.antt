@@ -12,7 +12,7 @@ walk-hushed-spec =
     (tie.spec
     (λ c κs. search needs)  -- mark-requires
     (λ c κs. let p = c .before .before .before .before .before .before .before .before .before .before .before .before .before .before .pre in hushed-ready (c .before .before .before .before .before .before .mark .ensures) (p .0 .1 .1) (p .1))  -- walk-counted-requires
-    (λ c κs. let p = c .before .before .before .before .before .before .before .before .before .before .before .before .before .before .before .before .before .before .before .before .before .before .pre in (p .0 .1 .0, marks-again (c .before .before .before .before .before .before .before .before .before .before .before .before .before .before .mark .ensures) (p .0 .1 .1) (p .1 .fine .long)))  -- mark-requires-2
+    (λ c κs. let p = c .before .before .before .before .before .before .before .before .before .before .before .before .before .before .before .before .before .before .before .before .before .before .pre in (p .0 .1 .0, marks-again (c .before .before .before .before .before .before .before .before .before .before .before .before .before .before .mark .ensures) (p .0 .1 .1) (omega (arith, p .1 .fine .long))))  -- mark-requires-2
     (λ c. search needs)  -- same-length
     (λ c. search needs)  -- same-length-2
     (λ c. search needs)  -- same-length-3

@@ -40,7 +40,7 @@ walk-keyed-spec =
     (λ c. stopped c .wrote)  -- same-length-3
     (λ c. c .before .before .before .before .before .before .before .before .loop .inv .kept)  -- same-length-4
     (λ c. (refl, (c .before .before .before .before .before .before .before .before .loop .inv .kept, stopped c)))  -- returns
-    (λ c κs. hold-asks (c .before .before .before .before .before .before .before .before .before .before .loop .inv) (c .before .before .before .before .before .before .before .before .before .loop-test .taken) (c .before .before .before .before .before .before .next-word .ensures) (c .before .before .a .given .1) (c .before .before .before .before .before .before .before .before .before .before .before .before .before .before .before .before .before .pre .1) (c .before .before .before .before .before .before .before .before .before .before .before .before .before .before .before .before .before .pre .0 .room))  -- hold-requires
+    (λ c κs. hold-asks (c .before .before .before .before .before .before .before .before .before .before .loop .inv) (c .before .before .before .before .before .before .before .before .before .loop-test .taken) (c .before .before .before .before .before .before .next-word .ensures) (c .before .before .a .given .1) (c .before .before .before .before .before .before .before .before .before .before .before .before .before .before .before .before .before .pre .1) (omega (arith, c .before .before .before .before .before .before .before .before .before .before .before .before .before .before .before .before .before .pre .0 .room)))  -- hold-requires
     (λ c. search needs)  -- mul-walk-expr
     (λ c κs. (omega arith, expr-ready (c .before .before .before .before .before .before .before .before .before .before .before .before .before .before .before .before .before .loop .inv) (c .before .before .before .before .before .before .before .before .before .before .before .before .before .before .before .before .loop-test .taken) (c .before .before .before .before .before .before .before .before .before .before .before .before .before .next-word .ensures) (c .before .before .before .before .before .before .before .before .before .a .given .1) (c .before .before .before .before .before .before .before .before .before .before .before .before .before .before .before .before .before .before .before .before .before .before .before .before .pre .1)))  -- walk-expr-requires
     (λ c. refl)  -- same-length-5
@@ -52,7 +52,7 @@ walk-keyed-spec =
     (λ c. omega (arith, (c .before .before .before .before .before .before .before .before .before .before .before .before .before .before .before .before .before .before .before .before .before .before .before .before .loop-test .taken)))  -- sub-left
     (λ c. omega (arith, (c .before .before .before .before .before .before .before .before .before .before .before .before .before .before .before .before .before .before .before .before .before .before .before .before .loop-test .taken)))  -- loop-less
     (λ c. turned (c .before .before .before .before .before .before .before .before .before .before .before .before .before .before .before .before .before .before .before .before .before .before .before .before .before .loop .inv) (c .before .before .before .before .before .before .before .before .before .before .before .before .before .before .before .before .before .before .before .before .before .before .before .before .loop-test .taken) (c .before .before .before .before .before .before .before .before .before .before .before .before .before .before .before .before .before .before .before .before .before .next-word .ensures) (c .before .before .before .before .before .before .before .before .before .before .before .before .before .before .before .before .before .a .given .1) (c .before .before .before .before .before .before .before .walk-expr .ensures) (c .before .before .before .before .before .before .before .before .before .before .before .before .before .before .hold .ensures) (c .if1 .left) (c .before .before .before .before .before .before .before .before .before .before .before .before .before .before .before .before .before .before .before .before .before .before .before .before .before .before .before .before .before .before .before .before .pre .1 .fine .places))  -- loop-again
-    (λ c κs. ((still-held (c .before .before .before .before .before .before .loop .inv .kept) (c .before .before .before .before .before .before .before .before .before .before .before .before .before .pre .0), keys-ask (c .before .before .before .before .before .before .loop .inv) (c .before .before .before .before .before .before .before .before .before .before .before .before .before .pre .1) (c .before .before .before .before .before .before .before .before .before .before .before .before .before .pre .0 .room)), ready (omega arith) (c .before .before .before .before .before .before .before .before .before .before .before .before .before .pre .1) (keys (c .before .before .before .before .before))))  -- walk-hushed-requires
+    (λ c κs. ((still-held (c .before .before .before .before .before .before .loop .inv .kept) (c .before .before .before .before .before .before .before .before .before .before .before .before .before .pre .0), keys-ask (c .before .before .before .before .before .before .loop .inv) (c .before .before .before .before .before .before .before .before .before .before .before .before .before .pre .1) (omega (arith, c .before .before .before .before .before .before .before .before .before .before .before .before .before .pre .0 .room))), ready (omega arith) (c .before .before .before .before .before .before .before .before .before .before .before .before .before .pre .1) (keys (c .before .before .before .before .before))))  -- walk-hushed-requires
     (λ c. ap length (c .before .before .before .before .before .before .before .before .walk-hushed .ensures .0))  -- same-length-10
     (λ c. done (c .before .before .before .before .before .before .before .before) .sized)  -- same-length-11
     (λ c. done (c .before .before .before .before .before .before .before .before) .seen)  -- same-length-12

@@ -17,6 +17,6 @@ bind-new-spec =
     (λ c. search needs)  -- same-length
     (λ c. search needs)  -- same-length-2
     (λ c. search needs)  -- same-length-3
-    (λ c. let p = c .before .before .before .before .before .before .before .before .before .before .before .before .before .before .before .before .before .before .pre in rw (eq-eqb _ _ (c .before .before .before .before .before .before .before .before .before .before .before .before .if1 .taken)) (new-bound _ (zero-unseen (p .1 .fit .tabled) (p .0) (c .before .before .before .before .before .before .before .before .before .before .if2 .taken)) (c .before .before .before .before .before .before .bind-name .ensures)))  -- returns
+    (λ c. let p = c .before .before .before .before .before .before .before .before .before .before .before .before .before .before .before .before .before .before .pre in rw (eq-eqb _ _ (c .before .before .before .before .before .before .before .before .before .before .before .before .if1 .taken)) (new-bound _ (zero-unseen (p .1 .fit .tabled) (p .0) (c .before .before .before .before .before .before .before .before .before .before .if2 .taken)) (c .before .before .before .before .before .before .bind-name .ensures .costs)))  -- returns
     (λ c. let p = c .before .before .before .before .before .before .before .before .pre in rw (eq-eqb _ _ (c .before .before .if1 .taken)) (new-idle _ _ _ (p .1 .fit .tabled) (p .0) (c .if2 .left)))  -- returns-2
     (λ c. rw (ne-eqb _ _ (c .if1 .left)) (idle-step _ (λ id s h. h))))  -- returns-3

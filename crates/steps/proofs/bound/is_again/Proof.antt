@@ -1,6 +1,5 @@
 -- Scopes do not rise from the newest entry to the oldest, so the newest entry of the name tells (`newest-binds`).
 use borrow.Author.Needs.{needs}
-use borrow.Author.Tests.{eq-eqb, ne-eqb}
 use mathlib.Core.Path.{ap, sym, _∙_}
 use Rattle.visible.specs.Visible.{isOf}
 use Rattle.visible.proofs.Names.{newest-binds}
@@ -11,13 +10,11 @@ pub is-again-spec : {M : Type 1} → statement M
 is-again-spec =
     tie.close
     (tie.spec
-    (λ c. search needs)  -- shared-slice-read-if1
     (λ c. search needs)  -- shared-slice-read-find
     (λ c. search needs)  -- shared-slice-read-find-2
     (λ c κs. search needs)  -- find-requires
     (λ c. search needs)  -- enum-known-scope
     (λ c. search needs)  -- shared-slice-read-result
     (λ c. search needs)  -- enum-told
-    (λ c. rw (eq-eqb _ _ (c .before .before .before .before .before .before .before .if1 .taken)) (ap (isOf _) (sym (c .before .before .scope .given .1) ∙ c .before .before .before .before .find .ensures) ∙ newest-binds _ _ _ (c .before .before .before .before .before .before .before .before .before .before .before .before .pre .1 .1 .1)))  -- returns
-    (λ c. rw (eq-eqb _ _ (c .before .before .before .before .before .if1 .taken)) (ap (isOf _) (sym (c .enum-told .given .1) ∙ c .before .before .find .ensures) ∙ newest-binds _ _ _ (c .before .before .before .before .before .before .before .before .before .before .pre .1 .1 .1)))  -- returns-2
-    (λ c. rw (ne-eqb _ _ (c .if1 .left))))  -- returns-3
+    (λ c. ap (isOf _) (sym (c .before .before .scope .given .1) ∙ c .before .before .before .before .find .ensures) ∙ newest-binds _ _ _ (c .before .before .before .before .before .before .before .before .before .before .pre .descends))  -- returns
+    (λ c. ap (isOf _) (sym (c .enum-told .given .1) ∙ c .before .before .find .ensures) ∙ newest-binds _ _ _ (c .before .before .before .before .before .before .before .before .pre .descends)))  -- returns-2

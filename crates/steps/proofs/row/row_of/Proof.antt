@@ -1,5 +1,5 @@
 -- The chain gives the row's number (`find_row`), and its words are the table's (`row-shown`, `row-range`).
-use Prim.Native.Nat.{_+_}
+use Prim.Native.Nat.{_+_, _*_}
 use borrow.Author.Needs.{needs}
 use Rattle.steps.specs.Memory.{slotsIn}
 use Rattle.steps.proofs.Shown.{all-chains, row-near, row-shown, row-range}
@@ -14,6 +14,7 @@ row-of-spec =
     (λ c. search needs)  -- cast-rows
     (λ c. search needs)  -- shared-slice-read-chains
     (λ c. search needs)  -- cast-chains
+    (λ c. search needs)  -- mul-chains
     (λ c. search needs)  -- add-chains
     (λ c. search needs)  -- mul-find-row
     (λ c. search needs)  -- sub-find-row
@@ -22,7 +23,7 @@ row-of-spec =
     (λ c. search needs)  -- shared-slice-read-find-row
     (λ c. search needs)  -- shared-slice-read-find-row-2
     (λ c. search needs)  -- shared-slice-read-find-row-3
-    (λ c κs. let s = c .before .before .before .before .before .before .before .before in (s .pre .rows, rw (all-chains (16 + slotsIn (s .args .tab .now)) (s .args .tab .now)) (s .pre .hung)))  -- find-row-requires
+    (λ c κs. let s = c .before .before .before .before .before .before .before .before in (s .pre .rows, rw (all-chains (16 + slotsIn (s .args .tab .now) * 2) (s .args .tab .now)) (s .pre .hung)))  -- find-row-requires
     (λ c. (tt, rw (← (c .before .find-row .ensures), c .if1 .taken)))  -- returns
     (λ c. search needs)  -- sub-p
     (λ c. search needs)  -- cast-p

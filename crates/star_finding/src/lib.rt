@@ -1,1 +1,0 @@
-// Findings as flat words. No function stands here: the definition is in specs/Flat.

@@ -1,3 +1,0 @@
-pub mod Fused
-pub mod Clauses
-pub mod Sheet

@@ -1,3 +1,0 @@
-pub mod Adding
-pub mod Sorts
-pub mod Weaving

@@ -1,3 +1,0 @@
-pub mod Said
-pub mod Adding
-pub mod Weaving

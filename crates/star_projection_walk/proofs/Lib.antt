@@ -1,4 +1,0 @@
-pub mod Carrying
-pub mod Chained
-pub mod Projected
-pub mod Filters

@@ -1,4 +1,0 @@
-pub mod Returned
-pub mod Marking
-pub mod Hushed
-pub mod Sorted

@@ -1,5 +1,0 @@
-pub mod Spread
-pub mod Chains
-pub mod Hanging
-pub mod Ids
-pub mod Found

@@ -1,1 +1,0 @@
-// What a statement's answers are. No function stands here: the definitions are in specs/, with small statements computed (Cases).

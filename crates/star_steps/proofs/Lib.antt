@@ -1,6 +1,0 @@
-pub mod Held
-pub mod Stored
-pub mod Moved
-pub mod Heads
-pub mod Placed
-pub mod Shown

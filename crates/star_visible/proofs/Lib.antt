@@ -1,4 +1,0 @@
-pub mod Places
-pub mod Names
-pub mod Once
-pub mod Halves
