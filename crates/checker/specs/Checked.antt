@@ -1,7 +1,7 @@
 -- What the check call answers and leaves, for any sheet, warning choice and lists (document 01, "What comes out"; causes 1 to 8).
 use Prim.Native.Nat.{ℕ}
 use mathlib.Core.Path.{_≡_}
-use mathlib.Core.Bool.{Bool, true, false, _&&_}
+use mathlib.Core.Bool.{Bool, cond, _&&_}
 use mathlib.Core.List.{List}
 use lib.Dec.{leb}
 use lib.ListN.{length}
@@ -9,7 +9,7 @@ use Rattle.words.specs.Words.{words}
 use Rattle.sheet.specs.Statement.{Statement}
 use Rattle.sheet.specs.Read.{Sheet, accepted, refused, readSheet}
 use Rattle.semantics.specs.Lists.{scopes, bindings, carriedList, recorded, findings}
-use Rattle.lists_fill.specs.Filled.{withScopes, withBindings, withCarried, withRecorded, withFindings}
+use Rattle.entries.specs.Filled.{withScopes, withBindings, withCarried, withRecorded, withFindings}
 use Rattle.checker.specs.Room.{enough}
 use Rattle.checker.specs.declared.Counts.{Counts}
 use Rattle.checker.specs.declared.Checked.{Checked}
@@ -26,12 +26,21 @@ pub record Lent : Type 0 where
 abbrev pub lent : (scopes bindings carried recorded findings : List ℕ) → Lent
 lent a b c d e = record { scopes = a; bindings = b; carried = c; recorded = d; findings = e }
 
--- cause 8: "a lent list with fewer entries than the sheet has words"
-unfoldable pub roomy : ℕ → Lent → Bool
+-- room in each list for so many entries
+unfoldable pub roomy : Counts → Lent → Bool
 roomy n l =
-    enough n (length (l .scopes)) 4
-    && (enough n (length (l .bindings)) 6
-    && (enough n (length (l .carried)) 3 && (enough n (length (l .recorded)) 5 && enough n (length (l .findings)) 6)))
+    enough (n .scopes) (length (l .scopes)) 4
+    && (enough (n .bindings) (length (l .bindings)) 6
+    && (enough (n .carried) (length (l .carried)) 3 && (enough (n .recorded) (length (l .recorded)) 5 && enough (n .findings) (length (l .findings)) 6)))
+
+-- an entry for each of n words
+unfoldable pub each : ℕ → Counts
+each n = record { scopes = n; bindings = n; carried = n; recorded = n; findings = n }
+
+-- cause 8 is not: every list has as many entries as the sheet has words, and as many as the answer needs; and so has one of `room` entries,
+-- where the findings go on to
+unfoldable pub fits : ℕ → Counts → Lent → ℕ → Bool
+fits n need l room = (roomy (each n) l && leb n room) && (roomy need l && leb (need .findings) room)
 
 module _ (warns : Bool) where
   -- "Five lists with counts"
@@ -57,23 +66,21 @@ module _ (warns : Bool) where
       }
 
   -- the answer: the counts, or the first cause, 8 after the others
-  unfoldable pub answer : Sheet Statement → Bool → Checked
-  answer (refused c) room = checked.Refused c
-  answer (accepted st) false = checked.Refused 8
-  answer (accepted st) true = checked.Is (countsOf st)
+  unfoldable pub answer : Sheet Statement → (Counts → Bool) → Checked
+  answer (refused c) fit = checked.Refused c
+  answer (accepted st) fit = cond (fit (countsOf st)) (checked.Is (countsOf st)) (checked.Refused 8)
 
   -- the lists: filled, or "a refusal alters nothing"
-  unfoldable pub left : Sheet Statement → Bool → Lent → Lent
-  left (refused c) room l = l
-  left (accepted st) false l = l
-  left (accepted st) true l = filledBy st l
+  unfoldable pub left : Sheet Statement → (Counts → Bool) → Lent → Lent
+  left (refused c) fit l = l
+  left (accepted st) fit l = cond (fit (countsOf st)) (filledBy st l) l
 
 -- the same for the bytes of a sheet, whose findings go on into a list of so many entries
 unfoldable pub answerIn : Bool → List ℕ → Lent → ℕ → Checked
-answerIn warns s l room = answer warns (readSheet s) (roomy (length (words s)) l && leb (length (words s)) room)
+answerIn warns s l room = answer warns (readSheet s) (λ need. fits (length (words s)) need l room)
 
 unfoldable pub leftIn : Bool → List ℕ → Lent → ℕ → Lent
-leftIn warns s l room = left warns (readSheet s) (roomy (length (words s)) l && leb (length (words s)) room) l
+leftIn warns s l room = left warns (readSheet s) (λ need. fits (length (words s)) need l room) l
 
 -- how many findings an answer counts
 abbrev pub findingsIn : Checked → ℕ

@@ -1,3 +1,2 @@
 pub mod Rescoped
 pub mod Bodies
-pub mod Rounds

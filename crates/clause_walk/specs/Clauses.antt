@@ -1,4 +1,4 @@
--- What the walk over clauses and arms does.
+-- What the walk over a clause does.
 use Prim.Native.Nat.{ℕ}
 use mathlib.Core.List.{List, [], _∷_}
 use Rattle.scope.specs.Graph.{unwindScope}
@@ -7,7 +7,7 @@ use Rattle.tables.specs.Row.{valueKind}
 use Rattle.semantics.specs.World.{nameOf}
 use Rattle.semantics.specs.Resolve.{enter, bindName}
 use Rattle.fused.specs.Fused.{Both, rounds, step, noting, patternGo}
-use Rattle.fused.specs.Clauses.{within, yieldGo, unwindGo, callGo, markedGo, bodyGo, clauseGo, armGo}
+use Rattle.fused.specs.Clauses.{within, yieldGo, unwindGo, callGo, markedGo, bodyGo, clauseGo}
 use Rattle.steps.specs.Memory.{tablesIn, worldAt, modeOf}
 use Rattle.steps.specs.Hold.{onNames}
 use Rattle.walk.specs.Goes.{Goer}
@@ -32,17 +32,8 @@ module _ (ws tab : List ℕ) (mode : ℕ) where
   abbrev pub bodyAt : (a b kind : ℕ) → Goer
   bodyAt a b kind id = bodyGo (worldAt ws tab id) (tablesIn tab) (modeOf mode) a b kind
 
-  abbrev pub clausesAt : ℕ → Goer
-  clausesAt n id = rounds n (clauseGo (worldAt ws tab id) (tablesIn tab) (modeOf mode))
-
   abbrev pub clauseAt : Goer
   clauseAt id = clauseGo (worldAt ws tab id) (tablesIn tab) (modeOf mode)
-
-  abbrev pub armAt : Goer
-  armAt id = armGo (worldAt ws tab id) (tablesIn tab) (modeOf mode)
-
-  abbrev pub armsAt : ℕ → Goer
-  armsAt n id = rounds n (armAt id)
 
 -- A yield is bound, and an Unwind's variable, whether or not kinds are checked.
 module _ (ws tab : List ℕ) (a b : ℕ) where

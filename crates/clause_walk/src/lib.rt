@@ -1,4 +1,4 @@
-// Clauses and arms, read and walked in one over any words: the refusal, or where both walks stand then. `head` is what a clause begins with:
+// A clause, read and walked in one over any words: the refusal, or where both walks stand then. `head` is what it begins with:
 // its kind, its start, its end. `held` has the pairs that a WITH is to carry, two words each, or the aliases of a RETURN with sort keys, while
 // its projections are walked. Such a RETURN marks these in `tab`, and leaves it as it was.
 use clause_parts::DEPTH;
@@ -13,7 +13,6 @@ use steps::Row;
 use steps::bind_anew;
 use steps::bind_name;
 use steps::enter;
-use steps::leave;
 use steps::note;
 use walk::walk_expr;
 use walk::walk_marks;
@@ -29,7 +28,7 @@ ghost use Rattle.words.specs.Words.{words};
 ghost use Rattle.steps.specs.Memory.{modeOf};
 ghost use Rattle.steps.specs.Hold.{Ready, Steps};
 ghost use Rattle.clause_parts.specs.Passes.{Held, Passes};
-ghost use Rattle.clause_walk.specs.Clauses.{markedAt, scopeAt, matchAt, yieldAt, unwindAt, unwoundAt, yieldsAt, callAt, bodyAt, clauseAt, clausesAt, armAt, armsAt};
+ghost use Rattle.clause_walk.specs.Clauses.{markedAt, scopeAt, matchAt, yieldAt, unwindAt, unwoundAt, yieldsAt, callAt, bodyAt, clauseAt};
 
 // A count, and as many marks of the kind.
 fn walk_marked(
@@ -83,8 +82,12 @@ fn bind_unwind(
 {
     enter(s, tab, m, vis, found, 5, head.start, head.end);
     match note(s, tab, m, vis, found, v) {
-        Row::Is(x, _) => bind_name(s, tab, m, vis, found, x, v, 4),
-        Row::No => bind_name(s, tab, m, vis, found, 0, v, 4),
+        Row::Is(x, _) => {
+            bind_name(s, tab, m, vis, found, x, v, 4);
+        }
+        Row::No => {
+            bind_name(s, tab, m, vis, found, 0, v, 4);
+        }
     }
 }
 
@@ -235,7 +238,7 @@ fn walk_body(
 }
 
 // A clause.
-fn walk_clause(
+pub fn walk_clause(
     s: &[u8],
     tab: &mut [u32],
     m: &mut [u32],
@@ -270,78 +273,4 @@ fn walk_clause(
         },
         mode,
     )
-}
-
-// n clauses.
-pub fn walk_clauses(
-    s: &[u8],
-    tab: &mut [u32],
-    m: &mut [u32],
-    vis: &mut [u32],
-    found: &mut [u32],
-    held: &mut [u32],
-    n: u32,
-    mode: u32,
-) -> u32
-    requires { ⌜ Held (words (now s)) (now tab) (now held) mode × (Ready 0 (words (now s)) (now tab) (now m) (now vis) (now found)) ⌝ }
-    ensures { λ r. ⌜ (now (tab .exit) ≡ now (tab .entry)) × Passes 0 (words (now (s .entry))) (now (tab .entry)) (now (m .entry)) (now (vis .entry)) (now (found .entry)) (now (held .entry)) (now (m .exit)) (now (vis .exit)) (now (found .exit)) (now (held .exit)) (clausesAt (words (now (s .entry))) (now (tab .entry)) mode n) r ⌝ }
-{
-    let mut left = n;
-    while 0 < left {
-        let r = walk_clause(s, tab, m, vis, found, held, mode);
-        if r != 0 {
-            return r;
-        }
-        left -= 1;
-    }
-    0
-}
-
-// An arm: from scope 0, with nothing visible, and no kinds checked.
-fn walk_arm(
-    s: &[u8],
-    tab: &mut [u32],
-    m: &mut [u32],
-    vis: &mut [u32],
-    found: &mut [u32],
-    held: &mut [u32],
-) -> u32
-    requires { ⌜ Held (words (now s)) (now tab) (now held) 64 × (Ready 0 (words (now s)) (now tab) (now m) (now vis) (now found)) ⌝ }
-    ensures { λ r. ⌜ (now (tab .exit) ≡ now (tab .entry)) × Passes 0 (words (now (s .entry))) (now (tab .entry)) (now (m .entry)) (now (vis .entry)) (now (found .entry)) (now (held .entry)) (now (m .exit)) (now (vis .exit)) (now (found .exit)) (now (held .exit)) (armAt (words (now (s .entry))) (now (tab .entry)) 192) r ⌝ }
-{
-    let Word::Is(start) = next_word(s, m, 0, 4294967296) else {
-        return 5;
-    };
-    let Word::Is(_) = next_word(s, m, start, 4294967296) else {
-        return 5;
-    };
-    let Word::Is(n) = next_word(s, m, 0, 4294967296) else {
-        return 5;
-    };
-    leave(tab, m, vis, 0, 0);
-    walk_clauses(s, tab, m, vis, found, held, n, 64)
-}
-
-// n arms.
-pub fn walk_arms(
-    s: &[u8],
-    tab: &mut [u32],
-    m: &mut [u32],
-    vis: &mut [u32],
-    found: &mut [u32],
-    held: &mut [u32],
-    n: u32,
-) -> u32
-    requires { ⌜ Held (words (now s)) (now tab) (now held) 64 × (Ready 0 (words (now s)) (now tab) (now m) (now vis) (now found)) ⌝ }
-    ensures { λ r. ⌜ (now (tab .exit) ≡ now (tab .entry)) × Passes 0 (words (now (s .entry))) (now (tab .entry)) (now (m .entry)) (now (vis .entry)) (now (found .entry)) (now (held .entry)) (now (m .exit)) (now (vis .exit)) (now (found .exit)) (now (held .exit)) (armsAt (words (now (s .entry))) (now (tab .entry)) 192 n) r ⌝ }
-{
-    let mut left = n;
-    while 0 < left {
-        let r = walk_arm(s, tab, m, vis, found, held);
-        if r != 0 {
-            return r;
-        }
-        left -= 1;
-    }
-    0
 }

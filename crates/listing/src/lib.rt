@@ -1,4 +1,4 @@
-// The listing of a sheet: its findings as text, a line each, at the front of lent bytes; or a refusal (1 to 7, 10), which alters none of
+// The listing of a sheet: its findings as text, a line each, at the front of lent bytes; or a refusal (1 to 8, 10), which alters none of
 // them. The sheet is read and walked once, with scratch that is sized to it.
 use lines::write_listing;
 use sheet::Opened;
@@ -16,6 +16,9 @@ ghost use Rattle.sheet_walk.specs.Runs.{Scratch};
 ghost use Rattle.texts.specs.Page.{writtenAs, pageAs, Writes, number};
 ghost use Rattle.listing.specs.Listing.{listing};
 ghost use Rattle.listing.specs.Found.{Found, choiceOf};
+
+// How many entries a list may need.
+const ENTRIES: u32 = 2048;
 
 // The lines of what was found in a sheet, or 10.
 fn write(
@@ -49,7 +52,7 @@ fn choice(warns: bool) -> u32
     if warns { 1 } else { 0 }
 }
 
-// With scratch for a sheet's words.
+// With scratch for a sheet's words. Bindings and carried names are counted, not stored.
 fn list(
     s: &[u8],
     warns: bool,
@@ -64,9 +67,28 @@ fn list(
     requires { ⌜ Scratch (length (words (now s))) (now places) (now ids) (now tab) (now vis) (now found) (now held) ⌝ }
     ensures { λ r. ⌜ Writes (listing warns (now (s .entry))) (now (page .entry)) (now (page .exit)) r × (number r < 4294967296) ⌝ }
 {
-    match run(s, choice(warns), places, ids, tab, vis, found, held) {
+    let mut nowhere = [0u32; 1];
+    match run(
+        s,
+        choice(warns),
+        places,
+        ids,
+        tab,
+        vis,
+        found,
+        held,
+        &mut nowhere,
+    ) {
         Ran::Refused(c) => Written::Refused(c),
-        Ran::Is(said, told) => write(s, warns, places, found, said, told, page),
+        Ran::Is(said, told, made, taken) => {
+            if ENTRIES < made {
+                return Written::Refused(8);
+            }
+            if ENTRIES < taken {
+                return Written::Refused(8);
+            }
+            write(s, warns, places, found, said, told, page)
+        }
     }
 }
 
@@ -76,10 +98,10 @@ fn list_32(s: &[u8], warns: bool, page: &mut [u8]) -> Written
 {
     let mut places = [0u32; 32];
     let mut ids = [0u32; 32];
-    let mut tab = [0u32; 48];
-    let mut vis = [0u32; 46];
+    let mut tab = [0u32; 80];
+    let mut vis = [0u32; 136];
     let mut found = [0u32; 192];
-    let mut held = [0u32; 32];
+    let mut held = [0u32; 64];
     list(
         s,
         warns,
@@ -99,10 +121,10 @@ fn list_64(s: &[u8], warns: bool, page: &mut [u8]) -> Written
 {
     let mut places = [0u32; 64];
     let mut ids = [0u32; 64];
-    let mut tab = [0u32; 80];
-    let mut vis = [0u32; 88];
+    let mut tab = [0u32; 144];
+    let mut vis = [0u32; 264];
     let mut found = [0u32; 384];
-    let mut held = [0u32; 64];
+    let mut held = [0u32; 128];
     list(
         s,
         warns,
@@ -122,10 +144,10 @@ fn list_128(s: &[u8], warns: bool, page: &mut [u8]) -> Written
 {
     let mut places = [0u32; 128];
     let mut ids = [0u32; 128];
-    let mut tab = [0u32; 144];
-    let mut vis = [0u32; 174];
+    let mut tab = [0u32; 272];
+    let mut vis = [0u32; 520];
     let mut found = [0u32; 768];
-    let mut held = [0u32; 128];
+    let mut held = [0u32; 256];
     list(
         s,
         warns,
@@ -145,10 +167,10 @@ fn list_256(s: &[u8], warns: bool, page: &mut [u8]) -> Written
 {
     let mut places = [0u32; 256];
     let mut ids = [0u32; 256];
-    let mut tab = [0u32; 272];
-    let mut vis = [0u32; 344];
+    let mut tab = [0u32; 528];
+    let mut vis = [0u32; 1032];
     let mut found = [0u32; 1536];
-    let mut held = [0u32; 256];
+    let mut held = [0u32; 512];
     list(
         s,
         warns,
@@ -168,10 +190,10 @@ fn list_512(s: &[u8], warns: bool, page: &mut [u8]) -> Written
 {
     let mut places = [0u32; 512];
     let mut ids = [0u32; 512];
-    let mut tab = [0u32; 528];
-    let mut vis = [0u32; 686];
+    let mut tab = [0u32; 1040];
+    let mut vis = [0u32; 2056];
     let mut found = [0u32; 3072];
-    let mut held = [0u32; 512];
+    let mut held = [0u32; 1024];
     list(
         s,
         warns,
@@ -191,10 +213,10 @@ fn list_1024(s: &[u8], warns: bool, page: &mut [u8]) -> Written
 {
     let mut places = [0u32; 1024];
     let mut ids = [0u32; 1024];
-    let mut tab = [0u32; 1040];
-    let mut vis = [0u32; 1368];
+    let mut tab = [0u32; 2064];
+    let mut vis = [0u32; 4104];
     let mut found = [0u32; 6144];
-    let mut held = [0u32; 1024];
+    let mut held = [0u32; 2048];
     list(
         s,
         warns,
@@ -214,10 +236,10 @@ fn list_2048(s: &[u8], warns: bool, page: &mut [u8]) -> Written
 {
     let mut places = [0u32; 2048];
     let mut ids = [0u32; 2048];
-    let mut tab = [0u32; 2064];
-    let mut vis = [0u32; 2734];
+    let mut tab = [0u32; 4112];
+    let mut vis = [0u32; 8200];
     let mut found = [0u32; 12288];
-    let mut held = [0u32; 2048];
+    let mut held = [0u32; 4096];
     list(
         s,
         warns,

@@ -1,5 +1,5 @@
 -- What the parts of a run ask and leave: the tables of names and bindings, then the sections of head and arms. Only contracts need these.
-use Prim.Native.Nat.{ℕ, zero, suc, _+_, _*_, _≤_}
+use Prim.Native.Nat.{ℕ, zero, suc, _+_, _*_, _<_, _≤_}
 use mathlib.Core.Path.{_≡_}
 use mathlib.Core.Bool.{Bool, true, false, cond}
 use mathlib.Core.List.{List, [], _∷_}
@@ -21,10 +21,12 @@ use Rattle.fused.specs.Sheet.{begun, headGo, armsGo, sheetGo}
 use Rattle.fused.proofs.ApartStatement.{HasTables, worldBy}
 use Rattle.rows.specs.Slot.{slots}
 use Rattle.rows.specs.Rows.{idAt, Hung}
-use Rattle.steps.specs.Memory.{atOf, saidOf, toldOf, slotsIn, starIn, identIn, warnsIn, rowsIn, bindingsIn, multIn, shiftIn, wantsIn, chainsIn, worldAt, events, findings, kept}
+use Rattle.theorems.specs.Needs as needs
+use Rattle.steps.specs.Memory.{atOf, saidOf, toldOf, slotsIn, useIn, starIn, identIn, warnsIn, rowsIn, bindingsIn, multIn, shiftIn, wantsIn, chainsIn, worldAt, events, findings, kept}
 use Rattle.steps.specs.Memory as memory
 use Rattle.steps.specs.Hold.{Fine, Fit, Holds}
 use Rattle.clause_parts.specs.Passes.{Unmarked}
+use Rattle.arm_walk.specs.Taking.{Carries}
 use Rattle.sheet_walk.specs.Runs.{warnsBy, wantsBy}
 use Rattle.sheet_walk.specs.declared.Ran.{Ran}
 use Rattle.sheet_walk.specs.declared.Ran.the-variants as ran
@@ -37,16 +39,16 @@ pub record Shift (n r : ℕ) : Type 0 where
   pub high : r ≤ 31
   pub room : slots r ≤ n * 4 + 8
 
--- zeros in tab, and room for the marks and the chains of w words
+-- zeros in tab, and room for the marks, the use ids and the chains of w words
 pub record Clear (w : ℕ) (tab : List ℕ) : Type 0 where
-  pub long : 16 + w ≤ length tab
+  pub long : 16 + w * 2 ≤ length tab
   pub clear : (i : ℕ) → getD tab i 0 ≡ 0
 
 -- for how many of n names there is a place: one at least
 abbrev pub slotsFor : ℕ → ℕ
 slotsFor n = cond (eqb n 0) 1 n
 
--- the bindings of a sheet, as they are read, and hung up in tab behind the marks of the names, none of which is set
+-- the bindings of a sheet, as they are read, and hung up in tab behind the marks and the use ids of the names; no mark is set
 pub record Rowed (s : List ℕ) (p : Places) (tab : List ℕ) : Type 0 where
   pub rows : List Row
   pub read : readRows (p .names) (p .bindings) (section (words s) (p .rows) (p .head)) ≡ accepted rows
@@ -58,7 +60,7 @@ abbrev pub RowedIf : List ℕ → Places → List ℕ → Bool → Type 0
 RowedIf s p tab true = Rowed s p tab
 RowedIf s p tab false = readRows (p .names) (p .bindings) (section (words s) (p .rows) (p .head)) ≡ refused 4
 
--- n rows are hung up in tab, behind k marks, where no two have the same variable; whether that is so
+-- n rows are hung up in tab, behind k marks and k use ids, where no two have the same variable; whether that is so
 pub record HungUp (ws : List ℕ) (rows n k : ℕ) (tab : List ℕ) (r : Bool) : Type 0 where
   pub same : r ≡ distinct isIn (rowIds n (drop rows ws))
   pub slots : slotsIn tab ≡ k
@@ -69,8 +71,23 @@ pub record HungUp (ws : List ℕ) (rows n k : ℕ) (tab : List ℕ) (r : Bool) :
 abbrev pub namesBy : List ℕ → Places → List ℕ → List (List ℕ)
 namesBy s p places = namesIn (take (p .rows * 4) s) (p .names) places
 
+-- the use ids of n names stand in tab behind k marks; all else is as before
+pub record Stored (k n : ℕ) (ids old new : List ℕ) : Type 0 where
+  pub length : length new ≡ length old
+  pub uses : (x : ℕ) → x < n → getD new (16 + k + x) 0 ≡ getD ids x 0
+  pub before : (i : ℕ) → i < 16 + k → getD new i 0 ≡ getD old i 0
+  pub chains : drop (16 + k * 2) new ≡ drop (16 + k * 2) old
+
 -- what the walks go by besides is in tab; its marks and chains are as before
-pub record Settles (s : List ℕ) (p : Places) (choice : ℕ) (places old new : List ℕ) : Type 0 where
+pub record Settling (s : List ℕ) (p : Places) (places ids tab : List ℕ) : Type 0 where
+  pub places : InPlaces s p
+  pub named : p .names ≤ length places
+  pub used : p .names ≤ length ids
+  pub below : p .names ≤ 8192
+  pub slots : p .names ≤ slotsIn tab
+  pub long : 16 + slotsIn tab * 2 ≤ length tab
+
+pub record Settles (s : List ℕ) (p : Places) (choice : ℕ) (places ids old new : List ℕ) : Type 0 where
   pub names : memory.namesIn new ≡ p .names
   pub star : starIn new ≡ indexOf (42 ∷ []) (namesBy s p places)
   pub ident : identIn new ≡ indexOf (105 ∷ 100 ∷ []) (namesBy s p places)
@@ -81,7 +98,10 @@ pub record Settles (s : List ℕ) (p : Places) (choice : ℕ) (places old new : 
   pub slots : slotsIn new ≡ slotsIn old
   pub mult : multIn new ≡ multIn old
   pub shift : shiftIn new ≡ shiftIn old
-  pub behind : drop 16 new ≡ drop 16 old
+  pub uses : (x : ℕ) → x < p .names → useIn new x ≡ getD ids x 0
+  pub marks : (x : ℕ) → x < slotsIn old → getD new (16 + x) 0 ≡ getD old (16 + x) 0
+  pub chains : chainsIn new ≡ chainsIn old
+  pub length : length new ≡ length old
 
 -- tab is in order for the sections of a sheet, and no mark is set
 pub record Set (s : List ℕ) (p : Places) (tab : List ℕ) : Type 0 where
@@ -92,6 +112,10 @@ pub record Set (s : List ℕ) (p : Places) (tab : List ℕ) : Type 0 where
   pub slots : slotsIn tab ≤ p .head + 1
   pub unmarked : Unmarked tab
 
+-- the use ids of the names that a sheet has
+abbrev pub Uses : List ℕ → (ℕ → ℕ) → Type 0
+Uses tab id = (x : ℕ) → x < memory.namesIn tab → useIn tab x ≡ id x
+
 -- Both tables of a sheet are right, and the lent words hold what the walks go by: the World is that of the names and the bindings.
 pub record Tables (s : List ℕ) (p : Places) (choice : ℕ) (places ids tab : List ℕ) : Type 0 where
   pub rows : List Row
@@ -99,6 +123,7 @@ pub record Tables (s : List ℕ) (p : Places) (choice : ℕ) (places ids tab : L
   pub tabled : Tabled (p .names) (take (p .rows * 4) s) places ids true
   pub set : Set s p tab
   pub world : worldAt (words s) tab (λ x. useId (getD (namesBy s p places) x [])) ≡ worldBy (warnsBy choice) (namesBy s p places) rows
+  pub uses : Uses tab (λ x. useId (getD (namesBy s p places) x []))
   pub wants : wantsIn tab ≡ wantsBy choice
 
 -- 0, or the cause
@@ -113,13 +138,13 @@ pub record ReadsTables (s : List ℕ) (p : Places) (choice : ℕ) (places ids ta
 
 -- the lent words have room for w words: what is visible and what is said, and the pairs of a WITH
 pub record Wide (w : ℕ) (vis found : List ℕ) : Type 0 where
-  pub names : 4 * (w + 2) ≤ 3 * length vis
+  pub names : 4 * (w + 2) ≤ length vis
   pub room : w * 6 ≤ length found
 
 pub record Lent (s : List ℕ) (p : Places) (tab vis found held : List ℕ) : Type 0 where
   pub set : Set s p tab
   pub wide : Wide (length (words s)) vis found
-  pub pairs : length (words s) ≤ length held
+  pub pairs : 2 * length (words s) ≤ length held
 
 -- nothing was walked yet
 pub record Unseen (vis : List ℕ) : Type 0 where
@@ -154,11 +179,18 @@ abbrev pub DoneAs : (ws tab m vis found m' vis' found' : List ℕ) → (to : ℕ
 DoneAs ws tab m vis found m' vis' found' to G zero = Done ws tab m vis found m' vis' found' to G
 DoneAs ws tab m vis found m' vis' found' to G (suc c) = (id : ℕ → ℕ) (u : Both) → Holds id tab m vis found u → G id u ≡ refused (suc c)
 
-pub record Walks (ws tab m vis found m' vis' found' : List ℕ) (to : ℕ) (G : Walker) (r : ℕ) : Type 0 where
+-- the carried list then has what was carried, too
+abbrev pub TakesAll : (tab m vis found carried carried' : List ℕ) → Walker → Type 0
+TakesAll tab m vis found carried carried' G = (id : ℕ → ℕ) (u v : Both) (old : List ℕ) → Holds id tab m vis found u → G id u ≡ accepted v → Carries old carried (u .names .log) → Carries old carried' (v .names .log)
+
+pub record Walks (ws tab m vis found held carried m' vis' found' held' carried' : List ℕ) (to : ℕ) (G : Walker) (r : ℕ) : Type 0 where
   pub sized : length m' ≡ length m
   pub seen : length vis' ≡ length vis
   pub wrote : length found' ≡ length found
+  pub kept : length held' ≡ length held
+  pub lent : length carried' ≡ length carried
   pub done : DoneAs ws tab m vis found m' vis' found' to G r
+  pub takes : TakesAll tab m vis found carried carried' G
 
 -- the head and the arms of a sheet
 abbrev pub headIn : List ℕ → Places → List ℕ → Walker
@@ -171,36 +203,47 @@ armsIn ws p tab id u = armsGo (worldAt ws tab id) (p .names) (p .arms) u (sectio
 pub record Begins (s : List ℕ) (p : Places) (tab vis found m' found' : List ℕ) : Type 0 where
   pub wrote : length found' ≡ length found
   pub stands : Stands (words s) tab m' vis found' (p .head) (p .tail)
-  pub holds : (id : ℕ → ℕ) → Holds id tab m' vis found' (begun p)
+  pub holds : (id : ℕ → ℕ) → Uses tab id → Holds id tab m' vis found' (begun p)
 
 -- both sections were walked
-pub record Walked (s : List ℕ) (p : Places) (tab m vis found : List ℕ) : Type 0 where
+pub record Walked (s : List ℕ) (p : Places) (tab m vis found carried carried' : List ℕ) : Type 0 where
   pub few : saidOf m + toldOf m ≤ length (words s)
-  pub goes : (id : ℕ → ℕ) → Ends id tab m vis found (sheetGo (worldAt (words s) tab id) p (words s))
+  pub goes : (id : ℕ → ℕ) → Uses tab id → Ends id tab m vis found (sheetGo (worldAt (words s) tab id) p (words s))
+  pub takes : (id : ℕ → ℕ) → Uses tab id → (u : Both) → sheetGo (worldAt (words s) tab id) p (words s) ≡ accepted u → Carries carried carried' (u .names .log)
 
-abbrev pub WalkedAs : List ℕ → Places → (tab m vis found : List ℕ) → ℕ → Type 0
-WalkedAs s p tab m vis found zero = Walked s p tab m vis found
-WalkedAs s p tab m vis found (suc c) = (id : ℕ → ℕ) → sheetGo (worldAt (words s) tab id) p (words s) ≡ refused (suc c)
+abbrev pub WalkedAs : List ℕ → Places → (tab m vis found carried carried' : List ℕ) → ℕ → Type 0
+WalkedAs s p tab m vis found carried carried' zero = Walked s p tab m vis found carried carried'
+WalkedAs s p tab m vis found carried carried' (suc c) = (id : ℕ → ℕ) → Uses tab id → sheetGo (worldAt (words s) tab id) p (words s) ≡ refused (suc c)
 
-pub record WalksBoth (s : List ℕ) (p : Places) (tab found m' vis' found' : List ℕ) (r : ℕ) : Type 0 where
+-- the lent words keep their lengths
+pub record Lengths (vis found held carried vis' found' held' carried' : List ℕ) : Type 0 where
+  pub seen : length vis' ≡ length vis
   pub wrote : length found' ≡ length found
-  pub walked : WalkedAs s p tab m' vis' found' r
+  pub kept : length held' ≡ length held
+  pub lent : length carried' ≡ length carried
 
--- the same, as numbers of events and findings, with what they are
-pub record Said (s : List ℕ) (p : Places) (tab found : List ℕ) (said told : ℕ) (id : ℕ → ℕ) : Type 0 where
+pub record WalksBoth (s : List ℕ) (p : Places) (tab vis found held carried m' vis' found' held' carried' : List ℕ) (r : ℕ) : Type 0 where
+  pub lengths : Lengths vis found held carried vis' found' held' carried'
+  pub walked : WalkedAs s p tab m' vis' found' carried carried' r
+
+-- the same, as numbers of events, findings, bindings and carried names, with what they are
+pub record Said (s : List ℕ) (p : Places) (tab found carried carried' : List ℕ) (said told made taken : ℕ) (id : ℕ → ℕ) : Type 0 where
   pub state : Both
   pub log : events id said found ≡ kept (wantsIn tab) (state .names .log)
   pub kinds : findings told found ≡ state .kinds
+  pub made : made ≡ needs.made (state .names .log)
+  pub taken : taken ≡ needs.carriedIn (state .names .log)
+  pub carries : Carries carried carried' (state .names .log)
   pub same : sheetGo (worldAt (words s) tab id) p (words s) ≡ accepted state
 
-pub record SaidAll (s : List ℕ) (p : Places) (tab found : List ℕ) (said told : ℕ) : Type 0 where
+pub record SaidAll (s : List ℕ) (p : Places) (tab found carried carried' : List ℕ) (said told made taken : ℕ) : Type 0 where
   pub few : said + told ≤ length (words s)
-  pub says : (id : ℕ → ℕ) → Said s p tab found said told id
+  pub says : (id : ℕ → ℕ) → Uses tab id → Said s p tab found carried carried' said told made taken id
 
-abbrev pub RanBothAs : List ℕ → Places → (tab found : List ℕ) → Ran → Type 0
-RanBothAs s p tab found (ran.Is said told) = SaidAll s p tab found said told
-RanBothAs s p tab found (ran.Refused c) = (id : ℕ → ℕ) → sheetGo (worldAt (words s) tab id) p (words s) ≡ refused c
+abbrev pub RanBothAs : List ℕ → Places → (tab found carried carried' : List ℕ) → Ran → Type 0
+RanBothAs s p tab found carried carried' (ran.Is said told made taken) = SaidAll s p tab found carried carried' said told made taken
+RanBothAs s p tab found carried carried' (ran.Refused c) = (id : ℕ → ℕ) → Uses tab id → sheetGo (worldAt (words s) tab id) p (words s) ≡ refused c
 
-pub record RanBoth (s : List ℕ) (p : Places) (tab found found' : List ℕ) (r : Ran) : Type 0 where
-  pub wrote : length found' ≡ length found
-  pub ran : RanBothAs s p tab found' r
+pub record RanBoth (s : List ℕ) (p : Places) (tab vis found held carried vis' found' held' carried' : List ℕ) (r : Ran) : Type 0 where
+  pub lengths : Lengths vis found held carried vis' found' held' carried'
+  pub ran : RanBothAs s p tab found' carried carried' r

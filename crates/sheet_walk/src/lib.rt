@@ -6,17 +6,21 @@ use reading::read_tables;
 use sheet::Opened;
 use sheet::Places;
 use sheet::find_places;
+use steps::MADE;
 use steps::SAID;
+use steps::TAKEN;
 use steps::TOLD;
 use walking::walk_both;
+ghost use mathlib.Core.Path.{_≡_};
 ghost use lib.ListN.{length};
 ghost use Rattle.words.specs.Words.{words};
-ghost use Rattle.sheet_walk.specs.Runs.{Scratch, Runs};
+ghost use Rattle.sheet_walk.specs.Runs.{Scratch, Sized, Runs};
 ghost use Rattle.sheet_walk.specs.Parts.{Lent, Unseen, RanBoth};
 
-// How many events and findings of the name walk, and how many findings of the kind walk; or the refusal's number.
+// How many events and findings of the name walk, how many findings of the kind walk, how many bindings were made and how many names carried;
+// or the refusal's number.
 pub enum Ran {
-    Is(u32, u32),
+    Is(u32, u32, u32, u32),
     Refused(u32),
 }
 
@@ -28,20 +32,22 @@ fn walk_all(
     vis: &mut [u32],
     found: &mut [u32],
     held: &mut [u32],
+    carried: &mut [u32],
 ) -> Ran
     requires { ⌜ Lent (now s) p (now tab) (now vis) (now found) (now held) × Unseen (now vis) ⌝ }
-    ensures { λ r. ⌜ RanBoth (now (s .entry)) p (now (tab .entry)) (now (found .entry)) (now (found .exit)) r ⌝ }
+    ensures { λ r. ⌜ (now (tab .exit) ≡ now (tab .entry)) × RanBoth (now (s .entry)) p (now (tab .entry)) (now (vis .entry)) (now (found .entry)) (now (held .entry)) (now (carried .entry)) (now (vis .exit)) (now (found .exit)) (now (held .exit)) (now (carried .exit)) r ⌝ }
 {
     let mut numbers = [0u32; 64];
     let m: &mut [u32] = &mut numbers;
-    let r = walk_both(s, p, tab, m, vis, found, held);
+    let r = walk_both(s, p, tab, m, vis, found, held, carried);
     if r != 0 {
         return Ran::Refused(r);
     }
-    Ran::Is(m[SAID], m[TOLD])
+    Ran::Is(m[SAID], m[TOLD], m[MADE], m[TAKEN])
 }
 
-// The whole sheet. The lent words are scratch, but for the places of the names, their use ids, and what was found.
+// The whole sheet. The lent words are scratch, but for the places of the names, their use ids, what was found, and the carried list, which has
+// what is carried where it has room for it.
 pub fn run(
     s: &[u8],
     choice: u32,
@@ -51,9 +57,11 @@ pub fn run(
     vis: &mut [u32],
     found: &mut [u32],
     held: &mut [u32],
+    carried: &mut [u32],
 ) -> Ran
     requires { ⌜ Scratch (length (words (now s))) (now places) (now ids) (now tab) (now vis) (now found) (now held) ⌝ }
-    ensures { λ r. ⌜ Runs choice (now (s .entry)) (now (places .entry)) (now (ids .entry)) (now (found .entry)) (now (places .exit)) (now (ids .exit)) (now (found .exit)) r ⌝ }
+    ensures sized { λ r. ⌜ Sized (now (places .entry)) (now (ids .entry)) (now (tab .entry)) (now (vis .entry)) (now (found .entry)) (now (held .entry)) (now (places .exit)) (now (ids .exit)) (now (tab .exit)) (now (vis .exit)) (now (found .exit)) (now (held .exit)) ⌝ }
+    ensures { λ r. ⌜ Runs choice (now (s .entry)) (now (places .exit)) (now (ids .exit)) (now (tab .exit)) (now (found .exit)) (now (carried .entry)) (now (carried .exit)) r ⌝ }
 {
     let p = match find_places(s) {
         Opened::Refused(c) => {
@@ -65,5 +73,5 @@ pub fn run(
     if c != 0 {
         return Ran::Refused(c);
     }
-    walk_all(s, p, tab, vis, found, held)
+    walk_all(s, p, tab, vis, found, held, carried)
 }

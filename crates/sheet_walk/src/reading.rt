@@ -24,7 +24,7 @@ ghost use Rattle.words.specs.Words.{words};
 ghost use Rattle.tables.specs.Answer.{Roomy};
 ghost use Rattle.sheet.specs.Answer.{InPlaces, Tabled};
 ghost use Rattle.sheet.specs.Read.{locate, accepted};
-ghost use Rattle.sheet_walk.specs.Parts.{Shift, Clear, slotsFor, RowedIf, HungUp, Settles, ReadsTables};
+ghost use Rattle.sheet_walk.specs.Parts.{Shift, Clear, slotsFor, RowedIf, HungUp, Stored, Settling, Settles, ReadsTables};
 
 // The shift of a hash for n bindings: 8, 64 or 256 slots.
 fn shift_for(n: u32) -> u32
@@ -69,7 +69,7 @@ fn names_of(s: &[u8], p: Places, places: &mut [u32], ids: &mut [u32], held: &mut
     are_names(&s[0..e], p.names, places, ids, held)
 }
 
-// The n bindings from the word `rows` on, hung up in chains behind the marks of so many places; whether their variables are distinct.
+// The n bindings from the word `rows` on, hung up in chains behind the marks and the use ids of so many places; whether their variables are distinct.
 fn hang(s: &[u8], tab: &mut [u32], rows: usize, n: u32, slots: u32) -> bool
     requires { ⌜ ((rows + n * 5 ≤ length (words (now s))) × (slots + n * 5 + 8 ≤ length (words (now s)))) × Clear (length (words (now s))) (now tab) ⌝ }
     ensures { λ r. ⌜ HungUp (words (now (s .entry))) rows n slots (now (tab .exit)) r ⌝ }
@@ -79,7 +79,7 @@ fn hang(s: &[u8], tab: &mut [u32], rows: usize, n: u32, slots: u32) -> bool
     tab[SLOTS] = slots;
     tab[MULT] = mult;
     tab[SHIFT] = shift;
-    let chains = MARKS + slots as usize;
+    let chains = MARKS + slots as usize * 2;
     index_rows(s, &mut tab[chains..], rows, mult, shift, n)
 }
 
@@ -102,10 +102,23 @@ fn rows_of(s: &[u8], p: Places, tab: &mut [u32]) -> bool
     hang(s, tab, rows, n, slots)
 }
 
+// The use ids of n names, behind the marks of so many places.
+fn store_uses(tab: &mut [u32], ids: &[u32], slots: u32, n: u32)
+    requires { ⌜ (n ≤ slots) × ((n ≤ length (now ids)) × (16 + slots * 2 ≤ length (now tab))) ⌝ }
+    ensures { λ r. ⌜ Stored slots n (now (ids .entry)) (now (tab .entry)) (now (tab .exit)) ⌝ }
+{
+    let from = MARKS + slots as usize;
+    let mut i = 0;
+    while i < n as usize {
+        tab[from + i] = ids[i];
+        i += 1;
+    }
+}
+
 // What the walks go by besides.
-fn settle(s: &[u8], p: Places, choice: u32, places: &[u32], tab: &mut [u32])
-    requires { ⌜ (InPlaces (now s) p × (p .names ≤ length (now places))) × ((p .names ≤ 8192) × (16 ≤ length (now tab))) ⌝ }
-    ensures { λ r. ⌜ Settles (now (s .entry)) p choice (now (places .entry)) (now (tab .entry)) (now (tab .exit)) ⌝ }
+fn settle(s: &[u8], p: Places, choice: u32, places: &[u32], ids: &[u32], tab: &mut [u32])
+    requires { ⌜ Settling (now s) p (now places) (now ids) (now tab) ⌝ }
+    ensures { λ r. ⌜ Settles (now (s .entry)) p choice (now (places .entry)) (now (ids .entry)) (now (tab .entry)) (now (tab .exit)) ⌝ }
 {
     let rows = p.rows;
     let e = rows * 4;
@@ -113,6 +126,8 @@ fn settle(s: &[u8], p: Places, choice: u32, places: &[u32], tab: &mut [u32])
     let names = p.names;
     let star = index_of(part, places, names as usize, b"*");
     let ident = index_of(part, places, names as usize, b"id");
+    let slots = tab[SLOTS];
+    store_uses(tab, ids, slots, names);
     tab[NAMES] = names;
     tab[STAR] = star;
     tab[IDENT] = ident;
@@ -141,6 +156,6 @@ pub fn read_tables(
     if !rows_of(s, p, tab) {
         return 4;
     }
-    settle(s, p, choice, places, tab);
+    settle(s, p, choice, places, ids, tab);
     0
 }

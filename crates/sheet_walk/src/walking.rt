@@ -1,6 +1,6 @@
 // The head and the arms of a sheet, each walked to its end. Causes 5 to 7.
-use clause_walk::walk_arms;
-use clause_walk::walk_clauses;
+use arm_walk::walk_arms;
+use arm_walk::walk_clauses;
 use sheet::Places;
 use steps::AT;
 use steps::LOST;
@@ -29,13 +29,14 @@ fn walk_head(
     vis: &mut [u32],
     found: &mut [u32],
     held: &mut [u32],
+    carried: &mut [u32],
 ) -> u32
     requires { ⌜ Lent (now s) p (now tab) (now vis) (now found) (now held) × Stands (words (now s)) (now tab) (now m) (now vis) (now found) (p .head) (p .tail) ⌝ }
-    ensures { λ r. ⌜ (now (tab .exit) ≡ now (tab .entry)) × Walks (words (now (s .entry))) (now (tab .entry)) (now (m .entry)) (now (vis .entry)) (now (found .entry)) (now (m .exit)) (now (vis .exit)) (now (found .exit)) (p .tail) (headIn (words (now (s .entry))) p (now (tab .entry))) r ⌝ }
+    ensures { λ r. ⌜ (now (tab .exit) ≡ now (tab .entry)) × Walks (words (now (s .entry))) (now (tab .entry)) (now (m .entry)) (now (vis .entry)) (now (found .entry)) (now (held .entry)) (now (carried .entry)) (now (m .exit)) (now (vis .exit)) (now (found .exit)) (now (held .exit)) (now (carried .exit)) (p .tail) (headIn (words (now (s .entry))) p (now (tab .entry))) r ⌝ }
 {
     let tail = p.tail;
     let h = tail * 4;
-    let r = walk_clauses(&s[0..h], tab, m, vis, found, held, p.clauses, 192);
+    let r = walk_clauses(&s[0..h], tab, m, vis, found, held, carried, p.clauses, 192);
     if r != 0 {
         return r;
     }
@@ -45,7 +46,7 @@ fn walk_head(
     0
 }
 
-// The arms: 0, or the refusal's number.
+// The arms: 0, or the refusal's number. `tab` is then as it was.
 fn walk_tail(
     s: &[u8],
     p: Places,
@@ -54,13 +55,14 @@ fn walk_tail(
     vis: &mut [u32],
     found: &mut [u32],
     held: &mut [u32],
+    carried: &mut [u32],
 ) -> u32
     requires { ⌜ Lent (now s) p (now tab) (now vis) (now found) (now held) × Stands (words (now s)) (now tab) (now m) (now vis) (now found) (p .tail) (p .trailer) ⌝ }
-    ensures { λ r. ⌜ Walks (words (now (s .entry))) (now (tab .entry)) (now (m .entry)) (now (vis .entry)) (now (found .entry)) (now (m .exit)) (now (vis .exit)) (now (found .exit)) (p .trailer) (armsIn (words (now (s .entry))) p (now (tab .entry))) r ⌝ }
+    ensures { λ r. ⌜ (now (tab .exit) ≡ now (tab .entry)) × Walks (words (now (s .entry))) (now (tab .entry)) (now (m .entry)) (now (vis .entry)) (now (found .entry)) (now (held .entry)) (now (carried .entry)) (now (m .exit)) (now (vis .exit)) (now (found .exit)) (now (held .exit)) (now (carried .exit)) (p .trailer) (armsIn (words (now (s .entry))) p (now (tab .entry))) r ⌝ }
 {
     let trailer = p.trailer;
     let t = trailer * 4;
-    let r = walk_arms(&s[0..t], tab, m, vis, found, held, p.arms);
+    let r = walk_arms(&s[0..t], tab, m, vis, found, held, carried, p.arms);
     if r != 0 {
         return r;
     }
@@ -79,16 +81,17 @@ pub fn walk_both(
     vis: &mut [u32],
     found: &mut [u32],
     held: &mut [u32],
+    carried: &mut [u32],
 ) -> u32
     requires { ⌜ Lent (now s) p (now tab) (now vis) (now found) (now held) × Fresh (now m) (now vis) ⌝ }
-    ensures { λ r. ⌜ WalksBoth (now (s .entry)) p (now (tab .entry)) (now (found .entry)) (now (m .exit)) (now (vis .exit)) (now (found .exit)) r ⌝ }
+    ensures { λ r. ⌜ (now (tab .exit) ≡ now (tab .entry)) × WalksBoth (now (s .entry)) p (now (tab .entry)) (now (vis .entry)) (now (found .entry)) (now (held .entry)) (now (carried .entry)) (now (m .exit)) (now (vis .exit)) (now (found .exit)) (now (held .exit)) (now (carried .exit)) r ⌝ }
 {
     begin(s, p, tab, m, vis, found);
-    let r = walk_head(s, p, tab, m, vis, found, held);
+    let r = walk_head(s, p, tab, m, vis, found, held, carried);
     if r != 0 {
         return r;
     }
-    let q = walk_tail(s, p, tab, m, vis, found, held);
+    let q = walk_tail(s, p, tab, m, vis, found, held, carried);
     if q != 0 {
         return q;
     }
