@@ -27,8 +27,8 @@ bind-unwind-spec =
     (λ c. search needs)  -- same-length
     (λ c. search needs)  -- same-length-2
     (λ c. search needs)  -- same-length-3
-    (λ c. unwound (c .before .before .before .before .before .before .before .before .before .before .before .before .before .before .before .note .ensures .0) (ap nameIn (sym (c .before .before .before .before .before .before .before .before .before .before .before .x .given .1))) (c .before .before .before .before .before .before .before .before .before .before .before .before .before .before .before .before .before .before .before .before .before .before .before .enter .ensures) (c .before .before .before .before .before .before .before .before .before .before .before .before .before .before .before .note .ensures .1) (c .before .before .before .before .before .before .bind-name .ensures))  -- returns
+    (λ c. unwound (c .before .before .before .before .before .before .before .before .before .before .before .before .before .before .before .note .ensures .0) (ap nameIn (sym (c .before .before .before .before .before .before .before .before .before .before .before .x .given .1))) (c .before .before .before .before .before .before .before .before .before .before .before .before .before .before .before .before .before .before .before .before .before .before .before .enter .ensures) (c .before .before .before .before .before .before .before .before .before .before .before .before .before .before .before .note .ensures .1) (c .before .before .before .before .before .before .bind-name .ensures .costs))  -- returns
     (λ c. search needs)  -- same-length-4
     (λ c. search needs)  -- same-length-5
     (λ c. search needs)  -- same-length-6
-    (λ c. unwound (c .before .before .before .before .before .before .before .before .before .before .before .before .before .before .note .ensures .0) (ap nameIn (sym (c .before .before .before .before .before .before .before .before .before .before .enum-told .given .1))) (c .before .before .before .before .before .before .before .before .before .before .before .before .before .before .before .before .before .before .before .before .before .before .enter .ensures) (c .before .before .before .before .before .before .before .before .before .before .before .before .before .before .note .ensures .1) (c .before .before .before .before .before .before .bind-name2 .ensures)))  -- returns-2
+    (λ c. unwound (c .before .before .before .before .before .before .before .before .before .before .before .before .before .before .note .ensures .0) (ap nameIn (sym (c .before .before .before .before .before .before .before .before .before .before .enum-told .given .1))) (c .before .before .before .before .before .before .before .before .before .before .before .before .before .before .before .before .before .before .before .before .before .before .enter .ensures) (c .before .before .before .before .before .before .before .before .before .before .before .before .before .before .note .ensures .1) (c .before .before .before .before .before .before .bind-name2 .ensures .costs)))  -- returns-2
