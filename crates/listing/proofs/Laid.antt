@@ -10,7 +10,7 @@ use borrow.Author.Tests.{lt-ltb, le-ltb}
 use lib.Dec.{eqb}
 use lib.ListN.{length, getD}
 use Rattle.expr.proofs.Inverse.{never}
-use Rattle.scope.specs.Graph.{scope, carried}
+use Rattle.scope.specs.Graph.{scope}
 use Rattle.scope.specs.Flat.{parentOf}
 use Rattle.semantics.specs.Log.{Finding, finding, found, bound, write, Event, open', bind, carry, answer, find, findsIn, logs}
 use Rattle.steps.specs.Memory.{answered, eventOf, eventAt, events, findings, kept}
@@ -21,7 +21,7 @@ kept-finds : (l : List Event) → kept false l ≡ map find (findsIn l)
 unfolding kept logs
 kept-finds [] = refl
 kept-finds (open' s ∷ l) = kept-finds l
-kept-finds (bind b ∷ l) = kept-finds l
+kept-finds (bind o g b ∷ l) = kept-finds l
 kept-finds (carry c ∷ l) = kept-finds l
 kept-finds (answer a ∷ l) = kept-finds l
 kept-finds (find f ∷ l) = ap (λ k. find f ∷ k) (kept-finds l)
@@ -30,7 +30,7 @@ kept-finds (find f ∷ l) = ap (λ k. find f ∷ k) (kept-finds l)
 is-find : (id : ℕ → ℕ) (tag a b c d e : ℕ) (f : Finding) → eventOf id tag a b c d e ≡ find f → finding tag a b c d e ≡ f
 is-find id tag a b c d e f q = go (eqb tag 1) (eqb tag 2) (eqb tag 3) (eqb tag 4) (eqb tag 5) q
   where
-    go : (i j k m n : Bool) → cond i (open' (scope a (parentOf b) c d)) (cond j (bind (bound a b c d)) (cond k (carry (carried a b c)) (cond m (answer (write a (found a b 0))) (cond n (answer (write (id a) (answered b c d))) (find (finding tag a b c d e)))))) ≡ find f → finding tag a b c d e ≡ f
+    go : (i j k m n : Bool) → cond i (open' (scope a (parentOf b) c d)) (cond j (bind false false (bound a b c d)) (cond k (bind false true (bound a b c d)) (cond m (answer (write a (found a b 0))) (cond n (answer (write (id a) (answered b c d))) (find (finding tag a b c d e)))))) ≡ find f → finding tag a b c d e ≡ f
     go true j k m n q = never (cc)
     go false true k m n q = never (cc)
     go false false true m n q = never (cc)
@@ -70,7 +70,7 @@ finds-one e l = finds-append (e ∷ []) l
 one-reversed : (e : Event) → reverse (findsIn (e ∷ [])) ≡ findsIn (e ∷ [])
 unfolding logs
 one-reversed (open' s) = refl
-one-reversed (bind b) = refl
+one-reversed (bind o g b) = refl
 one-reversed (carry c) = refl
 one-reversed (answer a) = refl
 one-reversed (find f) = refl

@@ -1,3 +1,4 @@
+pub mod Counted
 pub mod Laid
 pub mod Opened
 pub mod Scratch

@@ -17,15 +17,15 @@ zero-at (suc n) (suc i) = zero-at n i
 long : (n : ℕ) → length (zeros n) ≡ n
 long n = length-replicate n 0
 
-pub scratch : {w : ℕ} (n tab vis found : ℕ) → w ≤ n → n + 16 ≤ tab → 4 * (n + 2) ≤ 3 * vis → n * 6 ≤ found → Scratch w (zeros n) (zeros n) (zeros tab) (zeros vis) (zeros found) (zeros n)
-scratch n tab vis found h t v f =
+pub scratch : {w : ℕ} (n : ℕ) → w ≤ n → Scratch w (zeros n) (zeros n) (zeros (16 + n * 2)) (zeros (4 * (n + 2))) (zeros (n * 6)) (zeros (2 * n))
+scratch n h =
     record {
       placed = omega (arith, long n);
       used = omega (arith, long n);
-      long = omega (arith, long tab);
-      clear = zero-at tab;
-      names = omega (arith, long vis);
-      unseen = zero-at vis;
-      room = omega (arith, long found);
-      pairs = omega (arith, long n);
+      long = omega (arith, long (16 + n * 2));
+      clear = zero-at (16 + n * 2);
+      names = omega (arith, long (4 * (n + 2)));
+      unseen = zero-at (4 * (n + 2));
+      room = omega (arith, long (n * 6));
+      pairs = omega (arith, long (2 * n));
     }

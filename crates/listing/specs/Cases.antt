@@ -1,5 +1,5 @@
--- Document 01's cases that are marked +, and its traps, and a sort key of document 02 (CR 1), one table: from bytes to use ids, refusals,
--- lists and the listing.
+-- Document 01's cases that are marked +, and its traps, and a sort key (CR 1), a star and an alias (CR 2) of document 02, one table: from bytes
+-- to use ids, refusals, lists and the listing.
 use Prim.Native.Nat.{ℕ}
 use mathlib.Core.Path.{_≡_, refl}
 use mathlib.Core.Bool.{true, false}
@@ -37,7 +37,7 @@ use Rattle.texts.specs.Bytes.{bytes}
 use Rattle.texts.specs.Texts.{typeName, kindName, textOf}
 use Rattle.texts.specs.Codes.{of2007, of2008, of5010, unused, textFor}
 use Rattle.lines.specs.Lines.{front, lineFor, line, listed}
-use Rattle.listing.specs.Listing.{listing}
+use Rattle.listing.specs.Listing.{fits, listing}
 
 -- What a case shows.
 pub data Shown : Type 0 where
@@ -181,6 +181,27 @@ sortKey =
     ∷ 13 ∷ 10 ∷ 29 ∷ 1 ∷ 0 ∷ 7 ∷ 1 ∷ 1 ∷ 8 ∷ 1
     ∷ 32 ∷ 2 ∷ 28 ∷ 1 ∷ 23 ∷ 2 ∷ 0 ∷ 0 ∷ 0 ∷ 29 ∷ []
 
+-- `MATCH (a), (b) UNWIND [1] AS a WITH * RETURN a, b`, the last two being names
+abbrev pub star : List ℕ
+star =
+    1 ∷ 97 ∷ 1 ∷ 98 ∷ 1 ∷ 42
+    ∷ 0 ∷ 0 ∷ 1 ∷ 7 ∷ 8 ∷ 1 ∷ 1 ∷ 1 ∷ 12 ∷ 13 ∷ 2 ∷ 0 ∷ 4 ∷ 29 ∷ 30
+    ∷ 1 ∷ 0 ∷ 14 ∷ 0 ∷ 2 ∷ 0 ∷ 1 ∷ 1 ∷ 6 ∷ 9 ∷ 1 ∷ 0 ∷ 0 ∷ 0 ∷ 1 ∷ 1 ∷ 11 ∷ 14 ∷ 1 ∷ 1 ∷ 0
+    ∷ 5 ∷ 15 ∷ 30 ∷ 2 ∷ 12 ∷ 1 ∷ 3
+    ∷ 3 ∷ 31 ∷ 37 ∷ 1 ∷ 0 ∷ 8 ∷ 2 ∷ 0
+    ∷ 4 ∷ 38 ∷ 49 ∷ 2 ∷ 0 ∷ 8 ∷ 0 ∷ 0 ∷ 8 ∷ 1
+    ∷ 67 ∷ 3 ∷ 61 ∷ 3 ∷ 46 ∷ 4 ∷ 0 ∷ 0 ∷ 0 ∷ 49 ∷ []
+
+-- `MATCH (a) WITH a.x AS y RETURN y`, the last `y` being a name
+abbrev pub computed : List ℕ
+computed =
+    1 ∷ 97 ∷ 1 ∷ 120 ∷ 1 ∷ 121
+    ∷ 1 ∷ 0 ∷ 1 ∷ 7 ∷ 8
+    ∷ 1 ∷ 0 ∷ 9 ∷ 0 ∷ 1 ∷ 0 ∷ 1 ∷ 1 ∷ 6 ∷ 9 ∷ 1 ∷ 1 ∷ 0
+    ∷ 3 ∷ 10 ∷ 23 ∷ 1 ∷ 3 ∷ 9 ∷ 1 ∷ 7 ∷ 1 ∷ 0
+    ∷ 4 ∷ 24 ∷ 32 ∷ 1 ∷ 0 ∷ 8 ∷ 2
+    ∷ 41 ∷ 3 ∷ 35 ∷ 1 ∷ 30 ∷ 3 ∷ 0 ∷ 0 ∷ 0 ∷ 32 ∷ []
+
 abbrev pub cases : List Case
 cases =
     -- 40 zero bytes are accepted; 36, 42 and 8,196 bytes are not
@@ -220,18 +241,25 @@ cases =
     ∷ case (bytesOf pathOther) itsListing (text (bytes "findings 1\nE2007 0 0 variable `p` has kind `Path` and does not support property access; use `nodes()` or `relationships()` to extract graph elements first\n"))
     -- Create's and Merge's scopes; a comprehension in Return looks from outside it
     ∷ case (bytesOf traps) itsScopes (scopeList (scope 1 none 0 99 ∷ scope 2 (some 0) 0 13 ∷ scope 7 (some 1) 14 40 ∷ scope 1 (some 2) 40 40 ∷ scope 3 (some 3) 41 50 ∷ scope 4 (some 4) 51 60 ∷ scope 8 (some 5) 61 99 ∷ scope 9 (some 5) 70 80 ∷ []))
-    -- an aliased name is not carried; a binding that replaces another takes its own kind
-    ∷ case (bytesOf traps) itsCarried (carries (carried 2 2 0 ∷ carried 2 2 1 ∷ []))
-    ∷ case (bytesOf traps) itsBindings (bindingList (entry 1 0 0 3 none ∷ entry 1 1 1 1 none ∷ entry 3 2 1 1 (some 0) ∷ entry 4 4 2 1 none ∷ entry 5 5 3 1 none ∷ entry 7 6 4 1 none ∷ []))
+    -- an aliased name is carried too; a binding that replaces another takes its own kind
+    ∷ case (bytesOf traps) itsCarried (carries (carried 2 2 0 ∷ carried 2 2 1 ∷ carried 2 3 1 ∷ []))
+    ∷ case (bytesOf traps) itsBindings (bindingList (entry 1 0 0 3 none ∷ entry 1 1 1 1 none ∷ entry 3 2 1 1 (some 0) ∷ entry 3 3 1 1 none ∷ entry 4 4 2 1 none ∷ entry 5 5 3 1 none ∷ entry 7 6 4 1 none ∷ []))
     -- of the operators `^`, `<` and `>=` are arithmetic, `=`, `<>` and `AND` are not
-    ∷ case (bytesOf traps) itsFindings (finds (finding 1001 0 0 4 0 0 ∷ finding 2007 0 0 2 1 1 ∷ finding 2007 0 0 2 1 1 ∷ finding 2007 0 0 2 1 1 ∷ []))
+    ∷ case (bytesOf traps) itsFindings (finds (finding 2007 0 0 2 1 1 ∷ finding 2007 0 0 2 1 1 ∷ finding 2007 0 0 2 1 1 ∷ []))
     -- every message
     ∷ case (bytesOf everyMessage) itsListing (text (bytes "findings 12\nE1002 0 0 variable `a` shadows an earlier binding\nE1001 0 0 unresolved variable `seat`\nE2008 10 13 variable `r` used in node-pattern position but has kind `Relationship`; expected `Node`\nE2008 13 18 variable `a` used in relationship-pattern position but has kind `Node`; expected `Relationship`\nE2008 0 0 variable `a` used as path binder but has kind `Node`; expected `Path`\nE2007 0 0 variable `a` has kind `Node` but is used in an arithmetic expression; only `Value` variables are valid here\nE2007 0 0 variable `p` has kind `Path` and does not support property access; use `nodes()` or `relationships()` to extract graph elements first\nE5010 0 0 cannot index non-list expression of type `Int`; list indexing and slicing require a list target\nE5010 0 0 cannot slice non-list expression of type `String`; list indexing and slicing require a list target\nE5010 0 0 cannot iterate over non-list expression of type `Map`; list indexing and slicing require a list target\nE5011 0 0 list-predicate iterable must be a list but found `Int`; ANY/ALL/NONE/SINGLE require a `LIST<T>` source\nE2011 0 0 list-predicate WHERE clause requires a `Bool` predicate but found `String`\n"))
     -- a sort key that is misspelt
     ∷ case (bytesOf sortKey) itsFindings (finds (finding 1001 0 0 2 0 0 ∷ []))
     ∷ case (bytesOf sortKey) itsListing (text (bytes "findings 1\nE1001 0 0 unresolved variable `b`\n"))
+    -- a star carries `b`, then `a` with its newest variable; both are found after it
+    ∷ case (bytesOf star) itsCarried (carries (carried 3 1 1 ∷ carried 3 0 2 ∷ []))
+    ∷ case (bytesOf star) itsBindings (bindingList (entry 1 0 0 1 none ∷ entry 1 1 1 1 none ∷ entry 2 0 2 4 none ∷ entry 4 1 1 1 none ∷ entry 4 0 2 4 none ∷ []))
+    ∷ case (bytesOf star) itsListing (text (bytes "findings 0\n"))
+    -- the alias of a computed expression has its use id as its variable
+    ∷ case (bytesOf computed) itsCarried (carries (carried 2 2 0xFAF3A299 ∷ []))
+    ∷ case (bytesOf computed) itsListing (text (bytes "findings 0\n"))
     ∷ []
 
 pub cases-hold : map given cases ≡ map expected cases
-unfolding words useId fnv1Of fnvFrom fnvStep lowDigits widthWithin decimalWidth decimal isUtf8 goesOn step after wordIn many counted shapeOf limitOf formNone formOne caseRest compRest restOf readForm readMaybe readPart readElem deepCause isIn tree reading binder bindersE allKnown clausal bindersP bindersC bindersA sameBytes nameIn freshAfter distinct allZero nameBody readName rowId readRow sized inPlace placesOf readNames readRows readClauses locate readSections readSheet bytesOf boundIn carriesName parentAt kindAt answerAt passes climb lookupIn covers width better narrowest scopeAtOffset logs walk kindWalk lists typeName kindName textOf of2007 of2008 of5010 unused textFor front lineFor line listed listing
+unfolding words useId fnv1Of fnvFrom fnvStep lowDigits widthWithin decimalWidth decimal isUtf8 goesOn step after wordIn many counted shapeOf limitOf formNone formOne caseRest compRest restOf readForm readMaybe readPart readElem deepCause isIn tree reading binder bindersE allKnown clausal bindersP bindersC bindersA sameBytes nameIn freshAfter distinct allZero nameBody readName rowId readRow sized inPlace placesOf readNames readRows readClauses locate readSections readSheet bytesOf boundIn carriesName parentAt kindAt answerAt passes climb lookupIn covers width better narrowest scopeAtOffset logs walk kindWalk lists typeName kindName textOf of2007 of2008 of5010 unused textFor front lineFor line listed fits listing
 cases-hold = refl

@@ -25,7 +25,7 @@ use Rattle.sheet.specs.Write.{WellStatement}
 use Rattle.semantics.specs.Log.{Finding, Event, open', bind, carry, answer, find, findsIn, logs}
 use Rattle.semantics.specs.World as Walk
 use Rattle.semantics.specs.World.{World, rowOf, rowName, variable, opens, starName, nameOf, bytesOf, yieldName, worldOf}
-use Rattle.semantics.specs.Resolve.{Pair, pair, State, lookup, binds, sayIf, enter, bindName, leave, standing, useVar, useName, visit, bindAnew, bindNew, bindPath, bindElem, resolve, resolves, bindPattern, carriedBy, carryAll, bindAll, barrier, fresh, yields, aliases, sortBy, clause, clauses, arms, start, run, log}
+use Rattle.semantics.specs.Resolve.{Pair, pair, State, lookup, binds, sayIf, enter, bindOver, bindName, leave, standing, useVar, useName, visit, bindAnew, bindNew, bindPath, bindElem, resolve, resolves, bindPattern, carriedBy, carryAll, bindAll, barrier, fresh, yields, aliases, sortBy, clause, clauses, arms, start, run, log}
 use Rattle.told.specs.Pushed as pushed
 use Rattle.told.specs.Pushed.{Pushed}
 use Rattle.told.proofs.Trees.{kindOf, reading-well, done-well, row-well, keys-well}
@@ -34,7 +34,7 @@ use Rattle.told.proofs.Rows.{All, nil, cons, join, cut, names-in}
 -- what is said is no finding, or one of the pushes
 abbrev Fine : List (List ℕ) → Event → Type 0
 Fine names (open' s) = Unit {0}
-Fine names (bind b) = Unit {0}
+Fine names (bind o g b) = Unit {0}
 Fine names (carry c) = Unit {0}
 Fine names (answer a) = Unit {0}
 Fine names (find f) = Pushed names f
@@ -43,7 +43,7 @@ fine-finds : {names : List (List ℕ)} {l : List Event} → All (Fine names) l �
 unfolding logs
 fine-finds nil = nil
 fine-finds (cons {x = open' s} p h) = fine-finds h
-fine-finds (cons {x = bind b} p h) = fine-finds h
+fine-finds (cons {x = bind o g b} p h) = fine-finds h
 fine-finds (cons {x = carry c} p h) = fine-finds h
 fine-finds (cons {x = answer a} p h) = fine-finds h
 fine-finds (cons {x = find f} p h) = cons p (fine-finds h)
@@ -160,7 +160,7 @@ module _ (warns : Bool) (st : Statement) where
   fine-binds : (ps : List Pair) (s : State) → Says s → Says (bindAll w ps s)
   unfolding bindAll
   fine-binds [] s k = k
-  fine-binds (pair x v ∷ ps) s k = fine-binds ps (bindName x v (Walk.kindOf w v) s) (cons tt k)
+  fine-binds (pair x v ∷ ps) s k = fine-binds ps (bindOver true x v (Walk.kindOf w v) s) (cons tt k)
 
   -- projections, and then others
   row-named : (ps : List Projection) (f : Exprs) → Named (flatMap bindersP ps) → Named (binders f) → Named (binders (exprs ps f))

@@ -1,6 +1,5 @@
 -- Scratch for 512 words.
 use borrow.Author.Needs.{needs}
-use native.Mathlib.Omega.{arith}
 use Rattle.listing.proofs.Scratch.{scratch}
 use Rattle.listing.proofs.list_512.Statement.{statement}
 use Rattle.listing.proofs.list_512.Tie as tie
@@ -15,6 +14,6 @@ list-512-spec =
     (λ c. search needs)  -- slice-aggregate-list-4
     (λ c. search needs)  -- slice-aggregate-list-5
     (λ c. search needs)  -- slice-aggregate-list-6
-    (λ c κs. scratch 512 528 686 3072 (c .before .before .before .before .before .before .before .before .before .pre) (omega arith) (omega arith) (omega arith))  -- list-requires
+    (λ c κs. scratch 512 (c .before .before .before .before .before .before .before .before .before .pre))  -- list-requires
     (λ c. search needs)  -- same-length
     (λ c. search needs))  -- returns
