@@ -80,7 +80,7 @@ pub record Stored (k n : ℕ) (ids old new : List ℕ) : Type 0 where
 
 -- what the walks go by besides is in tab; its marks and chains are as before
 pub record Settling (s : List ℕ) (p : Places) (places ids tab : List ℕ) : Type 0 where
-  pub places : InPlaces s p
+  pub located : InPlaces s p
   pub named : p .names ≤ length places
   pub used : p .names ≤ length ids
   pub below : p .names ≤ 8192
@@ -231,8 +231,8 @@ pub record Said (s : List ℕ) (p : Places) (tab found carried carried' : List �
   pub state : Both
   pub log : events id said found ≡ kept (wantsIn tab) (state .names .log)
   pub kinds : findings told found ≡ state .kinds
-  pub made : made ≡ needs.made (state .names .log)
-  pub taken : taken ≡ needs.carriedIn (state .names .log)
+  pub bindings : made ≡ needs.made (state .names .log)
+  pub carriedNames : taken ≡ needs.carriedIn (state .names .log)
   pub carries : Carries carried carried' (state .names .log)
   pub same : sheetGo (worldAt (words s) tab id) p (words s) ≡ accepted state
 

@@ -46,8 +46,8 @@ pub record RanTo (choice : ℕ) (s places ids tab found old carried : List ℕ) 
   pub uses : take (placesOf (words s) .names) ids ≡ map useId (statement .names)
   pub log : events (idOf statement) said found ≡ kept (wantsBy choice) (run (warnsBy choice) statement .log)
   pub kinds : findings told found ≡ reverse (kinds (worldOf (warnsBy choice) statement) (statement .head))
-  pub made : made ≡ needs.made (run (warnsBy choice) statement .log)
-  pub taken : taken ≡ needs.carriedIn (run (warnsBy choice) statement .log)
+  pub bindings : made ≡ needs.made (run (warnsBy choice) statement .log)
+  pub carriedNames : taken ≡ needs.carriedIn (run (warnsBy choice) statement .log)
   pub carries : Carries old carried (run (warnsBy choice) statement .log)
   pub fine : Fine (words s) tab
   pub kinded : (v : ℕ) → kindOf (worldAt (words s) tab noUses) v ≡ kindOf (worldOf (warnsBy choice) statement) v
