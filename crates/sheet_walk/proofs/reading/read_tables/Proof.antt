@@ -15,26 +15,6 @@ read-tables-spec =
     let placed = fact (λ (k : tie.Else1). in-places (k .before .before .before .before .before .before .before .before .before .before .before .before .before .before .before .before .args .s .now) (k .before .before .before .before .before .before .before .before .before .before .before .before .before .before .before .before .args .p) (k .before .before .before .before .before .before .before .before .before .before .before .before .before .before .before .before .pre .0 .0)) in
     let few = fact (λ (k : tie.Else1). names-few (k .before .before .before .before .before .before .before .before .before .before .before .before .before .before .before .before .args .p .names) (k .before .before .before .before .before .before .before .before .before .before .before .before .before .before .before .before .args .p .rows) (k .before .before .before .before .before .before .before .before .before .before .before .before .before .before .before .before .args .s .now) (named k)) in
     let rowed = fact (λ (k : tie.Else2). rw (not-false (k .before .before .before .rows-of .result) (k .if2 .left)) at (k .before .before .before .rows-of .ensures)) in
-    let settling =
-    fact
-    (λ (k : tie.After-settle-arg3).
-    let e = k .before .before .before in
-    let f = e .before .before .before .before .before in
-    let a = f .before .before .before .before .before .before .before .before .before .before .before .before .before .before .before .before .args in
-    let r = f .before .before .before .before .before .before .before .before .before .before .before .before .before .before .before .before .pre in
-    let n = few f in
-    let q = placed f in
-    let w = length-words (a .s .now) in
-    let o = slots-of (a .p .names) in
-    let z = rowed e .slots in
-    record {
-      located = q;
-      named = omega (arith, n, q, f .before .before .before .before .before .before .places .given, r .0 .1 .0 .places);
-      used = omega (arith, n, q, f .before .before .before .before .ids .given, r .0 .1 .0 .uses);
-      below = omega (arith, n, q);
-      slots = omega (arith, z, o);
-      long = omega (arith, z, o, n, q, w, e .before .before .tab .given, r .1 .long);
-    }) in
     tie.close
     (tie.spec
     (λ c κs.  -- names-of-requires
@@ -51,9 +31,27 @@ read-tables-spec =
     let k = c .before .before .before in
     let b = c .before .before .before .before .before .before .before .before .before .before .before .before .before .before .before .before .before .before .before .before .before in
     record { tables = rows-refuse (b .args .s .now) (b .args .p) (b .pre .0 .0) (named (k .before .before)) (rw (not-true (k .rows-of .result) (c .if2 .taken)) at (k .rows-of .ensures)) })
-    (λ c κs. settling c)  -- settle-requires
+    (λ c κs.  -- settle-requires
+    let e = c .before .before .before in
+    let f = e .before .before .before .before .before in
+    let a = f .before .before .before .before .before .before .before .before .before .before .before .before .before .before .before .before .args in
+    let r = f .before .before .before .before .before .before .before .before .before .before .before .before .before .before .before .before .pre in
+    let n = few f in
+    let q = placed f in
+    let w = length-words (a .s .now) in
+    let o = slots-of (a .p .names) in
+    let z = rowed e .slots in
+    record {
+      located = q;
+      named = omega (arith, n, q, f .before .before .before .before .before .before .places .given, r .0 .1 .0 .places);
+      used = omega (arith, n, q, f .before .before .before .before .ids .given, r .0 .1 .0 .uses);
+      below = omega (arith, n, q);
+      slots = omega (arith, z, o);
+      long = omega (arith, z, o, n, q, w, e .before .before .tab .given, r .1 .long);
+    })
     (λ c. search needs) (λ c. search needs) (λ c. search needs) (λ c. search needs)  -- same-length-8
     (λ c.  -- returns-3
     let e = c .before .before .before .before .before .before in
-    let b = c .before .before .before .before .before .before .before .before .before .before .before .before .before .before .before .before .before .before .before .before .before .before .before .before .before .before .before in
-    record { tables = known (b .pre .0 .0) (named (e .before .before .before .before .before)) (rowed e) (c .before .before .settle .ensures) (omega (arith, c .before .tab2 .given, e .before .before .tab .given, b .pre .1 .long)) (settling (c .before .before .before) .used) }))
+    let f = e .before .before .before .before .before in
+    let b = f .before .before .before .before .before .before .before .before .before .before .before .before .before .before .before .before in
+    record { tables = known (b .pre .0 .0) (named f) (rowed e) (c .before .before .settle .ensures) (omega (arith, c .before .tab2 .given, e .before .before .tab .given, b .pre .1 .long)) (omega (arith, few f, placed f, f .before .before .before .before .ids .given, b .pre .0 .1 .0 .uses)) }))
