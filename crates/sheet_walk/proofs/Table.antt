@@ -7,7 +7,7 @@ use mathlib.Core.Path.{_≡_, refl, ap, sym, _∙_}
 use mathlib.Core.Bool.{Bool, true, false, cond}
 use mathlib.Core.List.{List, [], _∷_, _++_, append-nil}
 use lib.Dec.{eqb}
-use lib.ListN.{length, take, drop, getD, set, length-set, length-take, length-drop, List·getD-append}
+use lib.ListN.{length, take, drop, getD, set, length-set, length-drop, List·getD-append}
 use lib.Seq.{getD-set-same, getD-set-other, getD-drop, getD-take, drop-set-lt, drop-at, take-all, length-take-le}
 use borrow.Author.Count.{below-more}
 use borrow.Author.Tests.{eqb-true, eqb-false}
@@ -17,7 +17,7 @@ use Rattle.tables.specs.Index.{indexOf}
 use Rattle.sheet.specs.declared.trailer.Places.{Places}
 use Rattle.rows.specs.Slot.{slots}
 use Rattle.rows.specs.Rows.{Empty, Indexed}
-use Rattle.steps.specs.Memory.{slotsIn, useIn, chainsIn}
+use Rattle.steps.specs.Memory.{slotsIn}
 use Rattle.sheet_walk.specs.Parts.{Shift, Clear, HungUp, namesBy, Stored, Settles}
 
 -- ---- the chains

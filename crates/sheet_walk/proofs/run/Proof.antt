@@ -29,16 +29,17 @@ run-spec =
     ((o .0, (record { short = o .1 .short; places = omega (arith, q .placed, length-words s); uses = omega (arith, q .used, length-words s) }, omega (arith, q .pairs))), record { long = q .long; clear = q .clear }))
     (λ c. search needs) (λ c. search needs) (λ c. search needs) (λ c. search needs)  -- same-length
     (λ c.  -- returns-2
-    let k = c .before .before .before .before .before .before .before .before .before in
-    (record {
-      placed = c .before .before .before .before .before .before .before .before .places .given;
-      used = c .before .before .before .before .before .before .ids .given;
-      long = c .before .before .before .before .tab .given;
-      seen = refl;
-      wrote = refl;
-      kept = c .before .before .held .given;
-    },
-    record { lent = refl; ran = tables-no (c .if1 .taken) (k .read-tables .ensures) }))
+    let k = c .before .before .before .before .before .before .before .before .before in (
+      record {
+        placed = c .before .before .before .before .before .before .before .before .places .given;
+        used = c .before .before .before .before .before .before .ids .given;
+        long = c .before .before .before .before .tab .given;
+        seen = refl;
+        wrote = refl;
+        kept = c .before .before .held .given;
+      },
+      record { lent = refl; ran = tables-no (c .if1 .taken) (k .read-tables .ensures) },
+    ))
     (λ c κs.  -- walk-all-requires
     let e = c .before .before .before .before .before in
     let q = c .before .before .before .before .before .before .before .before .before .before .before .before .before .before .before .before .before .before .before .before .before .before .before .before .before .before .before .before .before .before .before .pre in
@@ -51,13 +52,14 @@ run-spec =
     let x = k .walk-all .ensures .1 in
     let l = x .lengths in
     let z = e .before .before .before .before .before .before .before .before .places .given in
-    let t = k .walk-all .ensures .0 in
-    (record {
-      placed = z;
-      used = e .before .before .before .before .before .before .ids .given;
-      long = omega (arith, c .before .before .before .before .before .before .before .before .before .tab2 .given, e .before .before .before .before .tab .given);
-      seen = l .seen;
-      wrote = l .wrote;
-      kept = omega (arith, l .kept, e .before .before .held .given);
-    },
-    record { lent = l .lent; ran = rw t (runs (tabled e) _ _ _ (omega (arith, z, q .placed)) (omega (arith, l .wrote, q .room)) (k .walk-all .result) (x .ran)) })))
+    let t = k .walk-all .ensures .0 in (
+      record {
+        placed = z;
+        used = e .before .before .before .before .before .before .ids .given;
+        long = omega (arith, c .before .before .before .before .before .before .before .before .before .tab2 .given, e .before .before .before .before .tab .given);
+        seen = l .seen;
+        wrote = l .wrote;
+        kept = omega (arith, l .kept, e .before .before .held .given);
+      },
+      record { lent = l .lent; ran = rw t (runs (tabled e) _ _ _ (omega (arith, z, q .placed)) (omega (arith, l .wrote, q .room)) (k .walk-all .result) (x .ran)) },
+    )))

@@ -2,7 +2,6 @@
 -- tab as it was.
 use native.Mathlib.Omega.{arith}
 use mathlib.Core.Path.{refl, _∙_}
-use borrow.Author.Needs.{needs}
 use Rattle.heads.proofs.Chain.{fact}
 use Rattle.sheet_walk.proofs.Ended.{stands-on}
 use Rattle.sheet_walk.proofs.Whole.{wide-same, head-refused, arms-refused, rows-lacking, both-done}
