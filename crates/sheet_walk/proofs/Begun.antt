@@ -8,13 +8,15 @@ use lib.ListN.{length, take, getD, set, length-take}
 use Rattle.words.specs.Words.{words}
 use Rattle.words.proofs.Words.{length-words}
 use Rattle.sheet.specs.declared.trailer.Places.{Places}
+use Rattle.theorems.specs.Needs.{made, carriedIn}
+use Rattle.theorems.specs.Woven.{written}
 use Rattle.fused.specs.Fused.{Both}
 use Rattle.visible.specs.Visible.{Descends}
 use Rattle.visible.proofs.Names.{empty, seens-none}
 use Rattle.steps.specs.Memory.{topOf, curOf, lastOf, saidOf, toldOf, lostOf, heldOf, slotsIn, wantsIn, events, findings, kept}
 use Rattle.steps.specs.Hold.{Fits, Holds, Roomy, SaysIf}
-use Rattle.steps.proofs.Held.{Numbers, unset, store, says-if}
-use Rattle.sheet_walk.specs.Parts.{Set, Wide, Unseen, Fresh, Begins}
+use Rattle.steps.proofs.Held.{Numbers, unset, store, no-count, says-if}
+use Rattle.sheet_walk.specs.Parts.{Set, Uses, Wide, Unseen, Fresh, Begins}
 
 -- no names, no events, no findings
 abbrev nothing : Both
@@ -36,7 +38,7 @@ unfolding zeros
 fresh vis u = record { size = refl; zeros = zero-at 64; unseen = u }
 
 kept-none : (b : Bool) → kept b [] ≡ []
-unfolding kept
+unfolding kept written
 kept-none true = refl
 kept-none false = refl
 
@@ -55,6 +57,8 @@ module _ {s : List ℕ} {p : Places} {tab m vis found : List ℕ} (h : Set s p t
         told = n .told ∙ f .zeros 5;
         lost = n .lost ∙ f .zeros 6;
         held = n .held;
+        made = n .made;
+        taken = n .taken;
         levels = n .levels;
       }
 
@@ -80,14 +84,15 @@ module _ {s : List ℕ} {p : Places} {tab m vis found : List ℕ} (h : Set s p t
         last = omega (arith, q .last);
         count = omega (arith, q .said, q .told);
         stack = omega (arith, q .top, q .at, h .slots);
+        needs = omega (arith, q .made, q .taken, f .zeros 8, f .zeros 9);
         within = omega (arith, q .at, l, h .places .head);
         names = omega (arith, w .names, l, h .places .tail, h .places .trailer, length-words s);
         room = omega (arith, w .room, l, h .places .tail, h .places .trailer, length-words s);
       }
 
-  holds : (id : ℕ → ℕ) → Holds id tab (set m 0 (p .head)) vis found nothing
-  unfolding events findings
-  holds id =
+  holds : (id : ℕ → ℕ) → Uses tab id → Holds id tab (set m 0 (p .head)) vis found nothing
+  unfolding events findings made carriedIn
+  holds id uses =
       let q = stood in
       record {
         visible = rw (q .top) (seens-none (slotsIn tab) vis);
@@ -96,13 +101,15 @@ module _ {s : List ℕ} {p : Places} {tab m vis found : List ℕ} (h : Set s p t
         log = rw (q .said) (sym (kept-none (wantsIn tab)));
         kinds = rw (q .told);
         known = rw (q .lost);
+        counts = record { made = q .made ∙ f .zeros 8; taken = q .taken ∙ f .zeros 9 };
+        uses = uses;
       }
 
   pub begins : {m' found' : List ℕ} → SaysIf (wantsIn tab) 1 1 0 (p .start) (p .end) 0 (set m 0 (p .head)) found m' found' → Begins s p tab vis found m' found'
   begins x =
-      let c = says-if {ws = take (p .tail) (words s)} {vis = vis} (stood .size ∙ f .size) x (λ id l. refl) in
+      let c = says-if {ws = take (p .tail) (words s)} {vis = vis} (stood .size ∙ f .size) x (λ id l. refl) (λ id l. refl) (λ id. no-count (λ n. refl) (λ n. refl)) in
       record {
         wrote = c .wrote;
         stands = record { at = c .at ∙ stood .at; fit = c .fit 0 0 fits };
-        holds = λ id. c .goes id nothing (holds id);
+        holds = λ id u. c .goes id nothing (holds id u);
       }

@@ -1,14 +1,15 @@
--- The two tables where both are right: what the walks go by is in order, and the World is that of the names and the bindings (`known`).
+-- The two tables where both are right: what the walks go by is in order, the World is that of the names and the bindings, and the use ids are
+-- the names' (`known`).
 -- Distinct names have `*` and `id` at one index at most, and a row that is found is the table's.
 use Prim.Native.Nat.{ℕ, zero, suc, _+_, _*_, _<_, _≤_}
 use native.Mathlib.Omega.{arith}
 use mathlib.Core.Path.{_≡_, refl, ap, sym, _∙_}
 use mathlib.Core.Logic.{_≢_}
 use mathlib.Core.Bool.{Bool, true, false, cond, _&&_, and-true, and-false}
-use mathlib.Core.List.{List, [], _∷_}
+use mathlib.Core.List.{List, [], _∷_, map}
 use lib.Dec.{eqb}
-use lib.ListN.{length, take, drop, getD, length-take, length-drop}
-use lib.Seq.{getD-drop, drop-drop}
+use lib.ListN.{length, take, drop, getD, length-take, length-drop, length-map}
+use lib.Seq.{getD-take, length-take-le}
 use borrow.Author.Tests.{eqb-true, eqb-false}
 use Rattle.words.specs.Words.{words}
 use Rattle.words.specs.Fnv.{useId}
@@ -18,6 +19,7 @@ use Rattle.heads.specs.Answer.{rowIds, isIn}
 use Rattle.tables.specs.Distinct.{sameBytes, nameIn, distinct}
 use Rattle.tables.specs.Row.{readRow}
 use Rattle.tables.proofs.Fresh.{same-comm}
+use Rattle.tables.proofs.Front.{getD-map}
 use Rattle.tables.proofs.Index.{index-is}
 use Rattle.sheet.specs.Trailer.{section}
 use Rattle.sheet.specs.Read.{accepted, refused, locate, readRows, readSections, readSheet}
@@ -30,12 +32,12 @@ use Rattle.sheet.proofs.Accepted.{names-hold, rows-hold}
 use Rattle.semantics.specs.World.{starName, idName, bytesOf, worldOf}
 use Rattle.fused.proofs.ApartStatement.{worldBy, world-same}
 use Rattle.rows.proofs.Found.{row-found}
-use Rattle.steps.specs.Memory.{slotsIn, chainsIn, worldAt}
+use Rattle.steps.specs.Memory.{slotsIn, worldAt}
 use Rattle.clause_parts.specs.Passes.{Unmarked}
 use Rattle.clause_parts.proofs.Passing.{none-hushed}
 use Rattle.steps.specs.Hold.{Fine}
 use Rattle.sheet_walk.specs.Runs.{warnsBy}
-use Rattle.sheet_walk.specs.Parts.{slotsFor, Rowed, namesBy, Settles, Set, Tables, TablesAs, ReadsTables}
+use Rattle.sheet_walk.specs.Parts.{slotsFor, Rowed, namesBy, Settles, Set, Uses, Tables, TablesAs, ReadsTables}
 use Rattle.sheet_walk.proofs.Rows.{row-words}
 
 -- the names `*` and `id` as texts that are the same
@@ -73,7 +75,7 @@ rows-refuse s p placed t r = rw (placed, t .same, r)
 pub names-few : (n e : ℕ) (s : List ℕ) {places ids : List ℕ} → Tabled n (take (e * 4) s) places ids true → n ≤ e
 names-few n e s t = omega (arith, t .many refl, length-take (e * 4) s)
 
-module _ {s : List ℕ} {p : Places} {choice : ℕ} {places ids old tab : List ℕ} (placed : locate s ≡ accepted p) (t : Tabled (p .names) (take (p .rows * 4) s) places ids true) (r : Rowed s p old) (q : Settles s p choice places old tab) (wide : 16 + length (words s) ≤ length tab) where
+module _ {s : List ℕ} {p : Places} {choice : ℕ} {places ids old tab : List ℕ} (placed : locate s ≡ accepted p) (t : Tabled (p .names) (take (p .rows * 4) s) places ids true) (r : Rowed s p old) (q : Settles s p choice places ids old tab) (wide : 16 + length (words s) * 2 ≤ length tab) (used : p .names ≤ length ids) where
   inside : InPlaces s p
   inside = in-places s p placed
 
@@ -101,14 +103,10 @@ module _ {s : List ℕ} {p : Places} {choice : ℕ} {places ids old tab : List �
   slots : slotsIn tab ≡ slotsFor (p .names)
   slots = q .slots ∙ r .slots
 
-  -- what stands behind the numbers is as before
-  chains : chainsIn tab ≡ chainsIn old
-  chains = rw (q .slots) (sym (drop-drop (slotsIn old) 16 tab) ∙ ap (drop (slotsIn old)) (q .behind) ∙ drop-drop (slotsIn old) 16 old)
-
   unmarked : Unmarked tab
   unmarked x l =
-      let z : getD tab (16 + x) 0 ≡ getD old (16 + x) 0 = sym (getD-drop 16 tab x 0) ∙ ap (λ (l : List ℕ). getD l x 0) (q .behind) ∙ getD-drop 16 old x 0 in
-      rw z (r .unmarked x (omega (arith, l, q .slots)))
+      let k : x < slotsIn old = omega (arith, l, q .slots) in
+      q .marks x k ∙ r .unmarked x k
 
   fine : Fine (words s) tab
   fine =
@@ -121,7 +119,7 @@ module _ {s : List ℕ} {p : Places} {choice : ℕ} {places ids old tab : List �
         rows = rw (q .rows, q .bindings) (omega (arith, fills, head-long));
         named = λ j l. let z = row-words (p .names) (p .bindings) (p .head) (p .rows) (words s) (r .rows) read j (rw (q .bindings) at l) in rw (slots, q .rows) (omega (arith, z, sl));
         kinded = λ j l. let z = row-words (p .names) (p .bindings) (p .head) (p .rows) (words s) (r .rows) read j (rw (q .bindings) at l) in rw (q .rows) (z .1);
-        hung = rw (q .mult, q .shift, q .bindings, q .rows, chains) (r .hung);
+        hung = rw (q .mult, q .shift, q .bindings, q .rows, q .chains) (r .hung);
       }
 
   set : Set s p tab
@@ -146,8 +144,15 @@ module _ {s : List ℕ} {p : Places} {choice : ℕ} {places ids old tab : List �
       (λ v. rw (q .rows, q .bindings) (sym (row-found (p .names) (p .bindings) (p .head) (words s) [] (r .rows) (p .rows) v read (omega (arith, fills, head-long)) once)))
       (q .warns)
 
+  uses : Uses tab (λ x. useId (getD (namesBy s p places) x []))
+  uses x l =
+      let k : x < p .names = omega (arith, l, q .names) in
+      let ns = namesBy s p places in
+      let long : length (map useId ns) ≡ p .names = ap length (sym (t .uses refl)) ∙ length-take-le (p .names) ids used in
+      q .uses x k ∙ sym (getD-take (p .names) ids x 0 k) ∙ ap (λ (a : List ℕ). getD a x 0) (t .uses refl) ∙ getD-map useId ns x [] 0 (omega (arith, long, length-map ns useId))
+
   pub known : Tables s p choice places ids tab
-  known = record { rows = r .rows; has = record { places = placed; names = t .same; rows = r .read }; tabled = t; set = set; world = world; wants = q .wants }
+  known = record { rows = r .rows; has = record { places = placed; names = t .same; rows = r .read }; tabled = t; set = set; world = world; uses = uses; wants = q .wants }
 
 -- the cause that the tables give
 pub tables-no : {s : List ℕ} {p : Places} {choice : ℕ} {places ids tab : List ℕ} {r : ℕ} → r ≢ 0 → ReadsTables s p choice places ids tab r → readSheet s ≡ refused r

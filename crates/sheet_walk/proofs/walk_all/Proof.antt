@@ -12,12 +12,11 @@ walk-all-spec =
     (tie.spec
     (λ c. search needs)  -- slice-aggregate-m
     (λ c κs.  -- walk-both-requires
-    let a = c .before .before .before .before .before .before .before .before .before .before .before .args in
-    let q = c .before .before .before .before .before .before .before .before .before .before .before .pre in
+    let a = c .before .before .before .before .before .before .before .before .before .before .before .before .before .args in
+    let q = c .before .before .before .before .before .before .before .before .before .before .before .before .before .pre in
     (q .0, fresh (a .vis .now) (q .1)))
-    (λ c. search needs) (λ c. search needs) (λ c. search needs) (λ c. search needs)  -- same-length
-    (λ c. ran-no (c .before .if1 .taken) (c .before .before .before .before .before .before .before .before .before .before .before .before .walk-both .ensures))  -- returns
-    (λ c. search needs)  -- slice-read-t23
-    (λ c. search needs)  -- slice-read-t25
-    (λ c. search needs) (λ c. search needs) (λ c. search needs) (λ c. search needs)  -- same-length-5
-    (λ c. ran-is (rw (c .before .before .before .if1 .left) at (c .before .before .before .before .before .before .before .before .before .before .before .before .before .before .walk-both .ensures))))  -- returns-2
+    (λ c. search needs) (λ c. search needs) (λ c. search needs) (λ c. search needs) (λ c. search needs)  -- same-length
+    (λ c. let x = c .before .before .before .before .before .before .before .before .before .before .before .before .before .before .walk-both .ensures in (x .0, ran-no (c .before .if1 .taken) (x .1)))  -- returns
+    (λ c. search needs) (λ c. search needs) (λ c. search needs) (λ c. search needs)  -- slice-read-t26, -t28, -t30, -t32
+    (λ c. search needs) (λ c. search needs) (λ c. search needs) (λ c. search needs) (λ c. search needs)  -- same-length-6
+    (λ c. let x = c .before .before .before .before .before .before .before .before .before .before .before .before .before .before .before .before .before .before .walk-both .ensures in (x .0, ran-is (rw (c .before .before .before .before .before .if1 .left) at (x .1)))))  -- returns-2

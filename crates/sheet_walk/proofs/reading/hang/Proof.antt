@@ -1,6 +1,6 @@
--- The numbers of the hash and the marks stand before the chains, which have room for the slots and the bindings, all zeros
+-- The numbers of the hash, the marks and the use ids stand before the chains, which have room for the slots and the bindings, all zeros
 -- (`hang-empty`); and the chains that are made stand there too (`hung-up`).
-use Prim.Native.Nat.{ℕ, _+_, _-_}
+use Prim.Native.Nat.{ℕ, _+_, _-_, _*_}
 use native.Mathlib.Omega.{arith}
 use mathlib.Core.Path.{_∙_}
 use borrow.Author.Needs.{needs}
@@ -25,6 +25,7 @@ hang-spec =
     (λ c. search needs)  -- slice-write-tab
     (λ c. simp length-set (omega arith))  -- slice-write-tab-2
     (λ c. simp length-set (omega arith))  -- slice-write-tab-3
+    (λ c. search needs)  -- mul-chains
     (λ c. search needs)  -- add-chains
     (λ c. search needs)  -- mul-index-rows
     (λ c. omega (arith, wide c))  -- sub-index-rows
@@ -39,7 +40,7 @@ hang-spec =
     let k = c .before .before .before .before in
     let a = k .before .before .before .before .args in
     let xs = hashed (a .tab .now) (a .slots) (k .mult-for .result) (k .before .shift-for .result) in
-    same-len-mid {X = ℕ} (16 + a .slots) (length xs - (16 + a .slots)) xs (c .before .before .index-rows .last .1 .0) (c .before .before .index-rows .ensures .kept) ∙ wide k)
+    same-len-mid {X = ℕ} (16 + a .slots * 2) (length xs - (16 + a .slots * 2)) xs (c .before .before .index-rows .last .1 .0) (c .before .before .index-rows .ensures .kept) ∙ wide k)
     (λ c.  -- returns
     let k = c .before .before .before .before in
     let a = k .before .before .before .before .args in

@@ -15,9 +15,9 @@ walk-head-spec =
     let walked =
     fact
     (λ (k : tie.After-walk-clauses).
-    let a = k .before .before .before .before .before .before .before .before .before .before .before .before .before .args in
+    let a = k .before .before .before .before .before .before .before .before .before .before .before .before .before .before .before .args in
     rw (words-take (a .p .tail) (a .s .now)) at (k .walk-clauses .ensures)) in
-    let asked = fact (λ (k : tie.After-walk-clauses). k .before .before .before .before .before .before .before .before .before .before .before .before .before .pre) in
+    let asked = fact (λ (k : tie.After-walk-clauses). k .before .before .before .before .before .before .before .before .before .before .before .before .before .before .before .pre) in
     tie.close
     (tie.spec
     (λ c. search needs)  -- mul
@@ -25,24 +25,24 @@ walk-head-spec =
     (λ c. search needs)  -- part-start
     (λ c. search needs)  -- part-end
     (λ c κs.  -- walk-clauses-requires
-    let a = c .before .before .before .before .before .before .before .before .before .before .before .before .args in
-    let q = c .before .before .before .before .before .before .before .before .before .before .before .before .pre in
+    let a = c .before .before .before .before .before .before .before .before .before .before .before .before .before .before .args in
+    let q = c .before .before .before .before .before .before .before .before .before .before .before .before .before .before .pre in
     rw (words-take (a .p .tail) (a .s .now))
     (record { unmarked = q .0 .set .unmarked; room = omega (arith, q .0 .pairs, length-take (a .p .tail) (words (a .s .now))); resolves = refl }, ready-in (q .0 .set) (omega (arith, q .0 .set .places)) (omega (arith, q .0 .set .places)) (q .1)))
-    (λ c. search needs) (λ c. search needs) (λ c. search needs) (λ c. search needs) (λ c. search needs)  -- same-length
+    (λ c. search needs) (λ c. search needs) (λ c. search needs) (λ c. search needs) (λ c. search needs) (λ c. search needs)  -- same-length
     (λ c.  -- returns
-    let k = c .before .before .before .before .before .before .before .before .before .before .before in
+    let k = c .before .before .before .before .before .before .before .before .before .before .before .before .before in
     let q = asked k in
-    (walked k .0, walks-no (tail-long (q .0 .set)) (q .1) (head-is (q .0 .set)) (c .if1 .taken) (walked k .1)))
+    (walked k .1 .0, walks-no (tail-long (q .0 .set)) (q .1) (head-is (q .0 .set)) (walked k .0) (c .if1 .taken) (walked k .1 .1)))
     (λ c. search needs)  -- slice-read-if2
-    (λ c. omega (arith, c .slice-known11 .given 0))  -- cast-if2
-    (λ c. search needs) (λ c. search needs) (λ c. search needs) (λ c. search needs) (λ c. search needs)  -- same-length-6
+    (λ c. omega (arith, c .slice-known13 .given 0))  -- cast-if2
+    (λ c. search needs) (λ c. search needs) (λ c. search needs) (λ c. search needs) (λ c. search needs) (λ c. search needs)  -- same-length-7
     (λ c.  -- returns-2
-    let k = c .before .before .before .before .before .before .before .before .before .before .before .before .before in
+    let k = c .before .before .before .before .before .before .before .before .before .before .before .before .before .before .before in
     let q = asked k in
-    (walked k .0, walks-left (tail-long (q .0 .set)) (q .1) (head-is (q .0 .set)) (rw (c .before .before .if1 .left) at (walked k .1)) (c .if2 .taken)))
-    (λ c. search needs) (λ c. search needs) (λ c. search needs) (λ c. search needs) (λ c. search needs)  -- same-length-11
+    (walked k .1 .0, walks-left (tail-long (q .0 .set)) (q .1) (head-is (q .0 .set)) (walked k .0) (rw (c .before .before .if1 .left) at (walked k .1 .1)) (c .if2 .taken)))
+    (λ c. search needs) (λ c. search needs) (λ c. search needs) (λ c. search needs) (λ c. search needs) (λ c. search needs)  -- same-length-13
     (λ c.  -- returns-3
-    let k = c .before .before .before .before .before .before .before .before .before .before .before .before .before in
+    let k = c .before .before .before .before .before .before .before .before .before .before .before .before .before .before .before in
     let q = asked k in
-    (walked k .0, walks-end (tail-long (q .0 .set)) (q .1) (head-is (q .0 .set)) (rw (c .before .before .if1 .left) at (walked k .1)) (c .if2 .left))))
+    (walked k .1 .0, walks-end (tail-long (q .0 .set)) (q .1) (head-is (q .0 .set)) (walked k .0) (rw (c .before .before .if1 .left) at (walked k .1 .1)) (c .if2 .left))))
