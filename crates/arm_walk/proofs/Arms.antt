@@ -1,10 +1,9 @@
 -- An arm takes what its clauses take (`arm-takes`): the words that it reads first say nothing (`Moved`), and with nothing visible the log stays.
 use Prim.Native.Nat.{ℕ, _+_}
-use native.Mathlib.Omega.{arith}
-use mathlib.Core.Path.{_≡_, refl, sym, _∙_}
+use mathlib.Core.Path.{_≡_, _∙_}
 use mathlib.Core.List.{List, []}
-use lib.ListN.{length, set, drop}
-use Rattle.heads.specs.Got.{Got, ok, wordIn}
+use lib.ListN.{length, drop}
+use Rattle.heads.specs.Got.{ok, wordIn}
 use Rattle.heads.specs.declared.Word.{Word}
 use Rattle.heads.specs.declared.Word.the-variants as word
 use Rattle.semantics.specs.Resolve.{standing}

@@ -1,11 +1,11 @@
 -- Visible names stored as carried ones, oldest first, behind `from` entries: i of them so far (`Stored`, begun by `none-stored`, one more by
 -- `one-stored`), and all (`all-stored`).
-use Prim.Native.Nat.{ℕ, zero, _+_, _-_, _*_, _<_, _≤_}
+use Prim.Native.Nat.{ℕ, _+_, _-_, _*_, _<_, _≤_}
 use native.Mathlib.Nat.{add-zero}
 use native.Mathlib.Omega.{arith}
 use native.Mathlib.Numerals.{add-one}
 use mathlib.Core.Path.{_≡_, refl, _∙_}
-use mathlib.Core.List.{List, [], _∷_, _++_, append-assoc, append-nil}
+use mathlib.Core.List.{List, _++_, append-assoc, append-nil}
 use lib.ListN.{length, getD}
 use Rattle.scope.specs.Graph.{Carried, carried}
 use Rattle.visible.specs.Visible.{seens}

@@ -7,7 +7,7 @@ use mathlib.Core.Path.{_≡_, refl, sym, ap, subst, _∙_}
 use mathlib.Core.List.{List, [], _∷_, _++_, reverse, append-nil}
 use lib.ListN.{length, drop}
 use Rattle.scope.specs.Graph.{Carried}
-use Rattle.heads.specs.Got.{Got, ok, no}
+use Rattle.heads.specs.Got.{ok, no}
 use Rattle.expr.proofs.Inverse.{never}
 use Rattle.semantics.specs.Log.{Event, carriesIn}
 use Rattle.semantics.specs.Resolve.{Seen}

@@ -1,6 +1,6 @@
 -- What the walk of a clause carries, where names are resolved (`walked-carries`): it is reading and then the definition's clause.
-use mathlib.Core.Path.{_≡_, refl, sym, _∙_, subst}
 use Prim.Native.Nat.{ℕ}
+use mathlib.Core.Path.{_≡_, refl, sym, _∙_, subst}
 use mathlib.Core.Bool.{Bool, true, false}
 use mathlib.Core.List.{List}
 use Rattle.heads.specs.Got.{Got, ok, no, bind}
@@ -8,7 +8,7 @@ use Rattle.clauses.specs.Tree.{Clause}
 use Rattle.clauses.specs.Read.{readClause}
 use Rattle.semantics.specs.World.{World}
 use Rattle.semantics.specs.Resolve.{State, clause}
-use Rattle.fused.specs.Fused.{Both, Mode, when}
+use Rattle.fused.specs.Fused.{Both, when}
 use Rattle.fused.proofs.ApartClauses.{walks, apart-clause}
 use Rattle.expr.proofs.Inverse.{never}
 use Rattle.steps.specs.Memory.{tablesIn, worldAt, modeOf}

@@ -36,12 +36,12 @@ take-carried-spec =
     (λ c. omega (arith, c .before .before .before .before .shared-slice-known6 .given 1))  -- cast-k
     (λ c. omega (arith, c .before .before .before .before .shared-slice-known6 .given 1))  -- mul-k
     (λ c. omega (arith, c .before .before .before .before .shared-slice-known6 .given 1, c .before .before .shared-slice-known7 .given 1))  -- add-k
-    (λ c. omega (arith, c .before .before .before .before .before .before .before .before .before .before .shared-slice-known4 .given 9))  -- add-put-carried
-    (λ c. omega (arith, c .before .before .before .before .before .shared-slice-known6 .given 1))  -- mul-put-carried
-    (λ c. omega (arith, c .before .before .before .before .before .before .shared-slice-known6 .given 1))  -- shared-slice-read-put-carried
-    (λ c. omega (arith, c .before .before .before .before .before .before .shared-slice-known6 .given 1, c .before .before .before .before .shared-slice-known7 .given 1))  -- add-put-carried-2
-    (λ c. omega (arith, c .before .before .before .before .before .before .shared-slice-known6 .given 1))  -- mul-put-carried-2
-    (λ c. omega (arith, c .before .before .before .before .before .before .before .shared-slice-known6 .given 1))  -- shared-slice-read-put-carried-2
+    (λ c. omega (arith, c .before .before .before .before .shared-slice-known6 .given 1))  -- mul-x
+    (λ c. omega (arith, c .before .before .before .before .before .shared-slice-known6 .given 1))  -- shared-slice-read-x
+    (λ c. omega (arith, c .before .before .before .before .before .shared-slice-known6 .given 1, c .before .before .before .shared-slice-known7 .given 1))  -- add-v
+    (λ c. omega (arith, c .before .before .before .before .before .shared-slice-known6 .given 1))  -- mul-v
+    (λ c. omega (arith, c .before .before .before .before .before .before .shared-slice-known6 .given 1))  -- shared-slice-read-v
+    (λ c. omega (arith, c .before .before .before .before .before .before .before .before .before .before .before .before .shared-slice-known4 .given 9))  -- add-put-carried
     (λ c κs. search needs)  -- put-carried-requires
     (λ c. omega (arith, c .before .before .before .before .before .before .before .before .before .before .shared-slice-known6 .given 1))  -- add-i
     (λ c. omega arith)  -- loop-less
