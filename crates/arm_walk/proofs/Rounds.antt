@@ -1,14 +1,18 @@
 -- A loop of rounds (clause_parts' `Turning`), to which tab is lent and which each leaves as it was: before the first (`set-out`), what each asks
--- (`asks`), one that goes on (`turned`), one that refuses (`fallen`), and after the last (`ended`).
+-- (`asks`), what of that `take_carried` asks (`lent`), one that goes on (`turned`), one that refuses (`fallen`), and after the last (`ended`).
 use Prim.Native.Nat.{ℕ, _-_, _<_, _≤_}
 use native.Mathlib.Omega.{arith}
 use mathlib.Core.Path.{_≡_, refl, _∙_}
 use mathlib.Core.List.{List}
+use lib.ListN.{length}
 use Rattle.fused.specs.Fused.{rounds}
+use Rattle.visible.specs.Visible.{Tabled}
+use Rattle.steps.specs.Memory.{topOf, slotsIn}
 use Rattle.steps.specs.Hold.{Ready}
 use Rattle.walk.specs.Goes.{Goer}
 use Rattle.walk.proofs.Stage.{ready}
 use Rattle.clause_parts.specs.Passes.{Held, Passes}
+use Rattle.clause_walk.proofs.Bodies.{cut-all}
 use Rattle.clause_parts.proofs.Passing.{Turning, begun, turn, fall, over, still-held}
 
 pub record Rounds (ws tab₀ m₀ vis₀ found₀ held₀ : List ℕ) (n : ℕ) (one : List ℕ → Goer) (tab m vis found held : List ℕ) (left : ℕ) : Type 0 where
@@ -32,3 +36,6 @@ module _ {ws tab₀ m₀ vis₀ found₀ held₀ : List ℕ} {n : ℕ} {one : Li
 
   pub ended : left ≤ 0 → (tab ≡ tab₀) × Passes 0 ws tab₀ m₀ vis₀ found₀ held₀ m vis found held (λ id. rounds n (one tab₀ id)) 0
   ended l = (o .same, over (o .turning) l)
+
+pub lent : {ws tab m vis found : List ℕ} → Ready 0 ws tab m vis found → (10 ≤ length tab) × ((length m ≡ 64) × Tabled (slotsIn tab) (topOf m) vis)
+lent h = let c = cut-all h in (c .0, (c .1 .0, c .1 .1 .1))

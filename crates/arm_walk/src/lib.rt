@@ -45,7 +45,9 @@ fn take_carried(tab: &[u32], m: &[u32], vis: &[u32], carried: &mut [u32], from: 
     let mut i = 0;
     while i < top {
         let k = slots + i as usize * 4;
-        put_carried(carried, from + i, barrier, vis[k], vis[k + 1]);
+        let x = vis[k];
+        let v = vis[k + 1];
+        put_carried(carried, from + i, barrier, x, v);
         i += 1;
     }
 }
