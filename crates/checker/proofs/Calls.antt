@@ -1,21 +1,17 @@
--- Demand 3 on what two check calls leave: entries that are written as words read back, so each call's lists are the definition's, of which
--- `apart-sheets` compares the parts; and the part's findings stand in the list where `in-lists` says, after those of the sort keys.
+-- Demand 3 on what two check calls leave: entries read back, so each call's lists are the definition's, of which `apart-sheets` compares the
+-- parts; and the part's findings stand in the list where `in-lists` says, after those of the sort keys.
 use Prim.Native.Nat.{ℕ, _-_}
 use native.Mathlib.Omega.{arith}
 use mathlib.Core.Path.{_≡_, refl, _∙_, ap, ap₂}
-use mathlib.Core.Bool.{Bool, true, false, _&&_}
-use mathlib.Core.List.{List, [], _∷_, _++_, flatMap, append-assoc}
-use mathlib.Core.Option.{none, some}
-use lib.Dec.{leb}
+use mathlib.Core.Bool.{Bool, true, false, cond}
+use mathlib.Core.List.{List, _++_, append-assoc}
 use lib.ListN.{length, take, drop, length-append}
 use lib.Seq.{take-at, drop-at}
 use Rattle.words.specs.Words.{words}
-use Rattle.scope.specs.Graph.{Scope, scope, Entry, entry, Carried, carried}
-use Rattle.scope.specs.Flat.{entriesOf, scopeOf, bindingOf, carriedOf}
 use Rattle.expr.proofs.Inverse.{never}
 use Rattle.sheet.specs.Statement.{Statement}
 use Rattle.sheet.specs.Read.{accepted, readSheet}
-use Rattle.semantics.specs.Log.{Finding, finding, found, missing, Write, write, findsIn, findOf}
+use Rattle.semantics.specs.Log.{Finding, findsIn, findOf}
 use Rattle.semantics.specs.Resolve.{log}
 use Rattle.semantics.specs.Lists
 use Rattle.theorems.specs.Site.{Site, Stands, newRoot, keysLog, partLog}
@@ -25,93 +21,36 @@ use Rattle.theorems.specs.Sheets.{AgreeSheets}
 use Rattle.theorems.proofs.Views.{pick-append}
 use Rattle.theorems.proofs.InLists.{in-lists}
 use Rattle.theorems.proofs.ApartSheets.{apart-sheets}
-use Rattle.finding.specs.Flat.{findingWords, findingOf}
-use Rattle.lists_fill.specs.Filled.{filled, scopeWords, bindingWords, carriedWords, recordedWords, withScopes, withBindings, withCarried, withRecorded, withFindings}
-use Rattle.checker.specs.Checked.{Lent, roomy, countsOf, filledBy, answer, left, answerIn, leftIn}
-use Rattle.checker.specs.Calls.{Call, writeOf, entriesIn, listsOf, pieces, partIn, SameLists}
+use Rattle.entries.specs.Filled.{withScopes, withBindings, withCarried, withRecorded, withFindings}
+use Rattle.checker.specs.Checked.{Lent, fits, countsOf, filledBy, answer, left, answerIn, leftIn}
+use Rattle.checker.specs.Calls.{Call, entriesIn, listsOf, pieces, partIn, SameLists}
 use Rattle.checker.specs.declared.Counts.{Counts}
 use Rattle.checker.specs.declared.Checked.the-variants as checked
-
--- Entries at the front of words read back, if each does.
-module _ {A : Type 0} (width : ℕ) (one : List ℕ → A) (words : A → List ℕ) (back : (a : A) (r : List ℕ) → one (words a ++ r) ≡ a)
-    (past : (a : A) (r : List ℕ) → drop width (words a ++ r) ≡ r) where
-  entries-back : (es : List A) (r : List ℕ) → entriesOf width one (length es) (flatMap words es ++ r) ≡ es
-  unfolding entriesOf flatMap
-  entries-back [] r = refl
-  entries-back (e ∷ es) r =
-      rw (append-assoc (words e) (flatMap words es) r, past e (flatMap words es ++ r)) (ap₂ _∷_ (back e (flatMap words es ++ r)) (entries-back es r))
-
-  filled-back : (es : List A) (old : List ℕ) → entriesOf width one (length es) (filled old (flatMap words es)) ≡ es
-  unfolding filled
-  filled-back es old = entries-back es _
-
-scope-back : (a : Scope) (r : List ℕ) → scopeOf (scopeWords a ++ r) ≡ a
-unfolding scopeWords
-scope-back (scope k none a b) r = refl
-scope-back (scope k (some p) a b) r = refl
-
-scope-past : (a : Scope) (r : List ℕ) → drop 4 (scopeWords a ++ r) ≡ r
-unfolding scopeWords
-scope-past (scope k p a b) r = refl
-
-binding-back : (a : Entry) (r : List ℕ) → bindingOf (bindingWords a ++ r) ≡ a
-unfolding bindingWords
-binding-back (entry s x v k none) r = refl
-binding-back (entry s x v k (some u)) r = refl
-
-binding-past : (a : Entry) (r : List ℕ) → drop 6 (bindingWords a ++ r) ≡ r
-unfolding bindingWords
-binding-past (entry s x v k none) r = refl
-binding-past (entry s x v k (some u)) r = refl
-
-carried-back : (a : Carried) (r : List ℕ) → carriedOf (carriedWords a ++ r) ≡ a
-unfolding carriedWords
-carried-back (carried b x v) r = refl
-
-carried-past : (a : Carried) (r : List ℕ) → drop 3 (carriedWords a ++ r) ≡ r
-unfolding carriedWords
-carried-past (carried b x v) r = refl
-
-recorded-back : (a : Write) (r : List ℕ) → writeOf (recordedWords a ++ r) ≡ a
-unfolding recordedWords
-recorded-back (write i (found v k via)) r = refl
-recorded-back (write i missing) r = refl
-
-recorded-past : (a : Write) (r : List ℕ) → drop 5 (recordedWords a ++ r) ≡ r
-unfolding recordedWords
-recorded-past (write i (found v k via)) r = refl
-recorded-past (write i missing) r = refl
-
-finding-back : (a : Finding) (r : List ℕ) → findingOf (findingWords a ++ r) ≡ a
-finding-back (finding c a b x o t) r = refl
-
-finding-past : (a : Finding) (r : List ℕ) → drop 6 (findingWords a ++ r) ≡ r
-finding-past (finding c a b x o t) r = refl
+use Rattle.checker.proofs.Reading.{scopes-back, bindings-back, carrieds-back, recordeds-back, findings-back}
 
 module _ (warns : Bool) (s : Statement) where
   filled-entries : (old : Lent) → entriesIn (countsOf warns s) (filledBy warns s old) ≡ listsOf warns s
   unfolding entriesIn countsOf filledBy listsOf withScopes withBindings withCarried withRecorded withFindings
   filled-entries old =
       rw (
-        filled-back 4 scopeOf scopeWords scope-back scope-past (Lists.scopes warns s) (old .scopes),
-        filled-back 6 bindingOf bindingWords binding-back binding-past (Lists.bindings warns s) (old .bindings),
-        filled-back 3 carriedOf carriedWords carried-back carried-past (Lists.carriedList warns s) (old .carried),
-        filled-back 5 writeOf recordedWords recorded-back recorded-past (Lists.recorded warns s) (old .recorded),
-        filled-back 6 findingOf findingWords finding-back finding-past (Lists.findings warns s) (old .findings),
+        scopes-back (Lists.scopes warns s) (old .scopes),
+        bindings-back (Lists.bindings warns s) (old .bindings),
+        carrieds-back (Lists.carriedList warns s) (old .carried),
+        recordeds-back (Lists.recorded warns s) (old .recorded),
+        findings-back (Lists.findings warns s) (old .findings),
       )
       refl
 
   -- A call that answers with counts has filled the lists.
-  counted : (room : Bool) (old : Lent) {new : Lent} {n : Counts} → checked.Is n ≡ answer warns (accepted s) room → new ≡ left warns (accepted s) room old → entriesIn n new ≡ listsOf warns s
-  unfolding answer left
+  counted : (room : Bool) (old : Lent) {new : Lent} {n : Counts} → checked.Is n ≡ cond room (checked.Is (countsOf warns s)) (checked.Refused 8) → new ≡ cond room (filledBy warns s old) old → entriesIn n new ≡ listsOf warns s
   counted true old {new} {n} a b =
       let e : n ≡ countsOf warns s = cc in
       rw (e, b) (filled-entries old)
   counted false old a b = never (cc)
 
   pub call-lists : {bytes : List ℕ} {room : ℕ} {old new : Lent} {n : Counts} → readSheet bytes ≡ accepted s → Call warns bytes old room n new → entriesIn n new ≡ listsOf warns s
-  unfolding answerIn leftIn
-  call-lists {bytes} {room} {old} e c = counted (roomy (length (words bytes)) old && leb (length (words bytes)) room) old (rw e at (c .answers)) (rw e at (c .leaves))
+  unfolding answerIn leftIn answer left
+  call-lists {bytes} {room} {old} e c = counted (fits (length (words bytes)) (countsOf warns s) old room) old (rw e at (c .answers)) (rw e at (c .leaves))
 
 -- Four pieces of a list, of which the second and the last are taken.
 pieces-taken : (a b c d : List Finding) → pieces (length a) (length b) (length d) (a ++ (b ++ (c ++ d))) ≡ b ++ d

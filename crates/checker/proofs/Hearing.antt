@@ -1,10 +1,9 @@
--- What a run of the walks leaves, oldest first:
---     heard        where every event was wanted, the definition's log and its kind findings
---     ids-are      a name's use id, as the code looks it up, is the statement's
---     filling-is   lists that were filled from what was said are filled from the definition's log
-use Prim.Native.Nat.{ℕ, _+_, _-_, _*_, _≤_}
+-- What a run of the walks leaves, where every event was wanted: `Heard`, in the definition's words, oldest first.
+--     heard       so of a run that answered; `run-refused`: one that refused
+--     ids-are     a name's use id, as the code looks it up, is the statement's
+use Prim.Native.Nat.{ℕ, _+_, _*_, _≤_}
 use native.Mathlib.Omega.{arith}
-use mathlib.Core.Path.{_≡_, _∙_, ap}
+use mathlib.Core.Path.{_≡_, sym, _∙_, ap, subst}
 use mathlib.Core.Bool.{Bool, true}
 use mathlib.Core.List.{List, [], map, reverse, reverse-reverse}
 use lib.ListN.{length, getD, take, length-take, length-map, List·getD-map}
@@ -13,19 +12,43 @@ use Rattle.words.specs.Fnv.{useId}
 use Rattle.tables.specs.Name.{nameAt}
 use Rattle.sheet.specs.Trailer.{placesOf}
 use Rattle.sheet.specs.Statement.{Statement}
+use Rattle.sheet.specs.Read.{accepted, refused, readSheet}
 use Rattle.sheet.proofs.Walked.{walked}
-use Rattle.semantics.specs.World.{bytesOf, worldOf}
+use Rattle.semantics.specs.World.{bytesOf, kindOf, worldOf}
 use Rattle.semantics.specs.Resolve.{run, log}
 use Rattle.semantics.specs.Kinds.{kinds}
-use Rattle.steps.specs.Memory.{kept}
-use Rattle.sheet_walk.specs.Runs.{warnsBy, wantsBy, idOf, RanTo, RanAs}
+use Rattle.semantics.specs.Lists.{bindings, carriedList}
+use Rattle.theorems.specs.Woven.{written}
+use Rattle.theorems.proofs.Woven.{written-reverse}
+use Rattle.theorems.proofs.Needs.{needs}
+use Rattle.steps.specs.Memory.{kept, events}
+use Rattle.steps.specs.Hold.{Fine}
+use Rattle.entries.specs.Filled.{carriedWords}
+use Rattle.entries.specs.Adding.{Holds}
+use Rattle.sheet_walk.specs.Runs.{warnsBy, wantsBy, idOf, RanTo, RanAs, Runs}
 use Rattle.sheet_walk.specs.declared.Ran.{Ran}
 use Rattle.sheet_walk.specs.declared.Ran.the-variants as ran
 use Rattle.lists_fill.specs.Said.{idIn, eventsIn, toldIn}
-use Rattle.checker.specs.Heard.{Heard, HeardAs}
-use Rattle.checker.specs.Checked.{Lent}
-use Rattle.checker.specs.Filling.{Filling}
-use Rattle.checker.specs.declared.Counts.{Counts}
+use Rattle.lists_fill.specs.Weaving.{kindIn}
+use Rattle.checker.specs.Filling.{usesIn}
+use Rattle.checker.specs.declared.Tally.{Tally}
+
+-- Of an accepted sheet: it has a trailer, and its names' use ids are there; all events and findings; how many entries two of the lists need; and
+-- `has` has what is carried, if `was` had room.
+pub record Heard (warns : Bool) (s ids tab found was has : List ℕ) (t : Tally) : Type 0 where
+  pub statement : Statement
+  pub read : readSheet s ≡ accepted statement
+  pub trailed : 10 ≤ length (words s)
+  pub named : placesOf (words s) .names ≤ length ids
+  pub log : eventsIn (idIn (usesIn (words s) ids)) (t .said) found ≡ written (log warns statement)
+  pub kinds : toldIn (t .told) found ≡ kinds (worldOf warns statement) (statement .head)
+  pub made : t .made ≡ length (bindings warns statement)
+  pub taken : t .taken ≡ length (carriedList warns statement)
+  pub carries : t .taken * 3 ≤ length was → Holds carriedWords was has (t .taken) (carriedList warns statement)
+  pub fine : Fine (words s) tab
+  pub kinded : kindIn (words s) tab ≡ kindOf (worldOf warns statement)
+  pub few : t .said + t .told ≤ length (words s)
+  pub wide : (t .said + t .told) * 6 ≤ length found
 
 pub ids-are : (st : Statement) {uses : List ℕ} → uses ≡ map useId (st .names) → idIn uses ≡ idOf st
 unfolding bytesOf
@@ -34,43 +57,38 @@ ids-are st {uses} e = λ j x. one x j
     one : (x : ℕ) → idIn uses x ≡ useId (getD (st .names) x [])
     one x = rw e (List·getD-map useId (st .names) x [])
 
-module _ {choice : ℕ} {s places ids found : List ℕ} {said told : ℕ} (r : RanTo choice s places ids found said told) where
-  pub named : placesOf (words s) .names ≤ length ids
+module _ {choice : ℕ} {s places ids tab found was has : List ℕ} {said told made taken : ℕ} (r : RanTo choice s places ids tab found was has said told made taken) where
+  named : placesOf (words s) .names ≤ length ids
   named =
       let k = placesOf (words s) .names in
       omega (arith, r .many, ap length (r .names), ap length (r .uses), length-take k places, length-take k ids, length-map (r .statement .names) useId, length-map (take k places) (nameAt (take (placesOf (words s) .rows * 4) s)))
 
-  pub heard : wantsBy choice ≡ true → Heard (warnsBy choice) s ids found said told
-  unfolding eventsIn toldIn log kept
-  heard a =
+  all-heard : wantsBy choice ≡ true → Heard (warnsBy choice) s ids tab found was has (record { said = said; told = told; made = made; taken = taken })
+  unfolding eventsIn toldIn log kept carriedList
+  all-heard a =
+      let st = r .statement in
+      let l = run (warnsBy choice) st .log in
+      let n = needs (warnsBy choice) st in
+      let e : taken ≡ length (carriedList (warnsBy choice) st) = r .carriedNames ∙ sym (n .carriedList) in
       record {
-        statement = r .statement;
+        statement = st;
         read = r .read;
+        trailed = omega (arith, walked s st (r .read) .whole);
         named = named;
-        uses = r .uses;
-        log = ap reverse (r .log ∙ ap (λ (b : Bool). kept b (run (warnsBy choice) (r .statement) .log)) a);
+        log = ap (λ (id : ℕ → ℕ). reverse (events id said found)) (ids-are st (r .uses)) ∙ ap reverse (r .log ∙ ap (λ (b : Bool). kept b l) a) ∙ sym (written-reverse l);
         kinds = ap reverse (r .kinds) ∙ reverse-reverse _;
+        made = r .bindings ∙ sym (n .bindings);
+        taken = e;
+        carries = λ h. rw (← r .carriedNames) at (r .carries .has (rw (r .carriedNames) at h));
+        fine = r .fine;
+        kinded = λ j v. r .kinded v j;
         few = r .few;
         wide = r .wide;
       }
 
-pub heard-as : (choice : ℕ) (s places ids found : List ℕ) (r : Ran) {warns : Bool} → (warnsBy choice ≡ warns) × (wantsBy choice ≡ true) → RanAs choice s places ids found r → HeardAs warns s ids found r
-heard-as choice s places ids found (ran.Is said told) w h = rw (← w .0) (heard h (w .1))
-heard-as choice s places ids found (ran.Refused c) w h = h
+module _ {choice : ℕ} {s places ids tab found was has : List ℕ} {r : Ran} (h : Runs choice s places ids tab found was has r) where
+  pub run-refused : {c : ℕ} → r ≡ ran.Refused c → readSheet s ≡ refused c
+  run-refused e = subst (RanAs choice s places ids tab found was has) e (h .ran)
 
--- Of an accepted sheet of which all is said: it has a trailer, whose second word says how many names there are; and lists that were filled
--- from what was said are filled from the definition's log and its kind findings.
-module _ {warns : Bool} {s ids found : List ℕ} {said told : ℕ} (h : Heard warns s ids found said told) where
-  pub trailed : 10 ≤ length (words s)
-  trailed = omega (arith, walked s (h .statement) (h .read) .whole)
-
-  pub names-at : {n names : ℕ} → n ≡ length (words s) → names ≡ getD (words s) (n - 9) 0 → names ≡ placesOf (words s) .names
-  unfolding placesOf
-  names-at {n} e w =
-      let at : n - 9 ≡ length (words s) - 10 + 1 = omega (arith, trailed) in
-      w ∙ ap (λ (i : ℕ). getD (words s) i 0) at
-
-  pub filling-is : {uses : List ℕ} {old : Lent} {n : Counts} {new : Lent} → uses ≡ take (placesOf (words s) .names) ids → Filling (eventsIn (idIn uses) said found) (toldIn told found) old n new → Filling (log warns (h .statement)) (kinds (worldOf warns (h .statement)) (h .statement .head)) old n new
-  filling-is e f =
-      let l = ap (λ (id : ℕ → ℕ). eventsIn id said found) (ids-are (h .statement) (e ∙ h .uses)) ∙ h .log in
-      rw (l, h .kinds) at f
+  pub heard : {warns : Bool} {t : Tally} {said told made taken : ℕ} → r ≡ ran.Is said told made taken → (warnsBy choice ≡ warns) × (wantsBy choice ≡ true) → t ≡ record { said = said; told = told; made = made; taken = taken } → Heard warns s ids tab found was has t
+  heard e w q = rw (← w .0, q) (all-heard (subst (RanAs choice s places ids tab found was has) e (h .ran)) (w .1))

@@ -1,3 +1,6 @@
-pub mod Calls
+pub mod Fits
 pub mod Hearing
-pub mod Finishing
+pub mod Reading
+pub mod Answers
+pub mod Scratched
+pub mod Calls

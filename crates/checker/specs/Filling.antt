@@ -4,8 +4,9 @@ use mathlib.Core.Path.{_≡_}
 use mathlib.Core.Bool.{Bool, true, _&&_}
 use mathlib.Core.List.{List, [], _++_}
 use lib.Dec.{leb}
-use lib.ListN.{length, getD}
+use lib.ListN.{length, getD, take}
 use Rattle.words.specs.Words.{words}
+use Rattle.sheet.specs.Trailer.{placesOf}
 use Rattle.sheet.specs.Statement.{Statement}
 use Rattle.sheet.specs.Read.{accepted, readSheet}
 use Rattle.semantics.specs.Log.{scopesIn, answersIn, findsIn}
@@ -29,8 +30,14 @@ pub record Cleared (old new : List ℕ) : Type 0 where
   pub kept : length new ≡ length old
   pub clear : (i : ℕ) → getD new i 0 ≡ 0
 
+-- the use ids of a sheet's names, of words that begin with them
+abbrev pub usesIn : (ws ids : List ℕ) → List ℕ
+usesIn ws ids = take (placesOf ws .names) ids
+
 -- so much stands in `found` and in the carried list, and the lists that are filled as it comes have room for it
-pub record Fitting (ws tab found : List ℕ) (t : Tally) (stamps : List ℕ) (l : Lent) : Type 0 where
+pub record Fitting (ws tab found : List ℕ) (t : Tally) (ids stamps : List ℕ) (l : Lent) : Type 0 where
+  pub trailed : 10 ≤ length ws
+  pub named : placesOf ws .names ≤ length ids
   pub weavable : Weavable ws tab found (t .said) (l .carried) (t .taken) stamps
   pub wide : (t .said + t .told) * 6 ≤ length found
   pub scopes : t .said * 4 ≤ length (l .scopes)
@@ -54,5 +61,5 @@ pub record Again (warns : Bool) (s places ids tab vis found held : List ℕ) (l 
   pub used : length (words s) ≤ length ids
   pub long : 16 + length (words s) * 2 ≤ length tab
   pub names : 4 * (length (words s) + 2) ≤ length vis
-  pub room : length (words s) * 6 ≤ length found
+  pub wide : length (words s) * 6 ≤ length found
   pub pairs : 2 * length (words s) ≤ length held

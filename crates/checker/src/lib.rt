@@ -19,7 +19,7 @@ ghost use Rattle.sheet_walk.specs.Runs.{warnsBy, wantsBy, Scratch};
 ghost use Rattle.entries.specs.Filled.{filled};
 ghost use Rattle.lists_fill.specs.Said.{idIn};
 ghost use Rattle.checker.specs.Room.{enough};
-ghost use Rattle.checker.specs.Filling.{fitting, Cleared, Fitting, Filling, Again};
+ghost use Rattle.checker.specs.Filling.{fitting, usesIn, Cleared, Fitting, Filling, Again};
 ghost use Rattle.checker.specs.Checked.{lent, roomy, each, Answers, answerIn, leftIn, findingsIn};
 
 // How many entries the lists have.
@@ -117,13 +117,13 @@ fn copy(from: &[u32], n: usize, to: &mut [u32])
     }
 }
 
-// The other lists, from what a run left and the carried list; uses has the names' use ids, and stamps is scratch.
+// The other lists, from what a run left and the carried list; ids begins with the names' use ids, and stamps is scratch.
 fn fill(
     s: &[u8],
     tab: &[u32],
     found: &[u32],
     t: Tally,
-    uses: &[u32],
+    ids: &[u32],
     stamps: &mut [u32],
     scopes: &mut [u32],
     bindings: &mut [u32],
@@ -131,13 +131,14 @@ fn fill(
     recorded: &mut [u32],
     findings: &mut [u32],
 ) -> Counts
-    requires { ⌜ Fitting (words (now s)) (now tab) (now found) t (now stamps) (lent (now scopes) (now bindings) (now carried) (now recorded) (now findings)) ⌝ }
-    ensures { λ r. ⌜ Filling (words (now (s .entry))) (now (tab .entry)) (now (found .entry)) t (idIn (now (uses .entry))) (lent (now (scopes .entry)) (now (bindings .entry)) (now (carried .entry)) (now (recorded .entry)) (now (findings .entry))) r (lent (now (scopes .exit)) (now (bindings .exit)) (now (carried .entry)) (now (recorded .exit)) (now (findings .exit))) ⌝ }
+    requires { ⌜ Fitting (words (now s)) (now tab) (now found) t (now ids) (now stamps) (lent (now scopes) (now bindings) (now carried) (now recorded) (now findings)) ⌝ }
+    ensures { λ r. ⌜ Filling (words (now (s .entry))) (now (tab .entry)) (now (found .entry)) t (idIn (usesIn (words (now (s .entry))) (now (ids .entry)))) (lent (now (scopes .entry)) (now (bindings .entry)) (now (carried .entry)) (now (recorded .entry)) (now (findings .entry))) r (lent (now (scopes .exit)) (now (bindings .exit)) (now (carried .entry)) (now (recorded .exit)) (now (findings .exit))) ⌝ }
 {
     let n = t.said;
     let a = fill_scopes(found, n, scopes);
     let b = fill_bindings(s, tab, found, n, carried, t.taken, stamps, bindings);
-    let d = fill_recorded(found, n, uses, recorded);
+    let names = word(s, count(s) - 9) as usize;
+    let d = fill_recorded(found, n, &ids[0..names], recorded);
     let f = fill_all_findings(found, n, t.told, findings);
     Counts {
         scopes: a,
@@ -169,7 +170,7 @@ fn choice_of(warns: bool) -> u32
 }
 
 // The numbers of a run.
-fn tally(said: u32, told: u32, made: u32, taken: u32) -> Tally
+fn tally_of(said: u32, told: u32, made: u32, taken: u32) -> Tally
     ensures { λ r. ⌜ r ≡ record { said = said; told = told; made = made; taken = taken } ⌝ }
 {
     Tally {
@@ -215,14 +216,13 @@ fn check_again(
     ) {
         Ran::Refused(c) => Checked::Refused(c),
         Ran::Is(said, told, made, taken) => {
-            let t = tally(said, told, made, taken);
-            let names = word(s, count(s) - 9) as usize;
+            let t = tally_of(said, told, made, taken);
             Checked::Is(fill(
                 s,
                 tab,
                 found,
                 t,
-                &ids[0..names],
+                ids,
                 vis,
                 scopes,
                 bindings,
@@ -269,7 +269,7 @@ fn check_in(
     ) {
         Ran::Refused(c) => Checked::Refused(c),
         Ran::Is(said, told, made, taken) => {
-            let t = tally(said, told, made, taken);
+            let t = tally_of(said, told, made, taken);
             let n = count(s);
             if !fit(n, t, scopes, bindings, carried, recorded, findings, room) {
                 return Checked::Refused(8);
@@ -293,13 +293,12 @@ fn check_in(
                 );
             }
             copy(kept, t.taken * 3, carried);
-            let names = word(s, n - 9) as usize;
             Checked::Is(fill(
                 s,
                 tab,
                 found,
                 t,
-                &ids[0..names],
+                ids,
                 vis,
                 scopes,
                 bindings,

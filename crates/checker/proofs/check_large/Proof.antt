@@ -2,7 +2,7 @@
 use borrow.Author.Needs.{needs}
 use native.Mathlib.Omega.{arith}
 use Rattle.words.proofs.Words.{length-words}
-use Rattle.checker.proofs.Finishing.{long-answer}
+use Rattle.checker.proofs.Answers.{long-answer}
 use Rattle.checker.proofs.check_large.Statement.{statement}
 use Rattle.checker.proofs.check_large.Tie as tie
 

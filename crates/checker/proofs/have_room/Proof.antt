@@ -1,11 +1,11 @@
 -- Five tests, all of them made.
 use borrow.Author.Needs.{needs}
-use Rattle.checker.specs.Checked.{roomy}
+use Rattle.checker.specs.Checked.{roomy, each}
 use Rattle.checker.proofs.have_room.Statement.{statement}
 use Rattle.checker.proofs.have_room.Tie as tie
 
 pub have-room-spec : {M : Type 1} → statement M
-unfolding roomy
+unfolding roomy each
 have-room-spec =
     tie.close
     (tie.spec
