@@ -2,7 +2,7 @@
 use crate::record::record;
 use crate::sheet::KINDS;
 use cyrs_diag::{Diagnostic, DiagnosticsSink};
-use cyrs_hir::{BindingKind, HirSpan, Resolution, ResolvedNames, ScopeGraph, ScopeKind, Statement, VarId, VarKind};
+use cyrs_hir::{BindingKind, HirSpan, Resolution, ResolvedNames, ScopeGraph, ScopeKind, ScopeNode, Statement, VarId, VarKind};
 use cyrs_sema::kinds::check_kinds;
 use cyrs_sema::resolve::{ResolveResult, resolve};
 use std::fmt::{Display, Write};
@@ -19,6 +19,14 @@ pub fn run(statement: &Statement, warnings: bool) -> Ran {
     let resolved = resolve(statement, warnings, &mut sink);
     check_kinds(statement, &mut sink);
     Ran { findings: sink.pushed, resolved }
+}
+
+/// Entries of the five lists.
+pub fn entries(ran: &Ran) -> [usize; 5] {
+    let graph = &ran.resolved.scope_graph;
+    let bindings = graph.iter().map(|scope| scope.bindings.len()).sum();
+    let carried = |scope: &ScopeNode| if let ScopeKind::WithBarrier { projected } = &scope.kind { projected.len() } else { 0 };
+    [graph.len(), bindings, graph.iter().map(carried).sum(), ran.resolved.resolved_names.len(), ran.findings.len()]
 }
 
 pub fn lists(ran: &Ran, names: &[String]) -> String {
