@@ -295,7 +295,13 @@ impl Writer<'_> {
     pub fn clause(&mut self, words: u32) {
         let plan = self.down_to.take().map_or(Words(words), Down);
         let kind = match self.star {
-            Some(_) if self.random.one_in(3) => if self.sorted { 12 } else { 3 },
+            Some(_) if self.random.one_in(3) => {
+                if self.sorted {
+                    12
+                } else {
+                    3
+                }
+            }
             _ => self.random.pick(if self.sorted { &SORTED[..] } else { &KINDS }),
         };
         self.put([kind]);
@@ -380,7 +386,11 @@ impl Writer<'_> {
 
     /// Mostly the carried names alone are seen after a WITH.
     fn over_with(&mut self, carried: Vec<u32>) {
-        if self.random.one_in(4) { self.seen.extend(carried) } else { self.seen = carried }
+        if self.random.one_in(4) {
+            self.seen.extend(carried)
+        } else {
+            self.seen = carried
+        }
         self.seen.truncate(SEEN);
     }
 

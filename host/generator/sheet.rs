@@ -46,33 +46,47 @@ pub fn sheet(random: &mut Random) -> Sheet {
     let (size, filled) = size(random);
     let room = if down_to.is_some() { size.max(700) } else { size } - TRAILER;
     let stars = random.one_in(3);
-    let wide = stars && down_to.is_none() && room >= 40 && random.one_in(16);
-    let (names, rows) = if wide { wide_tables(random, room) } else { tables(random, room, stars) };
+    if stars && down_to.is_none() && room >= LEAST && random.one_in(16) {
+        return wide(random, room);
+    }
+    let (names, rows) = tables(random, room, stars);
     let mut sections = [names.iter().flat_map(|name| name_words(name)).collect(), rows.concat(), Vec::new(), Vec::new()];
     let left = room - sections[0].len() - sections[1].len();
-    let mut writer = Writer {
-        words: Vec::new(),
-        names: names.len() as u32,
-        rows: &rows,
-        seen: Vec::new(),
-        aliases: Vec::new(),
-        down_to,
-        unbound: random.one_in(64),
-        sorted: random.one_in(3),
-        star: names.iter().position(|name| stars && name == STAR).map(|at| at as u32),
-        random,
-    };
-    let arms = if wide { 0 } else { arms(&mut writer, left, &mut sections[3]) };
-    let clauses = match writer.star {
-        Some(star) if wide => {
-            let clauses = writer.wide(star, left);
-            sections[2].append(&mut writer.words);
-            clauses
-        }
-        _ => head(&mut writer, left - sections[3].len(), filled, &mut sections[2]),
-    };
+    let star = names.iter().position(|name| stars && name == STAR).map(|at| at as u32);
+    let mut writer = writer(random, names.len(), &rows, star);
+    writer.down_to = down_to;
+    writer.unbound = writer.random.one_in(64);
+    let arms = arms(&mut writer, left, &mut sections[3]);
+    let clauses = head(&mut writer, left - sections[3].len(), filled, &mut sections[2]);
     let counts = [names.len() as u32, rows.len() as u32, clauses, arms];
     Sheet { sections, counts, span: span(random) }
+}
+
+fn writer<'a>(random: &'a mut Random, names: usize, rows: &'a [Row], star: Option<u32>) -> Writer<'a> {
+    let sorted = random.one_in(3);
+    let (words, seen, aliases) = (Vec::new(), Vec::new(), Vec::new());
+    Writer { random, words, names: names as u32, rows, seen, aliases, down_to: None, unbound: false, sorted, star }
+}
+
+/// The fewest words before the trailer of a sheet with many names and stars.
+const LEAST: usize = 40;
+
+/// A sheet of up to so many words before the trailer, whose answers often have more entries than it has words: names that are carried by
+/// many stars.
+fn wide(random: &mut Random, room: usize) -> Sheet {
+    let (names, rows) = wide_tables(random, room);
+    let mut sections = [names.iter().flat_map(|name| name_words(name)).collect(), rows.concat(), Vec::new(), Vec::new()];
+    let left = room - sections[0].len() - sections[1].len();
+    let mut writer = writer(random, names.len(), &rows, Some(0));
+    let clauses = writer.wide(0, left);
+    sections[2].append(&mut writer.words);
+    let counts = [names.len() as u32, rows.len() as u32, clauses, 0];
+    Sheet { sections, counts, span: span(random) }
+}
+
+pub fn any_wide(random: &mut Random) -> Sheet {
+    let room = LEAST + random.at(LIMIT - TRAILER - LEAST + 1);
+    wide(random, room)
 }
 
 /// How deep an expression goes at least, in a few sheets.
