@@ -202,6 +202,9 @@ fn main() {
     if std::env::args().any(|word| word == "--writing") {
         return writing(&mut jobs);
     }
+    if std::env::args().any(|word| word == "--stars") {
+        return starred(&mut jobs);
+    }
     let (rows, sorted) = by_size(&mut jobs);
     println!("| about, bytes | findings | ours, ns | Rust, ns | tuned Rust, ns | Rust / ours | tuned / ours |");
     println!("|---|---|---|---|---|---|---|");
@@ -233,13 +236,18 @@ fn main() {
     for family in &SORTED {
         println!("| {} | {} |", family.name, sorted_growth(&mut jobs, family));
     }
-    println!("\n| at 1, 2, 4 and 8 KB | bindings | listing, µs | check, µs | Rust, µs | tuned Rust, µs | tuned / check |");
-    println!("|---|---|---|---|---|---|---|");
-    for family in &STARRED {
-        println!("| {} | {} |", family.name, starred_growth(&mut jobs, family));
-    }
+    println!();
+    starred(&mut jobs);
     println!();
     writing(&mut jobs);
+}
+
+fn starred(jobs: &mut Jobs) {
+    println!("| at 1, 2, 4 and 8 KB | bindings | listing, µs | check, µs | Rust, µs | tuned Rust, µs | tuned / check |");
+    println!("|---|---|---|---|---|---|---|");
+    for family in &STARRED {
+        println!("| {} | {} |", family.name, starred_growth(jobs, family));
+    }
 }
 
 /// The times of a family's sheets with stars: our listing, which may be refused 8, our check call with lists that are long enough, and the
