@@ -40,11 +40,11 @@ take() {
     chmod u+w "$2/$(basename "$1")"
 }
 
-# Applies the patch to the copies of cyrs's files in a folder, without a line to spare.
+# Applies the patch to the copies of cyrs's files in a folder; its lines must be where they were.
 patched() {
     sed 's,crates/cyrs-hir/src/,cyrs_hir/,; s,crates/cyrs-sema/src/,cyrs_sema/,' "$host/../docs/cyrs-star.patch" > "$1/patch"
     if ! patch -s -p1 -F0 --no-backup-if-mismatch -d "$1" < "$1/patch" >&2; then
-        echo "$0: docs/cyrs-star.patch doesn't fit what is in $sources" >&2
+        echo "$0: docs/cyrs-star.patch can't be applied to what is in $sources" >&2
         exit 2
     fi
 }
