@@ -1,6 +1,6 @@
 # Builds the host's programs with rustc; read by the scripts beside it, after they set `host`.
 #   rust_options "$@"      takes --sources DIR and --crates DIR off the arguments; the others are left in $rest
-#   rust_library           the Rust's four files and the stand-ins, compiled into target/host
+#   rust_library           the Rust's four files, with docs/cyrs-star.patch, and the stand-ins, compiled into target/host
 #   rust_program NAME ..   a program of src/, linked with some archives, compiled into target/host
 #   rust_timed             before these two: optimized as far as rustc can, into target/bench
 #   archive CRATE          proves a crate and writes its archive, if it isn't there or code is newer
@@ -37,6 +37,16 @@ take() {
         echo "$0: no $1 in $sources" >&2
         exit 2
     fi
+    chmod u+w "$2/$(basename "$1")"
+}
+
+# Applies the patch to the copies of cyrs's files in a folder; its lines must be where they were.
+patched() {
+    sed 's,crates/cyrs-hir/src/,cyrs_hir/,; s,crates/cyrs-sema/src/,cyrs_sema/,' "$host/../docs/cyrs-star.patch" > "$1/patch"
+    if ! patch -s -p1 -F0 --no-backup-if-mismatch -d "$1" < "$1/patch" >&2; then
+        echo "$0: docs/cyrs-star.patch can't be applied to what is in $sources" >&2
+        exit 2
+    fi
 }
 
 # rust NAME FILE CRATE..: a library from a file and the crates that it uses
@@ -70,6 +80,7 @@ rust_library() {
     take crates/cyrs-hir/src/scope.rs "$new/cyrs_hir"
     take crates/cyrs-sema/src/resolve.rs "$new/cyrs_sema"
     take crates/cyrs-sema/src/kinds.rs "$new/cyrs_sema"
+    patched "$new"
     echo "$crates" > "$new/crates"
     if [ -f "$out/built" ] && diff -r "$new" "$out/from" > /dev/null; then return; fi
     find "$out" -maxdepth 1 -type f -exec rm -f {} +

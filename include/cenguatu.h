@@ -12,8 +12,8 @@ extern "C" {
 /* Writes the findings of a sheet as text to the front of page: `findings N`, then a line a finding: code, start, end, message.
    Warnings are off for 0 and on for any other number.
 
-   Answers 256 plus the length of the text. Else a refusal's number, 1 to 7 for what is wrong with the sheet, 8 for one whose answer needs a list of
-   more than 2,048 entries, 10 for a page that is too short; page is then as it was. Bytes of page after the text keep their value, and sheet is only read.
+   Answers 256 plus the length of the text. Else a refusal's number, 1 to 7 for what is wrong with the sheet, 8 if one of its five lists
+   would need more than 2,048 entries, 10 for a page that is too short; page is then as it was. Bytes of page after the text keep their value, and sheet is only read.
 
    sheet and page are sheet_len and page_len bytes that don't overlap; neither pointer is null, even where a length is 0. The call keeps
    nothing, takes no memory but stack, and may be made from any thread. */

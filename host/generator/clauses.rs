@@ -16,6 +16,12 @@ use Plan::{Down, Words};
 const KINDS: [u32; 15] = [1, 1, 2, 3, 3, 3, 4, 5, 6, 7, 8, 9, 10, 11, 11];
 const SORTED: [u32; 20] = [1, 1, 1, 2, 3, 4, 5, 6, 7, 8, 9, 10, 11, 11, 12, 12, 12, 12, 13, 13];
 
+/// Expressions of one word.
+const ALONE: [u32; 7] = [1, 2, 3, 4, 5, 6, 25];
+
+/// So many names are kept in mind after a WITH.
+const SEEN: usize = 200;
+
 /// Writes clauses at the end of its words.
 pub struct Writer<'a> {
     pub random: &'a mut Random,
@@ -32,6 +38,8 @@ pub struct Writer<'a> {
     pub unbound: bool,
     /// Whether a WITH and a RETURN may have sort keys.
     pub sorted: bool,
+    /// The name `*`, if there should be many stars.
+    pub star: Option<u32>,
 }
 
 impl Writer<'_> {
@@ -148,7 +156,7 @@ impl Writer<'_> {
     fn leaf(&mut self) {
         match self.random.below(16) {
             0..=6 => {
-                let code = self.random.pick(&[1, 2, 3, 4, 5, 6, 25]);
+                let code = self.random.pick(&ALONE);
                 self.put([code]);
             }
             7..=11 if self.names > 0 => {
@@ -286,7 +294,16 @@ impl Writer<'_> {
     /// A clause of about so many words.
     pub fn clause(&mut self, words: u32) {
         let plan = self.down_to.take().map_or(Words(words), Down);
-        let kind = self.random.pick(if self.sorted { &SORTED[..] } else { &KINDS });
+        let kind = match self.star {
+            Some(_) if self.random.one_in(3) => {
+                if self.sorted {
+                    12
+                } else {
+                    3
+                }
+            }
+            _ => self.random.pick(if self.sorted { &SORTED[..] } else { &KINDS }),
+        };
         self.put([kind]);
         self.span();
         match kind {
@@ -334,7 +351,7 @@ impl Writer<'_> {
         let count = self.count(plan, 3);
         self.put([count]);
         let plans = self.divide(plan, count + 1);
-        let carried = plans[1..].iter().filter_map(|plan| self.projection(*plan)).collect();
+        let carried = self.each_projection(&plans[1..]);
         self.maybe_expr(1, plans[0], 3);
         carried
     }
@@ -343,12 +360,38 @@ impl Writer<'_> {
         let count = self.count(plan, 3);
         self.put([count]);
         let plans = self.divide(plan, count);
-        plans.into_iter().filter_map(|plan| self.projection(plan)).collect()
+        self.each_projection(&plans)
+    }
+
+    /// The names that a WITH of these projections carries, as far as they are seen.
+    fn each_projection(&mut self, plans: &[Plan]) -> Vec<u32> {
+        let mut carried = Vec::new();
+        let mut stars = false;
+        for plan in plans {
+            match self.star {
+                Some(star) if matches!(plan, Words(_)) && self.random.one_in(4) => {
+                    let alias = self.alias(16);
+                    self.put([alias, 8, star]);
+                    self.aliases.extend(alias.checked_sub(1));
+                    stars |= alias == 0;
+                }
+                _ => carried.extend(self.projection(*plan)),
+            }
+        }
+        if stars {
+            carried.extend(&self.seen);
+        }
+        carried
     }
 
     /// Mostly the carried names alone are seen after a WITH.
     fn over_with(&mut self, carried: Vec<u32>) {
-        if self.random.one_in(4) { self.seen.extend(carried) } else { self.seen = carried }
+        if self.random.one_in(4) {
+            self.seen.extend(carried)
+        } else {
+            self.seen = carried
+        }
+        self.seen.truncate(SEEN);
     }
 
     /// A WITH or a RETURN with sort keys, which often have names of three sorts: those seen before, the carried ones, and the aliases.
@@ -403,19 +446,70 @@ impl Writer<'_> {
         let alone = !matches!(plan, Down(_)) && !self.random.one_in(4);
         self.put([alias]);
         self.aliases.extend(alias.checked_sub(1));
-        if !alone {
+        let own = if !alone {
             self.expr(1, plan);
-            return None;
-        }
-        if self.names > 0 && self.random.one_in(2) {
+            None
+        } else if self.names > 0 && self.random.one_in(2) {
             let name = self.name();
             self.put([8, name]);
-            return (alias == 0).then_some(name);
+            Some(name)
+        } else {
+            let variable = self.variable(6);
+            self.put([7, variable]);
+            self.rows.iter().find(|row| row[0] == variable).map(|row| row[1])
+        };
+        alias.checked_sub(1).or(own)
+    }
+
+    /// Clauses that bind many names, by yields or as aliases, and then carry all of them by stars until the room is used up; how many
+    /// there are.
+    pub fn wide(&mut self, star: u32, room: usize) -> u32 {
+        let computed = self.random.one_in(2);
+        let most = (room as u32).saturating_sub(5) / if computed { 2 } else { 3 };
+        let many = self.names.min(most);
+        self.put([if computed { 3 } else { 11 }]);
+        self.span();
+        if computed {
+            self.put([many]);
+            for name in 0..many {
+                let code = self.random.pick(&ALONE);
+                self.put([name + 1, code]);
+            }
+            self.put([0]);
+        } else {
+            self.put([0, many]);
+            for name in 0..many {
+                let variable = self.variable(3);
+                self.put([name, 0, variable]);
+            }
         }
-        let variable = self.variable(6);
-        self.put([7, variable]);
-        let row = self.rows.iter().find(|row| row[0] == variable);
-        if alias > 0 { Some(alias - 1) } else { row.map(|row| row[1]) }
+        self.seen = (0..many).collect();
+        let mut made = 0;
+        let mut end = 0;
+        while self.words.len() <= room {
+            end = self.words.len();
+            made += 1;
+            match self.random.below(40) {
+                0 => self.clause(12),
+                kind => {
+                    let stars = 1 + u32::from(kind == 1);
+                    let aliases = if kind < 6 { self.random.below(3) } else { 0 };
+                    self.put([3]);
+                    self.span();
+                    self.put([stars + aliases]);
+                    for _ in 0..aliases {
+                        let (name, code) = (self.name(), self.random.pick(&ALONE));
+                        self.put([name + 1, code]);
+                    }
+                    for _ in 0..stars {
+                        self.put([0, 8, star]);
+                    }
+                    self.put([0]);
+                }
+            }
+        }
+        self.words.truncate(end);
+        made
     }
 
     /// Items of a Set or a Remove: each kind with how many expressions it has.
@@ -449,7 +543,7 @@ impl Writer<'_> {
         self.span();
         self.put([words as u32 - 4]);
         for _ in 4..words {
-            let code = self.random.pick(&[1, 2, 3, 4, 5, 6, 25]);
+            let code = self.random.pick(&ALONE);
             self.put([code]);
         }
     }

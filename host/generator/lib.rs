@@ -18,6 +18,11 @@ pub fn one(random: &mut Random) -> Vec<u8> {
     if random.one_in(4) { damage::damaged(random, sheet) } else { to_bytes(&sheet.words()) }
 }
 
+/// A sheet with many names that are carried by many stars.
+pub fn wide(random: &mut Random) -> Vec<u8> {
+    to_bytes(&sheet::any_wide(random).words())
+}
+
 /// A sheet that is damaged, and differs from what it was.
 pub fn damaged(random: &mut Random) -> Vec<u8> {
     let sheet = sheet::sheet(random);

@@ -4,6 +4,8 @@ use crate::random::Random;
 /// A binding: variable, name, kind, start, end.
 pub type Row = [u32; 5];
 
+pub const STAR: &str = "*";
+
 /// Names whose use ids are equal, found by a search.
 const EQUAL_IDS: [&[&str]; 8] = [
     &["", "eaztaqp", "jekbguz"],
@@ -42,10 +44,14 @@ const ODD: [&str; 20] = [
     "a\0",
 ];
 
-/// Names of up to so many words, and at most so many names.
-pub fn names(random: &mut Random, words: usize, most: usize) -> Vec<String> {
+/// Names of up to so many words, and at most so many names, and a star if it should be there.
+pub fn names(random: &mut Random, words: usize, most: usize, star: bool) -> Vec<String> {
     let mut names: Vec<String> = Vec::new();
     let mut left = words;
+    if star && left >= 2 {
+        left -= 2;
+        names.push(STAR.to_owned());
+    }
     for made in 0..most {
         for name in some_names(random, made) {
             let size = name_words(&name).len();
@@ -55,6 +61,10 @@ pub fn names(random: &mut Random, words: usize, most: usize) -> Vec<String> {
             }
         }
     }
+    if star && !names.is_empty() {
+        let at = random.at(names.len().min(6));
+        names.swap(0, at);
+    }
     names
 }
 
@@ -63,7 +73,7 @@ fn some_names(random: &mut Random, made: usize) -> Vec<String> {
     match random.below(16) {
         _ if made >= 30 => vec![format!("v{made}")],
         0..=4 => vec![random.pick(&PLAIN).to_owned()],
-        5 => vec!["*".to_owned()],
+        5 => vec![STAR.to_owned()],
         6 => vec!["id".to_owned()],
         7 => vec![String::new()],
         8 | 9 => vec![random.pick(&ODD).to_owned()],
@@ -92,14 +102,14 @@ pub fn name_words(name: &str) -> Vec<u32> {
     std::iter::once(name.len() as u32).chain(text).collect()
 }
 
-/// So many bindings at most, with distinct variables.
-pub fn rows(random: &mut Random, names: &[String], most: usize) -> Vec<Row> {
+/// So many bindings at most, with distinct variables; of these, one in so many is the use id of a name.
+pub fn rows(random: &mut Random, names: &[String], most: usize, ids: u32) -> Vec<Row> {
     let mut rows: Vec<Row> = Vec::new();
     if names.is_empty() {
         return rows;
     }
     for made in 0..most {
-        let id = variable(random, names, made);
+        let id = variable(random, names, made, ids);
         let [start, end] = span(random);
         let row = [id, random.below(names.len() as u32), 1 + random.below(4), start, end];
         if rows.iter().all(|other| other[0] != id) {
@@ -110,9 +120,9 @@ pub fn rows(random: &mut Random, names: &[String], most: usize) -> Vec<Row> {
 }
 
 /// Mostly a small number; sometimes the use id of a name, or any word.
-fn variable(random: &mut Random, names: &[String], made: usize) -> u32 {
+fn variable(random: &mut Random, names: &[String], made: usize, ids: u32) -> u32 {
     match random.below(16) {
-        0 => use_id(&names[random.at(names.len())]),
+        _ if random.one_in(ids) => use_id(&names[random.at(names.len())]),
         1 => random.pick(&[0, 1, u32::MAX, u32::MAX - 1, 1 << 31]),
         2 => random.word(),
         _ => made as u32 + 1,

@@ -26,7 +26,7 @@ pub const FAMILIES: [Family; 12] = [
 ];
 
 /// The same with sort keys.
-pub const SORTED: [Family; 7] = [
+pub const SORTED: [Family; 8] = [
     Family { name: "336 yields, a WITH of none, 500 keys of the first", make: keys_before },
     Family { name: "336 yields, a WITH of none, 500 keys of another name", make: keys_nowhere },
     Family { name: "170 yields, a WITH of them, 300 keys of the first", make: keys_after },
@@ -34,6 +34,18 @@ pub const SORTED: [Family; 7] = [
     Family { name: "300 aliases, 400 keys of another name", make: keys_no_alias },
     Family { name: "a WITH of none, 130 comprehensions as keys", make: keys_with_patterns },
     Family { name: "140 WITHs of one key each", make: keys_one_each },
+    Family { name: "168 yields, a WITH of a star, 560 keys of the second", make: star_keys },
+];
+
+/// The same with stars and aliases. The listing refuses the first two with 8 from 4 KB on; the second has the largest answers that we know
+/// of, at 8 KB 32,512 bindings and as many carried names.
+pub const STARRED: [Family; 6] = [
+    Family { name: "203 yields, 127 WITHs of a star", make: stars },
+    Family { name: "254 computed aliases, 127 WITHs of a star", make: most_entries },
+    Family { name: "3 yields, 250 WITHs of a star", make: few_carried },
+    Family { name: "203 yields, a WITH of 330 stars", make: stars_in_one },
+    Family { name: "336 yields of one name, 90 WITHs of a star and the name", make: shadowing },
+    Family { name: "168 yields, a WITH of 380 aliases of the last", make: aliased },
 ];
 
 /// Sheets with many findings; at 8 KB they have 500.
@@ -228,6 +240,75 @@ fn keys_one_each(share: Share) -> Vec<u8> {
     let withs = share.of(140);
     let head = [11, 0, 9, 0, 1, 0, 0, 0].into_iter().chain((0..withs).flat_map(|_| [12, 0, 9, 1, 0, 8, 0, 0, 1, 8, 0])).collect();
     sheet(&numbered(1), Vec::new(), head, withs + 1)
+}
+
+/// A star and other names.
+fn with_star(count: u32) -> Vec<String> {
+    std::iter::once("*".to_owned()).chain(numbered(count - 1)).collect()
+}
+
+/// A Call that yields all names.
+fn all_yielded(count: u32) -> Vec<u32> {
+    [11, 0, 9, 0, count].into_iter().chain((0..count).flat_map(|n| [n, 0, n])).collect()
+}
+
+/// A WITH of the first name, without alias.
+const ONE_STAR: [u32; 8] = [3, 0, 9, 1, 0, 8, 0, 0];
+
+fn stars(share: Share) -> Vec<u8> {
+    let (names, stars) = (share.of(203), share.of(127));
+    sheet(&with_star(names), Vec::new(), [all_yielded(names), ONE_STAR.repeat(stars as usize)].concat(), 1 + stars)
+}
+
+/// One of the names is empty, which saves a word.
+fn most_entries(share: Share) -> Vec<u8> {
+    let (count, stars) = (share.of(254), share.of(127));
+    let mut names = with_star(count);
+    names[1] = String::new();
+    let mut head = vec![3, 0, 9, count];
+    head.extend((0..count).flat_map(|n| [n + 1, 3]));
+    head.push(0);
+    head.extend(ONE_STAR.repeat(stars as usize));
+    sheet(&names, Vec::new(), head, 1 + stars)
+}
+
+fn few_carried(share: Share) -> Vec<u8> {
+    let stars = share.of(250);
+    sheet(&with_star(3), Vec::new(), [all_yielded(3), ONE_STAR.repeat(stars as usize)].concat(), 1 + stars)
+}
+
+fn stars_in_one(share: Share) -> Vec<u8> {
+    let (names, stars) = (share.of(203), share.of(330));
+    let mut head = all_yielded(names);
+    head.extend([3, 0, 9, stars]);
+    head.extend([0, 8, 0].repeat(stars as usize));
+    head.push(0);
+    sheet(&with_star(names), Vec::new(), head, 2)
+}
+
+/// The WITHs carry the name twice.
+fn shadowing(share: Share) -> Vec<u8> {
+    let (yields, withs) = (share.of(336), share.of(90));
+    let mut head = call(yields, 1, 1);
+    head.extend([3, 0, 9, 2, 0, 8, 0, 0, 8, 1, 0].repeat(withs as usize));
+    sheet(&with_star(2), Vec::new(), head, 1 + withs)
+}
+
+fn star_keys(share: Share) -> Vec<u8> {
+    let (names, keys) = (share.of(168), share.of(560));
+    let mut head = all_yielded(names);
+    head.extend([12, 0, 9, 1, 0, 8, 0, 0, keys]);
+    head.extend([8, 1].repeat(keys as usize));
+    sheet(&with_star(names), Vec::new(), head, 2)
+}
+
+fn aliased(share: Share) -> Vec<u8> {
+    let (names, aliases) = (share.of(168), share.of(380));
+    let mut head = all_yielded(names);
+    head.extend([3, 0, 9, aliases]);
+    head.extend((0..aliases).flat_map(|n| [1 + n % names, 8, names - 1]));
+    head.push(0);
+    sheet(&with_star(names), Vec::new(), head, 2)
 }
 
 /// A RETURN of such projections.

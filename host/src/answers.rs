@@ -4,6 +4,9 @@ use crate::model::{self, Model};
 use crate::sheet::Sheet;
 use cyrs_hir::{HirOffset, ScopeId};
 
+/// Entries of each list that the listing and the programs work with.
+const LISTED: usize = 2048;
+
 pub enum Answers {
     Rust(Ran),
     Model(Model),
@@ -23,12 +26,17 @@ impl Answers {
         Self::Model(model::run(sheet, warnings))
     }
 
-    /// How many findings there are.
-    pub fn findings(&self) -> usize {
+    /// How many entries each of the five lists has.
+    pub fn entries(&self) -> [usize; 5] {
         match self {
-            Self::Rust(ran) => ran.findings.len(),
-            Self::Model(model) => model.findings.len(),
+            Self::Rust(ran) => lists::entries(ran),
+            Self::Model(model) => model.entries(),
         }
+    }
+
+    /// Whether the listing and the programs have room for the answers; else they refuse with 8.
+    pub fn fit(&self) -> bool {
+        self.entries().iter().all(|entries| *entries <= LISTED)
     }
 
     pub fn listing(&self) -> String {

@@ -1,8 +1,9 @@
 //! Times the C function and the Rust's whole job, plain and tuned, on the same sheets in one run, and prints two tables; then the C
-//! function alone on sheets with sort keys and the same ones without, and prints two more, and on sheets with 500 findings, into pages of
-//! several lengths; see README.md.
-use generator::worst::{FAMILIES, Family, KILOBYTES, SORTED, WRITTEN};
+//! function alone on sheets with sort keys and the same ones without, and prints two more; then both and the check call on sheets with
+//! stars; and the C function on sheets with 500 findings, into pages of several lengths; see README.md.
+use generator::worst::{FAMILIES, Family, KILOBYTES, SORTED, STARRED, WRITTEN};
 use generator::{Random, one};
+use ours::{Lists, in_words, needed};
 use std::collections::HashSet;
 use std::hint::black_box;
 use theirs::answers::Answers;
@@ -64,20 +65,24 @@ impl Jobs {
         tuned::answer(bytes, true)
     }
 
-    /// Ends the run unless all three give the same, with sort keys ours and the model; tells how many findings that has.
+    /// Ends the run unless all three give the same, with sort keys ours and the model; tells how many findings that has. Where the answers
+    /// need more entries than the listing has, ours is refused 8.
     fn compare(&mut self, bytes: &[u8]) -> Option<usize> {
-        let read = sheet::read(bytes);
         let ours = self.ours(bytes).map(<[u8]>::to_vec);
-        let expected = match &read {
-            Ok(sheet) if sheet.has_keys() => Ok(Answers::model(sheet, true).listing()),
-            _ => Self::plain(bytes),
+        let differ = || format!("the answers differ on the sheet {bytes:02x?}");
+        let sheet = match sheet::read(bytes) {
+            Ok(sheet) => sheet,
+            Err(cause) => {
+                assert!(ours == Err(cause) && Self::tuned(bytes) == Err(cause), "{}", differ());
+                return None;
+            }
         };
-        let expected = expected.map(String::into_bytes);
-        let equal = ours == expected && (read.is_ok_and(|sheet| sheet.has_keys()) || Self::tuned(bytes) == expected);
-        assert!(equal, "the answers differ on the sheet {bytes:02x?}");
-        let text = String::from_utf8(expected.ok()?).expect("a text");
-        let (_, count) = text.lines().next()?.split_once(' ')?;
-        Some(count.parse().expect("findings and their number"))
+        let answers = Answers::new(&sheet, true);
+        let text = answers.listing().into_bytes();
+        assert!(sheet.has_keys() || Self::tuned(bytes).as_ref() == Ok(&text), "{}", differ());
+        let fits = answers.fit();
+        assert!(ours == if fits { Ok(text) } else { Err(8) }, "{}", differ());
+        fits.then_some(answers.entries()[4])
     }
 
     /// Nanoseconds that ours takes for a byte of each row's sheets; the rows take turns, a part of each that has as many sheets.
@@ -197,6 +202,9 @@ fn main() {
     if std::env::args().any(|word| word == "--writing") {
         return writing(&mut jobs);
     }
+    if std::env::args().any(|word| word == "--stars") {
+        return starred(&mut jobs);
+    }
     let (rows, sorted) = by_size(&mut jobs);
     println!("| about, bytes | findings | ours, ns | Rust, ns | tuned Rust, ns | Rust / ours | tuned / ours |");
     println!("|---|---|---|---|---|---|---|");
@@ -229,7 +237,45 @@ fn main() {
         println!("| {} | {} |", family.name, sorted_growth(&mut jobs, family));
     }
     println!();
+    starred(&mut jobs);
+    println!();
     writing(&mut jobs);
+}
+
+fn starred(jobs: &mut Jobs) {
+    println!("| at 1, 2, 4 and 8 KB | bindings | listing, µs | check, µs | Rust, µs | tuned Rust, µs | tuned / check |");
+    println!("|---|---|---|---|---|---|---|");
+    for family in &STARRED {
+        println!("| {} | {} |", family.name, starred_growth(jobs, family));
+    }
+}
+
+/// The times of a family's sheets with stars: our listing, which may be refused 8, our check call with lists that are long enough, and the
+/// two jobs of the Rust.
+fn starred_growth(jobs: &mut Jobs, family: &Family) -> String {
+    let columns = KILOBYTES.map(|kilobytes| {
+        let bytes = family.sheet(kilobytes);
+        jobs.compare(&bytes);
+        let answers = Answers::new(&sheet::read(&bytes).expect("an accepted sheet"), true);
+        let mut lists = Lists::default();
+        lists.lend(in_words(needed(bytes.len(), answers.entries())));
+        let row = vec![bytes.as_slice(); TURN / bytes.len() / 8];
+        let mut least = [f64::INFINITY; 4];
+        for _ in 0..REPEATED {
+            let times = [
+                time(&row, |bytes| jobs.ours(bytes).is_ok()),
+                time(&row, |bytes| lists.check(bytes, true)),
+                time(&row, Jobs::plain),
+                time(&row, Jobs::tuned),
+            ];
+            least = std::array::from_fn(|job| least[job].min(times[job]));
+        }
+        assert!(lists.entries() == answers.entries(), "as many entries as are needed");
+        (answers.entries()[1], least.map(|time| time / row.len() as f64 / 1000.0))
+    });
+    let micro = |job: usize| columns.map(|(_, times)| format!("{:.1}", times[job])).join(" ");
+    let ratios = columns.map(|(_, times)| ratio(times[3], times[1])).join(" ");
+    [columns.map(|(bindings, _)| bindings.to_string()).join(" "), micro(0), micro(1), micro(2), micro(3), ratios].join(" | ")
 }
 
 /// A call with 500 findings into pages of several lengths, which take turns; the last is too short by all.

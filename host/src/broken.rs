@@ -1,12 +1,29 @@
-//! Broken stand-ins of the C function, each wrong in one way, which `robust` must find out.
+//! Broken stand-ins of the two C functions, each wrong in one way, which `robust` must find out.
 use std::ptr::{read_volatile, write_volatile};
 use std::sync::atomic::{AtomicU32, Ordering::Relaxed};
 
-/// As `ours::answer`.
-pub type Listing = fn(&[u8], &mut [u8], u32) -> u32;
+/// As `ours::answer`, and as `ours::check`.
+type Listing = fn(&[u8], &mut [u8], u32) -> u32;
+type Check = fn(&[u8], u32, [&mut [u32]; 5], &mut [usize; 5]) -> u32;
+
+/// The two functions that are run.
+#[derive(Clone, Copy)]
+pub struct Calls {
+    pub listing: Listing,
+    pub check: Check,
+}
+
+impl Calls {
+    pub const OURS: Self = Self { listing: ours::answer, check: ours::check };
+}
 
 /// What each does wrong.
-pub const BROKEN: [(&str, Listing); 17] = [
+pub fn broken() -> Vec<(&'static str, Calls)> {
+    let listings = LISTINGS.into_iter().map(|(what, listing)| (what, Calls { listing, ..Calls::OURS }));
+    listings.chain(CHECKS.into_iter().map(|(what, check)| (what, Calls { check, ..Calls::OURS }))).collect()
+}
+
+const LISTINGS: [(&str, Listing); 18] = [
     ("reads the byte before the sheet", |sheet, page, warnings| {
         touch(sheet.as_ptr().wrapping_sub(1));
         ours::answer(sheet, page, warnings)
@@ -83,6 +100,63 @@ pub const BROKEN: [(&str, Listing); 17] = [
         let answer = ours::answer(sheet, page, warnings);
         if BEFORE.swap(answer, Relaxed) == 10 && answer >= 256 {
             page[0] = b'F';
+        }
+        answer
+    }),
+    ("gives 10 for an empty page before 8", |sheet, page, warnings| match ours::answer(sheet, page, warnings) {
+        8 if page.is_empty() => 10,
+        answer => answer,
+    }),
+];
+
+const CHECKS: [(&str, Check); 8] = [
+    ("reads the word after the findings", |sheet, warnings, lists, counts| {
+        touch(lists[4].as_ptr().wrapping_add(lists[4].len()).cast());
+        ours::check(sheet, warnings, lists, counts)
+    }),
+    ("writes the byte before the scopes", |sheet, warnings, lists, counts| {
+        flip(lists[0].as_mut_ptr().cast::<u8>().wrapping_sub(1));
+        ours::check(sheet, warnings, lists, counts)
+    }),
+    ("clears the carried list first", |sheet, warnings, lists, counts| {
+        lists[2].fill(0);
+        ours::check(sheet, warnings, lists, counts)
+    }),
+    ("fills the bindings before it finds the carried list too short", |sheet, warnings, mut lists, counts| {
+        let answer = ours::check(sheet, warnings, lists.each_mut().map(|list| &mut **list), counts);
+        if answer == 8 && lists[2].len() / 3 >= sheet.len() / 4 {
+            lists[1].fill(0);
+        }
+        answer
+    }),
+    ("clears the counts at a refusal", |sheet, warnings, lists, counts| {
+        let answer = ours::check(sheet, warnings, lists, counts);
+        if answer != 256 {
+            *counts = [0; 5];
+        }
+        answer
+    }),
+    ("wants an entry more than is needed", |sheet, warnings, mut lists, counts| {
+        let mut kept = lists.each_mut().map(|list| list.to_vec());
+        let answer = ours::check(sheet, warnings, lists.each_mut().map(|list| &mut **list), counts);
+        if answer == 256 && counts[1] > sheet.len() / 4 && counts[1] == lists[1].len() / 6 {
+            lists.iter_mut().zip(&mut kept).for_each(|(list, kept)| list.copy_from_slice(kept));
+            *counts = [usize::MAX; 5];
+            return 8;
+        }
+        answer
+    }),
+    ("takes 8 by the sheet's words alone for enough", |sheet, warnings, lists, counts| {
+        let long = lists.iter().zip(ours::WIDTHS).all(|(list, width)| list.len() / width >= sheet.len() / 4);
+        match ours::check(sheet, warnings, lists, counts) {
+            8 if long => 256,
+            answer => answer,
+        }
+    }),
+    ("counts a recorded use too few", |sheet, warnings, lists, counts| {
+        let answer = ours::check(sheet, warnings, lists, counts);
+        if answer == 256 {
+            counts[3] = counts[3].saturating_sub(1);
         }
         answer
     }),

@@ -1,12 +1,9 @@
 //! Compares what the archives answer with what the Rust does, or the model, on sheets from a seed; see README.md.
 mod comparison;
 
-use comparison::Comparison;
+use comparison::{Comparison, Tally};
 use generator::{Random, one};
 use theirs::twin::{Keys, twin};
-
-/// Words of the longest sheet that is read, and some more.
-const WORDS: usize = 2064;
 
 fn main() {
     let args: Vec<String> = std::env::args().skip(1).collect();
@@ -20,7 +17,7 @@ fn main() {
         std::process::exit(2);
     };
     let mut random = Random::new(seed);
-    let mut comparison = Comparison::new(WORDS);
+    let mut comparison = Comparison::new(Tally::default());
     for number in 0..count {
         let bytes = one(&mut random);
         let compared = match empty.then(|| twin(&bytes, Keys::Empty)) {

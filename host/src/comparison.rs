@@ -1,6 +1,6 @@
 //! One sheet through the archives and through the Rust or, where it has sort keys, the model. Every call is lent buffers with room around
 //! them, and what it may not alter is looked at after it.
-use ours::Lists;
+use ours::{Lists, WIDTHS, in_words, needed};
 use theirs::answers::Answers;
 use theirs::sheet::{self, Sheet};
 
@@ -11,6 +11,8 @@ const BLANK: u8 = 0xA5;
 const PAGE: usize = 1 << 21;
 /// Lookups and offsets asked of a sheet at most, each.
 const ASKED: usize = 2048;
+/// Entries that the lookups of a sheet go through at most, about.
+const SEARCHED: usize = 1 << 23;
 
 #[derive(Default)]
 pub struct Tally {
@@ -25,6 +27,9 @@ pub struct Tally {
     offsets: usize,
     tens: usize,
     eights: usize,
+    /// Sheets whose listing is refused 8, and lists that are too short by what the answer needs.
+    too_long: usize,
+    needs: usize,
 }
 
 impl Tally {
@@ -44,6 +49,8 @@ impl Tally {
         println!("entries: {:?} (scopes, bindings, carried, recorded, findings)", self.entries);
         println!("listings: {} messages in {} bytes; {} lookups, {} offsets", self.messages, self.bytes, self.lookups, self.offsets);
         println!("a page a byte short: {}, a list a word short: {}", self.tens, self.eights);
+        println!("a list with a word for each of the sheet's, and too short for its answer: {}", self.needs);
+        println!("a listing that needs more than 2,048 entries: {}", self.too_long);
         println!("{} sheets differ", self.differ);
     }
 }
@@ -51,7 +58,6 @@ impl Tally {
 pub struct Comparison {
     pub tally: Tally,
     page: Vec<u8>,
-    words: usize,
     lists: Lists,
 }
 
@@ -61,9 +67,8 @@ fn holds(what: &str, is: bool) -> Result<(), String> {
 }
 
 impl Comparison {
-    /// For sheets of up to so many words, and for longer ones that are refused 1.
-    pub fn new(words: usize) -> Self {
-        Self { tally: Tally::default(), page: vec![BLANK; PAGE + 2 * MARGIN], words, lists: Lists::new(words) }
+    pub fn new(tally: Tally) -> Self {
+        Self { tally, page: vec![BLANK; PAGE + 2 * MARGIN], lists: Lists::default() }
     }
 
     /// In what a sheet's answers differ from what is expected, if they do.
@@ -78,7 +83,6 @@ impl Comparison {
         if compared.is_err() {
             self.tally.differ += 1;
             self.page.fill(BLANK);
-            self.lists = Lists::new(self.words);
         }
         compared
     }
@@ -106,7 +110,7 @@ impl Comparison {
 
     fn refused(&mut self, sheet: &[u8], cause: u32, warnings: bool) -> Result<(), String> {
         self.listing(sheet, 256, warnings, Err(cause))?;
-        self.lists.lend(sheet.len() / 4, None);
+        self.lists.lend(in_words([sheet.len() / 4; 5]));
         holds("check's refusal", self.lists.check(sheet, warnings) == Err(cause))?;
         holds("check altered a list and refused", self.lists.kept(true))
     }
@@ -124,15 +128,11 @@ impl Comparison {
 
     fn accepted(&mut self, sheet: &[u8], read: &Sheet, warnings: bool) -> Result<(), String> {
         let answers = Answers::new(read, warnings);
-        let text = answers.listing();
-        self.listing(sheet, text.len() + MARGIN, warnings, Ok(&text))?;
-        self.listing(sheet, text.len(), warnings, Ok(&text))?;
-        self.listing(sheet, text.len() - 1, warnings, Err(10))?;
-        self.tally.tens += 1;
-        self.tally.messages += answers.findings();
-        self.tally.bytes += text.len();
-        self.short_lists(sheet, warnings)?;
-        self.lists.lend(sheet.len() / 4, None);
+        self.listings(sheet, &answers, warnings)?;
+        let entries = needed(sheet.len(), answers.entries());
+        self.short_lists(sheet, entries, warnings)?;
+        let more = if self.tally.eights % 4 == 0 { self.tally.eights % 100 } else { 0 };
+        self.lists.lend(in_words(entries.map(|entries| entries + more)));
         holds("check's answer", self.lists.check(sheet, warnings) == Ok(()))?;
         holds("check altered a word past a count", self.lists.kept(false))?;
         holds("the lists", self.lists.text() == answers.lists(&read.names))?;
@@ -142,10 +142,43 @@ impl Comparison {
         self.graph(&answers, &read.names)
     }
 
-    /// One list, another one each time, with a word less than it needs.
-    fn short_lists(&mut self, sheet: &[u8], warnings: bool) -> Result<(), String> {
-        self.lists.lend(sheet.len() / 4, Some(self.tally.eights % 5));
+    /// The listing with room, into a page that it fills, and into one a byte shorter; or, whatever the page, its refusal 8.
+    fn listings(&mut self, sheet: &[u8], answers: &Answers, warnings: bool) -> Result<(), String> {
+        let text = answers.listing();
+        if !answers.fit() {
+            self.tally.too_long += 1;
+            return [0, text.len() - 1, text.len() + MARGIN].into_iter().try_for_each(|room| self.listing(sheet, room, warnings, Err(8)));
+        }
+        self.listing(sheet, text.len() + MARGIN, warnings, Ok(&text))?;
+        self.listing(sheet, text.len(), warnings, Ok(&text))?;
+        self.listing(sheet, text.len() - 1, warnings, Err(10))?;
+        self.tally.tens += 1;
+        self.tally.messages += answers.entries()[4];
+        self.tally.bytes += text.len();
+        Ok(())
+    }
+
+    /// Lists of as many entries as are needed, but for one, another one each time, that has a word less; and where the answer needs more
+    /// than the sheet has words, but for one that has an entry less, or as many as words.
+    fn short_lists(&mut self, sheet: &[u8], entries: [usize; 5], warnings: bool) -> Result<(), String> {
+        let words = sheet.len() / 4;
+        let mut lengths = in_words(entries);
+        lengths[self.tally.eights % 5] -= 1;
         self.tally.eights += 1;
+        self.short(sheet, lengths, warnings)?;
+        for list in (0..5).filter(|list| entries[*list] > words) {
+            for less in [1, entries[list] - words] {
+                let mut lengths = in_words(entries);
+                lengths[list] -= less * WIDTHS[list];
+                self.tally.needs += 1;
+                self.short(sheet, lengths, warnings)?;
+            }
+        }
+        Ok(())
+    }
+
+    fn short(&mut self, sheet: &[u8], lengths: [usize; 5], warnings: bool) -> Result<(), String> {
+        self.lists.lend(lengths);
         holds("8", self.lists.check(sheet, warnings) == Err(8))?;
         holds("check altered a list and refused with 8", self.lists.kept(true))
     }
@@ -153,7 +186,9 @@ impl Comparison {
     fn graph(&mut self, answers: &Answers, names: &[String]) -> Result<(), String> {
         let spans = answers.spans();
         let scopes = spans.len();
-        let step = (scopes * names.len()).div_ceil(ASKED).max(1);
+        let [_, bindings, carried, ..] = answers.entries();
+        let asked = ASKED.min(SEARCHED / (1 + bindings + carried));
+        let step = (scopes * names.len()).div_ceil(asked).max(1);
         for at in (0..scopes * names.len()).step_by(step) {
             let (scope, name) = ((at % scopes) as u32, at / scopes);
             holds("a lookup", self.lists.lookup(scope, name as u32) == Ok(answers.lookup(scope, &names[name])))?;

@@ -1,6 +1,6 @@
 //! Families of short sheets, each of them whole: README.md says which sheets are in it.
 use crate::grammar::Grammar;
-use crate::several::{depths, key_depths, keys, spans, steps, uses};
+use crate::several::{depths, key_depths, keys, spans, stars, steps, uses};
 use generator::{Sheet, to_bytes};
 
 /// Takes each sheet of a family.
@@ -8,38 +8,37 @@ pub type Each<'a> = &'a mut dyn FnMut(&[u8]);
 
 pub struct Family {
     pub name: &'static str,
-    /// No sheet that is accepted has more words.
-    pub words: usize,
     pub sheets: fn(Each),
 }
 
-const fn family(name: &'static str, words: usize, sheets: fn(Each)) -> Family {
-    Family { name, words, sheets }
+const fn family(name: &'static str, sheets: fn(Each)) -> Family {
+    Family { name, sheets }
 }
 
-pub const FAMILIES: [Family; 22] = [
-    family("lengths", 2048, lengths),
-    family("trailers", 10, trailers),
-    family("few-words", 14, few_words),
-    family("places", 24, places),
-    family("names", 96, names),
-    family("bindings", 64, bindings),
-    family("rows", 64, rows),
-    family("clauses", 64, clauses),
-    family("longer-clauses", 64, longer_clauses),
-    family("whole-clauses", 64, whole_clauses),
-    family("whole-expressions", 64, whole_expressions),
-    family("longer-expressions", 64, longer_expressions),
-    family("patterns", 64, patterns),
-    family("whole-patterns", 64, whole_patterns),
-    family("arms", 64, arms),
-    family("whole-arms", 64, whole_arms),
-    family("depths", 1024, depths),
-    family("key-depths", 1024, key_depths),
-    family("spans", 96, spans),
-    family("uses", 96, uses),
-    family("steps", 160, steps),
-    family("keys", 160, keys),
+pub const FAMILIES: [Family; 23] = [
+    family("lengths", lengths),
+    family("trailers", trailers),
+    family("few-words", few_words),
+    family("places", places),
+    family("names", names),
+    family("bindings", bindings),
+    family("rows", rows),
+    family("clauses", clauses),
+    family("longer-clauses", longer_clauses),
+    family("whole-clauses", whole_clauses),
+    family("whole-expressions", whole_expressions),
+    family("longer-expressions", longer_expressions),
+    family("patterns", patterns),
+    family("whole-patterns", whole_patterns),
+    family("arms", arms),
+    family("whole-arms", whole_arms),
+    family("depths", depths),
+    family("key-depths", key_depths),
+    family("spans", spans),
+    family("uses", uses),
+    family("steps", steps),
+    family("keys", keys),
+    family("stars", stars),
 ];
 
 pub const MAX: u32 = u32::MAX;

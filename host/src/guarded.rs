@@ -67,6 +67,21 @@ impl Guarded {
         start..start + length
     }
 
+    /// Where so many words lie.
+    pub fn words(&self, place: Place, length: usize, random: &mut Random) -> Range<usize> {
+        let part = self.part(place, 4 * length, random);
+        let start = part.start / 4 * 4;
+        start..start + 4 * length
+    }
+
+    /// A part that holds words.
+    pub fn as_words(&mut self, part: &Range<usize>) -> &mut [u32] {
+        // Safety: any four bytes are a word.
+        let (before, words, after) = unsafe { self.bytes[part.clone()].align_to_mut() };
+        assert!(before.is_empty() && after.is_empty(), "a part that begins and ends with a word");
+        words
+    }
+
     /// Puts the pattern back.
     pub fn restore(&mut self, part: Range<usize>) {
         self.bytes[part.clone()].copy_from_slice(&self.pattern[part]);

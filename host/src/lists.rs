@@ -2,9 +2,10 @@
 use crate::record::record;
 use crate::sheet::KINDS;
 use cyrs_diag::{Diagnostic, DiagnosticsSink};
-use cyrs_hir::{BindingKind, HirSpan, Resolution, ResolvedNames, ScopeGraph, ScopeKind, Statement, VarId, VarKind};
+use cyrs_hir::{BindingKind, HirSpan, Resolution, ResolvedNames, ScopeGraph, ScopeKind, ScopeNode, Statement, VarId, VarKind};
 use cyrs_sema::kinds::check_kinds;
 use cyrs_sema::resolve::{ResolveResult, resolve};
+use std::collections::HashMap;
 use std::fmt::{Display, Write};
 
 /// What the two passes give.
@@ -21,7 +22,19 @@ pub fn run(statement: &Statement, warnings: bool) -> Ran {
     Ran { findings: sink.pushed, resolved }
 }
 
+/// Entries of the five lists.
+pub fn entries(ran: &Ran) -> [usize; 5] {
+    let graph = &ran.resolved.scope_graph;
+    let bindings = graph.iter().map(|scope| scope.bindings.len()).sum();
+    let carried = |scope: &ScopeNode| if let ScopeKind::WithBarrier { projected } = &scope.kind { projected.len() } else { 0 };
+    [graph.len(), bindings, graph.iter().map(carried).sum(), ran.resolved.resolved_names.len(), ran.findings.len()]
+}
+
+/// The index of each name of a sheet.
+pub type Names<'a> = HashMap<&'a str, usize>;
+
 pub fn lists(ran: &Ran, names: &[String]) -> String {
+    let names: &Names = &names.iter().enumerate().map(|(at, name)| (name.as_str(), at)).collect();
     let graph = &ran.resolved.scope_graph;
     [
         list("scopes", scopes(graph)),
@@ -55,10 +68,6 @@ fn or_dash(value: Option<impl Display>) -> String {
     value.map_or_else(|| "-".to_owned(), |v| v.to_string())
 }
 
-pub fn name_index(name: &str, names: &[String]) -> usize {
-    names.iter().position(|n| n == name).expect("a name of the sheet")
-}
-
 fn scopes(graph: &ScopeGraph) -> Vec<String> {
     graph.iter().map(|s| format!("{} {} {}", scope_kind(&s.kind), or_dash(s.parent.map(|p| p.0)), ends(s.span))).collect()
 }
@@ -78,11 +87,11 @@ fn scope_kind(kind: &ScopeKind) -> u32 {
 }
 
 /// In order of first making, which each scope's keys remember.
-fn bindings(graph: &ScopeGraph, names: &[String]) -> Vec<String> {
+fn bindings(graph: &ScopeGraph, names: &Names) -> Vec<String> {
     let mut entries = Vec::new();
     for scope in graph.iter() {
         for (name, (variable, kind, replaced)) in scope.bindings.iter() {
-            let (at, kind, replaced) = (name_index(name, names), var_kind(*kind), or_dash(replaced.map(|v: VarId| v.0)));
+            let (at, kind, replaced) = (names[name.as_str()], var_kind(*kind), or_dash(replaced.map(|v: VarId| v.0)));
             entries.push((name.made(), format!("{} {at} {} {kind} {replaced}", scope.id.0, variable.0)));
         }
     }
@@ -94,11 +103,11 @@ fn var_kind(kind: VarKind) -> usize {
     1 + KINDS.iter().position(|k| *k == kind).expect("one of four")
 }
 
-fn carried(graph: &ScopeGraph, names: &[String]) -> Vec<String> {
+fn carried(graph: &ScopeGraph, names: &Names) -> Vec<String> {
     let mut entries = Vec::new();
     for scope in graph.iter() {
         if let ScopeKind::WithBarrier { projected } = &scope.kind {
-            entries.extend(projected.iter().map(|(name, v)| format!("{} {} {}", scope.id.0, name_index(name, names), v.0)));
+            entries.extend(projected.iter().map(|(name, v)| format!("{} {} {}", scope.id.0, names[name.as_str()], v.0)));
         }
     }
     entries

@@ -1,16 +1,18 @@
-//! A sheet's answers by a definition of its own, written from openCypher 9 with document 01's departures and document 02's sort keys. It
-//! has the sheet's tree in common with the Rust, and nothing of its two passes. A sheet with sort keys is compared with this; on sheets
-//! without, this is compared with the Rust (README.md).
+//! A sheet's answers by a definition of its own, written from openCypher 9 with document 01's departures and document 02's sort keys, stars
+//! and aliases. It has the sheet's tree in common with the Rust, and nothing of its two passes. A sheet with sort keys is compared with
+//! this; on sheets without, this is compared with the Rust (README.md).
 mod finding;
 mod graph;
 mod kinds;
 mod names;
 mod parts;
+mod starred;
 
 use crate::sheet::Sheet;
 use cyrs_hir::{Binding, Statement, VarId, VarKind};
 use finding::Finding;
 pub use graph::Graph;
+pub use starred::{SAID, Starred};
 use std::collections::HashMap;
 use std::fmt::{Display, Write};
 
@@ -18,6 +20,7 @@ pub struct Model {
     pub graph: Graph,
     pub findings: Vec<Finding>,
     recorded: names::Recorded,
+    pub starred: Starred,
 }
 
 /// The name walk over head and arms, then the kind walk over the head.
@@ -25,7 +28,7 @@ pub fn run(sheet: &Sheet, warnings: bool) -> Model {
     let names = names::walk(&sheet.statement, warnings);
     let mut findings = names.findings;
     findings.extend(kinds::walk(&sheet.statement));
-    Model { graph: names.graph, findings, recorded: names.recorded }
+    Model { graph: names.graph, findings, recorded: names.recorded, starred: names.starred }
 }
 
 /// Document 01's number of a kind.
@@ -44,6 +47,12 @@ fn row(statement: &Statement, variable: VarId) -> Option<&Binding> {
 }
 
 impl Model {
+    /// Entries of the five lists.
+    pub fn entries(&self) -> [usize; 5] {
+        let graph = &self.graph;
+        [graph.scopes.len(), graph.bindings.len(), graph.carried().count(), self.recorded.in_order().len(), self.findings.len()]
+    }
+
     pub fn listing(&self) -> String {
         let mut text = format!("findings {}\n", self.findings.len());
         for finding in &self.findings {

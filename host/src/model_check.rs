@@ -2,6 +2,7 @@
 use cyrs_hir::{Clause, ScopeKind, Statement, VarId, YieldItem};
 use generator::{Random, one};
 use theirs::answers::Answers;
+use theirs::model::{SAID, Starred};
 use theirs::sheet::{self, Sheet};
 use theirs::twin::{Keys, called, twin};
 
@@ -13,7 +14,24 @@ struct Tally {
     twins: usize,
     projected: usize,
     called: usize,
+    /// Sheets that have each of `SAID`, that need more entries in a list than they have words, and more than the listing has.
+    starred: [usize; SAID.len()],
+    longer: usize,
+    too_long: usize,
     differ: usize,
+}
+
+impl Tally {
+    /// What a sheet of so many words has of stars, and whether its answers are long.
+    fn count(&mut self, answers: &Answers, words: usize) {
+        let Answers::Model(model) = answers else { return };
+        let Starred { counts } = &model.starred;
+        for (sheets, count) in self.starred.iter_mut().zip(counts) {
+            *sheets += usize::from(*count > 0);
+        }
+        self.longer += usize::from(answers.entries().iter().any(|entries| *entries > words));
+        self.too_long += usize::from(!answers.fit());
+    }
 }
 
 fn main() {
@@ -42,6 +60,10 @@ fn main() {
         "{} have a RETURN with keys, which are projections for the Rust; {} WITHs with keys are a Call for it",
         tally.projected, tally.called
     );
+    println!("{} need more entries in a list than they have words, {} more than the listing has", tally.longer, tally.too_long);
+    for (what, sheets) in SAID.iter().zip(tally.starred) {
+        println!("{sheets} have {what}");
+    }
     println!("{} sheets differ", tally.differ);
     if tally.differ > 0 {
         std::process::exit(1);
@@ -58,6 +80,7 @@ fn compare(bytes: &[u8], tally: &mut Tally) -> Result<(), String> {
         return Ok(());
     };
     tally.accepted += 1;
+    tally.count(&Answers::model(&sheet, true), bytes.len() / 4);
     if !sheet.has_keys() {
         let made = twin(bytes, Keys::Empty);
         tally.twins += usize::from(made.as_ref().is_some_and(|made| made != bytes));

@@ -30,6 +30,9 @@ fn answer(bytes: &[u8], warnings: bool) -> String {
         Err(cause) => return format!("refused {cause}\n"),
     };
     let answers = Answers::new(&sheet, warnings);
+    if !answers.fit() {
+        return "refused 8\n".to_owned();
+    }
     let text = answers.listing();
     let text = if text.len() <= PAGE { text } else { "refused 10\n".to_owned() };
     text + &answers.lists(&sheet.names)

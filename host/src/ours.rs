@@ -47,35 +47,48 @@ pub fn listing(sheet: &[u8], page: &mut [u8], warnings: bool) -> Result<usize, u
     answer.checked_sub(256).map(|length| length as usize).ok_or(answer)
 }
 
+/// The check call's answer, 256 or the refusal's number, on five lists as words; their counts are put where it accepts.
+pub fn check(sheet: &[u8], warnings: u32, lists: [&mut [u32]; 5], counts: &mut [usize; 5]) -> u32 {
+    let [a, b, c, d, e] = lists.map(|list| (list.as_mut_ptr(), list.len()));
+    let counts = counts.as_mut_ptr();
+    // Safety: the slices are valid for their lengths and don't overlap.
+    unsafe { cenguatu_check(sheet.as_ptr(), sheet.len(), warnings, a.0, a.1, b.0, b.1, c.0, c.1, d.0, d.1, e.0, e.1, counts) }
+}
+
 /// Words of an entry: scopes, bindings, carried, recorded, findings.
-const WIDTHS: [usize; 5] = [4, 6, 3, 5, 6];
+pub const WIDTHS: [usize; 5] = [4, 6, 3, 5, 6];
+
+/// The words of lists of so many entries.
+pub fn in_words(entries: [usize; 5]) -> [usize; 5] {
+    std::array::from_fn(|list| entries[list] * WIDTHS[list])
+}
+
+/// The fewest entries with which the check call accepts a sheet of so many bytes: one for each of its words, and those of its answers.
+pub fn needed(bytes: usize, answers: [usize; 5]) -> [usize; 5] {
+    answers.map(|entries| entries.max(bytes / 4))
+}
 
 /// What stands in a list before a call.
 const BLANK: u32 = 0xA5C3_96E1;
 
 /// Five lent lists, with room before and after each, and their counts.
+#[derive(Default)]
 pub struct Lists {
-    most: usize,
     room: [Vec<u32>; 5],
     lengths: [usize; 5],
     counts: [usize; 5],
 }
 
-const MARGIN: usize = 8;
+const MARGIN: usize = 64;
 
 impl Lists {
-    /// Room for lists of so many entries.
-    pub fn new(most: usize) -> Self {
-        Self { most, room: WIDTHS.map(|width| vec![BLANK; most * width + 2 * MARGIN]), lengths: [0; 5], counts: [0; 5] }
-    }
-
-    /// Lists of so many entries, or of as many as there is room for, which are blank; the one that is `short` has a word less than that.
-    pub fn lend(&mut self, entries: usize, short: Option<usize>) {
+    /// Lists of so many words each, which are blank.
+    pub fn lend(&mut self, lengths: [usize; 5]) {
         self.counts = [usize::MAX; 5];
-        for (list, width) in WIDTHS.iter().enumerate() {
-            let used = (self.lengths[list] + 2 * MARGIN).min(self.room[list].len());
-            self.room[list][..used].fill(BLANK);
-            self.lengths[list] = (entries.min(self.most) * width).saturating_sub(usize::from(short == Some(list)));
+        self.lengths = lengths;
+        for (room, length) in self.room.iter_mut().zip(lengths) {
+            room.clear();
+            room.resize(length + 2 * MARGIN, BLANK);
         }
     }
 
@@ -85,27 +98,12 @@ impl Lists {
 
     pub fn check(&mut self, sheet: &[u8], warnings: bool) -> Result<(), u32> {
         let lengths = self.lengths;
-        let [a, b, c, d, e] = self.room.each_mut().map(|list| list[MARGIN..].as_mut_ptr());
-        let counts = self.counts.as_mut_ptr();
-        // Safety: the lists are valid for their lengths and don't overlap.
-        let answer = unsafe {
-            cenguatu_check(
-                sheet.as_ptr(),
-                sheet.len(),
-                warnings.into(),
-                a,
-                lengths[0],
-                b,
-                lengths[1],
-                c,
-                lengths[2],
-                d,
-                lengths[3],
-                e,
-                lengths[4],
-                counts,
-            )
-        };
+        let mut at = 0;
+        let lists = self.room.each_mut().map(|room| {
+            at += 1;
+            &mut room[MARGIN..MARGIN + lengths[at - 1]]
+        });
+        let answer = check(sheet, warnings.into(), lists, &mut self.counts);
         if answer == 256 { Ok(()) } else { Err(answer) }
     }
 

@@ -1,6 +1,6 @@
 //! Finding records. The Rust keeps a finding's name and details in its message alone, between backquotes; a name may have backquotes
 //! too, so a message is taken apart from its end.
-use crate::lists::{ends, name_index};
+use crate::lists::{Names, ends};
 use cyrs_diag::{DiagCode, Diagnostic};
 
 const KINDS: [&str; 4] = ["Node", "Relationship", "Path", "Value"];
@@ -9,9 +9,9 @@ const PLACES: [&str; 3] = ["Path", "Node", "Relationship"];
 const WANTS: [&str; 3] = ["cannot index ", "cannot slice ", "cannot iterate over "];
 
 /// `code start end name+1 one two`
-pub fn record(finding: &Diagnostic, names: &[String]) -> String {
+pub fn record(finding: &Diagnostic, names: &Names) -> String {
     let (name, one, two) = details(finding.code, &finding.message);
-    let name = name.map_or(0, |n| 1 + name_index(n, names));
+    let name = name.map_or(0, |n| 1 + names[n]);
     format!("{} {} {name} {one} {two}", finding.code as u32, ends(finding.span))
 }
 

@@ -197,13 +197,16 @@ fn step(number: u32) -> (u32, Vec<u32>) {
     if number < KEYS.len() * PROJECTIONS.len() { (12, [projections, &[0], keys].concat()) } else { (13, [projections, keys].concat()) }
 }
 
-/// The words of some steps, each with the span of its position.
+/// The words of some clauses, each with the span of its position.
+fn placed(clauses: &[(u32, Vec<u32>)], from: usize) -> Vec<u32> {
+    let placed = |(at, (kind, rest)): (usize, &(u32, Vec<u32>))| [&[*kind, (from + at) as u32, (from + at + 1) as u32], &rest[..]].concat();
+    clauses.iter().enumerate().flat_map(placed).collect()
+}
+
+/// The words of some steps.
 fn walked(steps: &[u32], from: usize) -> Vec<u32> {
-    let placed = |(at, number): (usize, &u32)| {
-        let (kind, rest) = step(*number);
-        [&[kind, (from + at) as u32, (from + at + 1) as u32], &rest[..]].concat()
-    };
-    steps.iter().enumerate().flat_map(placed).collect()
+    let clauses: Vec<_> = steps.iter().map(|number| step(*number)).collect();
+    placed(&clauses, from)
 }
 
 fn arm(steps: &[u32], from: usize) -> Vec<u32> {
@@ -237,6 +240,108 @@ pub fn keys(each: Each) {
             walk.sections[2] = walked(&steps[..head], 0);
             walk.sections[3] = arm(&steps[head..], head);
             put(&walk, each);
+        });
+    }
+}
+
+/// Clauses that bind, before a WITH that may have stars; variables A and STAR are named b and a.
+const BINDERS: [(u32, &[u32]); 12] = [
+    // MATCH (a), b = (), (*), a = (), -[b]-
+    (1, &[0, 1, 0, 1, 1, 0, 1, 1, 0, 0]),
+    (1, &[0, 1, 1, 3, 0]),
+    (1, &[0, 1, 0, 1, 1, 0, 1, 1, 2, 0]),
+    (1, &[0, 1, 1, STAR, 0]),
+    (1, &[0, 1, 0, 1, 2, 0, 1, 1, A, 0]),
+    // CALL with yields a, b, a; b AS a, *
+    (11, &[0, 3, 0, 0, 7, 1, 0, 8, 0, 0, 9]),
+    (11, &[0, 2, 1, 1, 9, 2, 0, 5]),
+    // UNWIND AS b, twice
+    (5, &[1, 8, 0]),
+    (5, &[A, 1]),
+    // WITH a; a number AS a; *
+    (3, &[1, 0, 8, 0, 0]),
+    (3, &[1, 1, 3, 0]),
+    (3, &[1, 0, 8, 2, 0]),
+];
+
+/// Projections: a star, alone and beside others; aliased names; computed aliases.
+const STARRED: [&[u32]; 20] = [
+    // *; *, *; *, a; a, *; b AS a, *; * AS a; *, * AS b
+    &[1, 0, 8, 2],
+    &[2, 0, 8, 2, 0, 8, 2],
+    &[2, 0, 8, 2, 0, 8, 0],
+    &[2, 0, 8, 0, 0, 8, 2],
+    &[2, 1, 8, 1, 0, 8, 2],
+    &[1, 1, 8, 2],
+    &[2, 0, 8, 2, 2, 8, 2],
+    // a number AS a; *, a number AS a; a number AS *, *; a number AS *
+    &[1, 1, 3],
+    &[2, 0, 8, 2, 1, 3],
+    &[2, 3, 3, 0, 8, 2],
+    &[1, 3, 3],
+    // a AS b, b AS a; a number AS b, a AS a; a.b AS a; -* AS b; a list of * without alias
+    &[2, 2, 8, 0, 1, 8, 1],
+    &[2, 2, 3, 1, 8, 0],
+    &[1, 1, 9, 1, 8, 0],
+    &[1, 2, 16, 0, 8, 2],
+    &[1, 0, 12, 1, 8, 2],
+    // a comprehension that binds b AS b, *; variables AS b and AS a, *; a variable, *, a number AS a, *
+    &[2, 2, 22, 0, 1, 0, 1, 1, 3, 0, 8, 1, 0, 8, 2],
+    &[2, 2, 7, 0, 0, 8, 2],
+    &[2, 1, 7, 9, 0, 8, 2],
+    &[4, 0, 7, 0, 0, 8, 2, 1, 3, 0, 8, 2],
+];
+
+/// Clauses after such a WITH: DELETE of a, b and *; before it WITH *, MATCH (a), or a CALL with yields a, b, a and WITH *; RETURN a, b.
+const AFTER: [&[(u32, &[u32])]; 5] = [
+    &[DELETE],
+    &[(3, &[1, 0, 8, 2, 0]), DELETE],
+    &[(1, &[0, 1, 0, 1, 1, 0, 1, 1, 0, 0]), DELETE],
+    &[(11, &[0, 3, 0, 0, 7, 1, 0, 8, 0, 0, 9]), (3, &[1, 0, 8, 2, 0]), DELETE],
+    &[(4, &[2, 0, 8, 0, 0, 8, 1])],
+];
+const DELETE: (u32, &[u32]) = (10, &[3, 8, 0, 8, 1, 8, 2]);
+
+/// Names `a`, `b` and `*`, bindings of each, of which two have use ids for variables, and no clause.
+fn starred() -> Sheet {
+    let rows = [[0, 0, 1, 0, 1], [1, 1, 4, 0, 1], [2, 2, 1, 0, 1], [3, 1, 3, 0, 1], [A, 1, 2, 0, 1], [STAR, 0, 3, 0, 1]];
+    sheet(&["a", "b", "*"], &rows, &[])
+}
+
+pub fn stars(each: Each) {
+    let (binders, with) = (up_to(BINDERS.len() as u32 - 1), up_to(STARRED.len() as u32 - 1));
+    let owned = |clauses: &[(u32, &[u32])]| -> Vec<(u32, Vec<u32>)> { clauses.iter().map(|(kind, rest)| (*kind, rest.to_vec())).collect() };
+    let mut walk = starred();
+    let mut put = |before: &[u32], withs: Vec<(u32, Vec<u32>)>, after: &[(u32, &[u32])], arm: bool| {
+        let before: Vec<_> = before.iter().map(|at| BINDERS[*at as usize]).collect();
+        let all = [owned(&before), withs, owned(after)].concat();
+        let words = placed(&all, 0);
+        let count = all.len() as u32;
+        if arm {
+            (walk.counts[2], walk.counts[3]) = (0, 1);
+            (walk.sections[2], walk.sections[3]) = (Vec::new(), [&[0, count, count], &words[..]].concat());
+        } else {
+            (walk.counts[2], walk.counts[3]) = (count, 0);
+            (walk.sections[2], walk.sections[3]) = (words, Vec::new());
+        }
+        put(&walk, each);
+    };
+    let plain = |at: u32| (3, [STARRED[at as usize], &[0]].concat());
+    for length in 0..=3 {
+        product(&[&vec![&binders[..]; length][..], &[&with]].concat(), |picked| {
+            let (before, at) = (&picked[..length], picked[length]);
+            for after in &AFTER[..if length < 3 { 5 } else { 1 }] {
+                put(before, vec![plain(at)], after, length == 1);
+                if length == 1 {
+                    put(before, vec![plain(at)], after, false);
+                }
+            }
+            for keys in KEYS.iter().filter(|_| length < 3) {
+                put(before, vec![(12, [STARRED[at as usize], &[0], keys].concat())], &[DELETE], false);
+            }
+            for next in with.iter().filter(|_| length < 3) {
+                put(before, vec![plain(at), plain(*next)], &[DELETE], false);
+            }
         });
     }
 }

@@ -26,8 +26,7 @@ fn main() {
 /// Compares the sheets of a family, and tells how many there are and the shortest that differs.
 fn run(family: &Family, tally: Tally) -> Tally {
     let (sheets, accepted) = (tally.sheets, tally.accepted());
-    let mut comparison = Comparison::new(family.words);
-    comparison.tally = tally;
+    let mut comparison = Comparison::new(tally);
     let mut shortest: Option<(Vec<u8>, String)> = None;
     (family.sheets)(&mut |bytes| {
         if let Err(what) = comparison.compare(bytes)

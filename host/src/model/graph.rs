@@ -1,6 +1,7 @@
 //! Scopes and what they bind, as a graph that is climbed; names are texts.
 use cyrs_hir::{HirSpan, VarId, VarKind};
 use std::cmp::Reverse;
+use std::collections::HashSet;
 
 /// Document 01's scope kinds, from 1.
 #[derive(Clone, Copy, PartialEq, Eq)]
@@ -33,6 +34,8 @@ pub struct Bound {
     pub variable: u32,
     pub kind: VarKind,
     pub replaced: Option<u32>,
+    /// When it was bound last, by the number of bindings made before.
+    since: usize,
 }
 
 #[derive(Default)]
@@ -40,6 +43,8 @@ pub struct Graph {
     pub scopes: Vec<Scope>,
     /// Of all scopes, in order of first making.
     pub bindings: Vec<Bound>,
+    /// How often a name was bound.
+    made: usize,
 }
 
 pub fn ends(span: HirSpan) -> (u32, u32) {
@@ -60,13 +65,15 @@ impl Graph {
     /// Binds a name in a scope; whether the scope itself had it before.
     pub fn bind(&mut self, scope: usize, name: &str, variable: VarId, kind: VarKind) -> bool {
         let variable = variable.0;
+        let since = self.made;
+        self.made += 1;
         if let Some(at) = self.own(scope, name) {
             let bound = &mut self.bindings[at];
-            (bound.replaced, bound.variable, bound.kind) = (Some(bound.variable), variable, kind);
+            (bound.replaced, bound.variable, bound.kind, bound.since) = (Some(bound.variable), variable, kind, since);
             return true;
         }
         self.scopes[scope].bound.push(self.bindings.len());
-        self.bindings.push(Bound { scope, name: name.to_owned(), variable, kind, replaced: None });
+        self.bindings.push(Bound { scope, name: name.to_owned(), variable, kind, replaced: None, since });
         false
     }
 
@@ -82,6 +89,33 @@ impl Graph {
         let Scope { kind, parent, carries, .. } = &self.scopes[scope];
         let passes = *kind != Kind::WithBarrier || carries.iter().any(|(carried, _)| carried == name);
         parent.filter(|_| passes).and_then(|parent| self.lookup(parent, name))
+    }
+
+    /// A scope and those around it, up to the Root after a barrier, which has all that its barrier carries.
+    fn around(&self, scope: usize) -> impl Iterator<Item = &Scope> {
+        let parent = |at: &usize| self.scopes[*at].parent.filter(|parent| self.scopes[*parent].kind != Kind::WithBarrier);
+        std::iter::successors(Some(scope), parent).map(|at| &self.scopes[at])
+    }
+
+    fn bound_in<'a>(&'a self, scope: &'a Scope) -> impl Iterator<Item = &'a Bound> {
+        scope.bound.iter().map(|at| &self.bindings[*at])
+    }
+
+    /// Each name that can be found from a scope, with its variable, in the order in which these bindings were made.
+    pub fn visible(&self, scope: usize) -> Vec<(String, u32)> {
+        let (mut found, mut names) = (Vec::new(), HashSet::new());
+        for scope in self.around(scope) {
+            found.extend(self.bound_in(scope).filter(|bound| names.insert(bound.name.as_str())));
+        }
+        found.sort_by_key(|bound| bound.since);
+        found.into_iter().map(|bound| (bound.name.clone(), bound.variable)).collect()
+    }
+
+    /// Whether a name that can be found from a scope has an older binding too.
+    pub fn shadows(&self, scope: usize) -> bool {
+        let mut names = HashSet::new();
+        let mut bound = self.around(scope).flat_map(|scope| self.bound_in(scope));
+        bound.any(|bound| bound.replaced.is_some() || !names.insert(bound.name.as_str()))
     }
 
     /// The narrowest scope around an offset, of these the one opened last; a scope without width is around nothing.

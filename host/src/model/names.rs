@@ -3,6 +3,7 @@ use super::finding::{Finding, NOWHERE};
 use super::graph::{Graph, Kind, ends};
 use super::parts::{elements, parts};
 use super::row;
+use super::starred::{Said, Starred};
 use cyrs_hir::{Clause, Expr, HirSpan, OrderItem, Pattern, Projection, RemoveItem, SetItem, Statement, VarId, VarKind};
 use std::collections::HashMap;
 
@@ -35,6 +36,7 @@ pub struct Names<'a> {
     pub graph: Graph,
     pub recorded: Recorded,
     pub findings: Vec<Finding>,
+    pub starred: Starred,
 }
 
 /// Where an expression stands, and so what its names mean.
@@ -56,12 +58,18 @@ impl Place<'_> {
 
 /// Head, then each arm, from the first Root.
 pub fn walk(statement: &Statement, warnings: bool) -> Names<'_> {
-    let mut names = Names { statement, warnings, graph: Graph::default(), recorded: Recorded::default(), findings: Vec::new() };
+    let (graph, recorded, starred) = (Graph::default(), Recorded::default(), Starred::default());
+    let mut names = Names { statement, warnings, graph, recorded, findings: Vec::new(), starred };
     let root = names.graph.open(Kind::Root, None, ends(statement.span));
     for clauses in std::iter::once(&statement.clauses).chain(statement.unions.iter().map(|arm| &arm.clauses)) {
         clauses.iter().fold(root, |current, clause| names.clause(clause, current));
     }
     names
+}
+
+/// Whether a projection is `*` without an alias.
+fn is_star(projection: &Projection) -> bool {
+    projection.alias.is_none() && matches!(&projection.expr, Expr::Unresolved(name) if name == "*")
 }
 
 /// FNV-1's lower 30 bits, from the top of all words down.
@@ -140,7 +148,8 @@ impl<'a> Names<'a> {
     ) -> usize {
         let exprs = projections.iter().map(|projection| &projection.expr).chain(filter);
         exprs.for_each(|expr| self.expr(expr, Place::at(current)));
-        let pairs: Vec<(String, u32)> = projections.iter().filter_map(|projection| self.carried(projection, current)).collect();
+        self.count(projections, keys, current);
+        let pairs = self.pairs(projections, current);
         let barrier = self.graph.open(Kind::WithBarrier, Some(current), span);
         let root = self.graph.open(Kind::Root, Some(barrier), (span.1, span.1));
         for (name, variable) in &pairs {
@@ -153,13 +162,49 @@ impl<'a> Names<'a> {
         root
     }
 
-    /// The name and variable that a projection carries: a variable's, or without an alias that of a name which is found.
+    /// What a WITH carries: all that is visible, if one of its projections is a star or several are; then what the others carry.
+    fn pairs(&self, projections: &[Projection], current: usize) -> Vec<(String, u32)> {
+        let (stars, others): (Vec<&Projection>, Vec<&Projection>) = projections.iter().partition(|projection| is_star(projection));
+        let mut pairs = if stars.is_empty() { Vec::new() } else { self.graph.visible(current) };
+        pairs.extend(others.into_iter().filter_map(|projection| self.carried(projection, current)));
+        pairs
+    }
+
+    /// The name and variable that a projection carries: a variable, or a name that is found, under its alias or its own name; anything else
+    /// under its alias, with the alias's use id for a variable.
     fn carried(&self, projection: &Projection, current: usize) -> Option<(String, u32)> {
-        match (&projection.expr, &projection.alias) {
-            (Expr::Var(variable), Some(alias)) => Some((alias.to_string(), variable.0)),
-            (Expr::Var(variable), None) => Some((row(self.statement, *variable)?.name.to_string(), variable.0)),
-            (Expr::Unresolved(name), None) => Some((name.to_string(), self.graph.lookup(current, name)?)),
-            _ => None,
+        let alias = projection.alias.as_deref();
+        let (own, variable) = match &projection.expr {
+            Expr::Var(variable) => (row(self.statement, *variable).map(|row| row.name.as_str()), variable.0),
+            Expr::Unresolved(name) => (Some(name.as_str()), self.graph.lookup(current, name)?),
+            _ => (None, use_id(alias?)),
+        };
+        Some((alias.or(own)?.to_owned(), variable))
+    }
+
+    /// Counts what a WITH has of stars and aliases.
+    fn count(&mut self, projections: &[Projection], keys: &[OrderItem], current: usize) {
+        let (graph, starred) = (&self.graph, &mut self.starred);
+        let found = |name: &str| graph.lookup(current, name).is_some();
+        let stars = projections.iter().filter(|projection| is_star(projection)).count();
+        if stars > 0 {
+            starred.count(Said::Star, true);
+            starred.count(Said::Several, stars > 1);
+            starred.count(Said::Beside, projections.len() > stars);
+            starred.count(Said::Sorted, !keys.is_empty());
+            starred.count(Said::Shadowed, graph.shadows(current));
+            starred.count(Said::Named, found("*"));
+        }
+        for Projection { expr, alias, .. } in projections {
+            match (expr, alias) {
+                (Expr::Var(_), _) | (_, None) => (),
+                (Expr::Unresolved(name), Some(_)) => starred.count(if found(name) { Said::Found } else { Said::Lost }, true),
+                (_, Some(alias)) => {
+                    starred.count(Said::Computed, true);
+                    starred.count(Said::Met, row(self.statement, VarId(use_id(alias))).is_some());
+                    starred.count(Said::Over, found(alias));
+                }
+            }
         }
     }
 
