@@ -1,10 +1,11 @@
 //! Compares the model with the Rust, on sheets from a seed; see README.md.
-use cyrs_hir::{Clause, ScopeKind, Statement, VarId, YieldItem};
+use cyrs_hir::{Clause, Expr, Projection, ScopeId, ScopeKind, ScopeNode, Statement, VarId, YieldItem};
 use generator::{Random, one};
+use std::collections::HashSet;
 use theirs::answers::Answers;
 use theirs::model::{SAID, Starred};
 use theirs::sheet::{self, Sheet};
-use theirs::twin::{Keys, called, twin};
+use theirs::twin::{Keys, called, twin, written_out};
 
 #[derive(Default)]
 struct Tally {
@@ -18,19 +19,21 @@ struct Tally {
     starred: [usize; SAID.len()],
     longer: usize,
     too_long: usize,
+    written_out: usize,
     differ: usize,
 }
 
 impl Tally {
-    /// What a sheet of so many words has of stars, and whether its answers are long.
-    fn count(&mut self, answers: &Answers, words: usize) {
-        let Answers::Model(model) = answers else { return };
+    /// What a sheet of so many words has of stars and aliases, and whether its answers are long; whether it has any of these.
+    fn count(&mut self, answers: &Answers, words: usize) -> bool {
+        let Answers::Model(model) = answers else { return false };
         let Starred { counts } = &model.starred;
         for (sheets, count) in self.starred.iter_mut().zip(counts) {
             *sheets += usize::from(*count > 0);
         }
         self.longer += usize::from(answers.entries().iter().any(|entries| *entries > words));
         self.too_long += usize::from(!answers.fit());
+        counts.iter().any(|count| *count > 0)
     }
 }
 
@@ -61,6 +64,7 @@ fn main() {
         tally.projected, tally.called
     );
     println!("{} need more entries in a list than they have words, {} more than the listing has", tally.longer, tally.too_long);
+    println!("{} have WITHs that are written out for the Rust as variables under aliases", tally.written_out);
     for (what, sheets) in SAID.iter().zip(tally.starred) {
         println!("{sheets} have {what}");
     }
@@ -80,7 +84,7 @@ fn compare(bytes: &[u8], tally: &mut Tally) -> Result<(), String> {
         return Ok(());
     };
     tally.accepted += 1;
-    tally.count(&Answers::model(&sheet, true), bytes.len() / 4);
+    let carries = tally.count(&Answers::model(&sheet, true), bytes.len() / 4);
     if !sheet.has_keys() {
         let made = twin(bytes, Keys::Empty);
         tally.twins += usize::from(made.as_ref().is_some_and(|made| made != bytes));
@@ -92,7 +96,7 @@ fn compare(bytes: &[u8], tally: &mut Tally) -> Result<(), String> {
                 same(&rust, &Answers::model(&read, warnings), &sheet.names).map_err(|what| what + " with empty sort keys")?;
             }
         }
-        return Ok(());
+        return if carries { plainly(sheet, tally) } else { Ok(()) };
     }
     tally.keyed += 1;
     let keyed = [false, true].map(|warnings| Answers::model(&sheet, warnings));
@@ -114,7 +118,7 @@ fn compare(bytes: &[u8], tally: &mut Tally) -> Result<(), String> {
         same(&rust, &Answers::rust(&out, warnings), &sheet.names).map_err(|what| what + " with the sort keys taken out")?;
         around_keys(&rust, keyed, &sheet)?;
     }
-    Ok(())
+    if carries { plainly(sheet, tally) } else { Ok(()) }
 }
 
 /// WITHs that are looked at in a head or an arm.
@@ -141,6 +145,46 @@ fn with_a_call(sheet: &Sheet, tally: &mut Tally) -> Result<(), String> {
         }
     }
     Ok(())
+}
+
+/// What the Rust says of a sheet's WITHs it says too where these have nothing but variables under aliases, one for each carried pair, and
+/// their projections and filters are a Delete before; but that such a variable is recorded. A star carries what can be found before it.
+fn plainly(mut sheet: Sheet, tally: &mut Tally) -> Result<(), String> {
+    let rust = Answers::rust(&sheet, true);
+    let Answers::Rust(ran) = &rust else { return Ok(()) };
+    let with = |scope: &ScopeNode| match &scope.kind {
+        ScopeKind::WithBarrier { projected } => Some((scope.parent.expect("a scope before a WITH"), projected.clone())),
+        _ => None,
+    };
+    let (before, pairs): (Vec<ScopeId>, Vec<_>) = ran.resolved.scope_graph.iter().filter_map(with).unzip();
+    let clauses = std::iter::once(&sheet.statement.clauses).chain(sheet.statement.unions.iter().map(|arm| &arm.clauses)).flatten();
+    let starred = clauses.filter_map(|clause| match clause {
+        Clause::With { projections, .. } => Some(projections.iter().any(is_star)),
+        _ => None,
+    });
+    for ((before, pairs), _) in before.iter().zip(&pairs).zip(starred).filter(|(_, starred)| *starred) {
+        let found: Vec<_> = sheet.names.iter().filter_map(|name| Some((name.as_str(), rust.lookup(before.0, name)?))).collect();
+        let mut all: Vec<_> = pairs.iter().take(found.len()).map(|(name, variable)| (name.as_str(), variable.0)).collect();
+        all.sort_by_key(|(name, _)| sheet.names.iter().position(|other| other == name));
+        holds("what a star carries", all == found)?;
+    }
+    written_out(&mut sheet.statement, &pairs);
+    tally.written_out += 1;
+    let other = Answers::rust(&sheet, true);
+    holds("the listing with WITHs written out", rust.listing() == other.listing())?;
+    let (rust, other) = (rust.lists(&sheet.names), other.lists(&sheet.names));
+    for list in ["scopes", "bindings", "carried"] {
+        holds("a list with WITHs written out", entries(&rust, list).eq(entries(&other, list)))?;
+    }
+    let put: HashSet<String> = pairs.iter().flatten().map(|(_, variable)| variable.0.to_string()).collect();
+    let uses = |text| -> Vec<&str> {
+        entries(text, "recorded").filter(|entry| !put.contains(entry.split(' ').next().unwrap_or_default())).collect()
+    };
+    holds("the recorded uses with WITHs written out", uses(&rust) == uses(&other))
+}
+
+fn is_star(projection: &Projection) -> bool {
+    projection.alias.is_none() && matches!(&projection.expr, Expr::Unresolved(name) if name == "*")
 }
 
 /// A statement of some clauses with a sheet's tables.

@@ -1,7 +1,8 @@
-//! A sheet with the same clauses and other sort keys, made on its words; and a WITH with sort keys as clauses without.
+//! A sheet with the same clauses and other sort keys, made on its words; a WITH with sort keys as clauses without; and WITHs whose
+//! projections are variables under aliases.
 use crate::format::{Read, Reader};
 use crate::sheet::{TRAILER, places, read, word};
-use cyrs_hir::{Clause, Expr, HirId, OrderItem, UnionArm, VarId, YieldItem};
+use cyrs_hir::{Clause, Expr, HirId, HirOffset, HirSpan, OrderItem, Projection, Statement, UnionArm, VarId, YieldItem};
 use smol_str::SmolStr;
 
 /// What becomes of sort keys.
@@ -163,4 +164,28 @@ pub fn called(with: &Clause, yields: Vec<YieldItem>) -> Vec<Clause> {
         Clause::Call { id, procedure: SmolStr::new(""), args: Vec::new(), yields, optional: false, span },
         delete(order_by.iter().map(|key| key.expr.clone()).collect()),
     ]
+}
+
+/// Each WITH, in order, as a Delete of its projections and filter and a WITH of the variables that it carries, each under its name.
+pub fn written_out(statement: &mut Statement, carried: &[Vec<(SmolStr, VarId)>]) {
+    let mut carried = carried.iter();
+    let rows = std::iter::once(&mut statement.clauses).chain(statement.unions.iter_mut().map(|arm| &mut arm.clauses));
+    for clauses in rows {
+        let mut made = Vec::new();
+        for mut clause in std::mem::take(clauses) {
+            if let Clause::With { id, projections, filter, span, .. } = &mut clause {
+                let pairs = carried.next().expect("a row of pairs for each WITH");
+                let plain = |(name, variable): &(SmolStr, VarId)| Projection {
+                    expr: Expr::Var(*variable),
+                    alias: Some(name.clone()),
+                    span: HirSpan::empty(HirOffset::new(0)),
+                };
+                let before = std::mem::replace(projections, pairs.iter().map(plain).collect());
+                let targets = before.into_iter().map(|projection| projection.expr).chain(filter.take()).collect();
+                made.push(Clause::Delete { id: *id, targets, detach: false, span: *span });
+            }
+            made.push(clause);
+        }
+        *clauses = made;
+    }
 }
