@@ -3,7 +3,7 @@
 use Prim.Native.Nat.{ℕ, _*_, _≤_, zero-le}
 use native.Mathlib.Omega.{arith}
 use mathlib.Core.Path.{_≡_, refl, subst, _∙_}
-use mathlib.Core.Bool.{Bool, true, false, _&&_}
+use mathlib.Core.Bool.{Bool, true, false, cond, _&&_}
 use mathlib.Core.List.{List, flatMap}
 use borrow.Author.Tests.{leb-true, le-leb}
 use lib.Dec.{leb}
@@ -11,7 +11,7 @@ use lib.ListN.{length, drop}
 use Rattle.words.specs.Words.{words}
 use Rattle.words.proofs.Words.{length-words}
 use Rattle.semantics.specs.Lists.{findings}
-use Rattle.theorems.proofs.Sizes.{fits}
+use Rattle.theorems.proofs.Sizes as sizes
 use Rattle.finding.specs.Flat.{findingWords}
 use Rattle.sheet.specs.Statement.{Statement}
 use Rattle.sheet.specs.Read.{Sheet, accepted, refused, readSheet}
@@ -20,12 +20,14 @@ use Rattle.sheet.proofs.Accepted.{accepted-words}
 use Rattle.finding.specs.declared.Finding.{Finding}
 use Rattle.finding.specs.Records.{into}
 use Rattle.finding.proofs.Storing.{into-records}
-use Rattle.lists_fill.specs.Filled.{filled, withFindings}
+use Rattle.entries.specs.Filled.{filled, withFindings}
 use Rattle.checker.specs.Room.{enough}
 use Rattle.checker.specs.Checked as core
-use Rattle.checker.specs.Checked.{countsOf, answer, answerIn, leftIn, findingsIn}
+use Rattle.checker.specs.Checked.{each, countsOf, answer, answerIn, leftIn, findingsIn}
+use Rattle.checker.specs.declared.Counts.{Counts}
 use Rattle.checker.specs.declared.Checked.{Checked}
-use Rattle.records.specs.Checked.{Lent, roomy, filledBy, left, answerFor, leftFor}
+use Rattle.checker.specs.declared.Checked.the-variants as checked
+use Rattle.records.specs.Checked.{Lent, roomy, fits, filledBy, left, answerFor, leftFor}
 
 module _ (warns : Bool) (s : List ℕ) (l : Lent) (flat : List ℕ) (wide : length flat ≡ 12288) where
   abbrev n : ℕ
@@ -39,16 +41,20 @@ module _ (warns : Bool) (s : List ℕ) (l : Lent) (flat : List ℕ) (wide : leng
   abbrev stored : core.Lent → ℕ → Lent
   stored c k = record { scopes = c .scopes; bindings = c .bindings; carried = c .carried; recorded = c .recorded; findings = into (l .findings) (c .findings) k }
 
-  -- the test of cause 8 in `check_words`
-  abbrev tested : Bool
-  tested = core.roomy n flatly && leb n (length (l .findings))
+  -- the tests of cause 8 in `check_words` and in `check`, by what the answer needs
+  abbrev tests : Counts → Bool
+  tests need = core.fits n need flatly (length (l .findings))
+
+  abbrev wants : Counts → Bool
+  wants need = fits n need l
 
   few-words : (st : Statement) → readSheet s ≡ accepted st → n ≤ 2048
   few-words st e = omega (arith, accepted-words s st e .4 .0 .most, length-words s)
 
-  same-room : (st : Statement) → readSheet s ≡ accepted st → tested ≡ roomy n l
+  -- the flat list has room for 2,048 findings
+  same-room : (c : Counts) → c .findings ≤ 2048 → (core.roomy c flatly && leb (c .findings) (length (l .findings))) ≡ roomy c l
   unfolding core.roomy roomy enough
-  same-room st e = last (enough n (length (l .scopes)) 4) (enough n (length (l .bindings)) 6) (enough n (length (l .carried)) 3) (enough n (length (l .recorded)) 5) (leb n (length (l .findings))) (rw wide (le-leb n 2048 (few-words st e)))
+  same-room c few = last (enough (c .scopes) (length (l .scopes)) 4) (enough (c .bindings) (length (l .bindings)) 6) (enough (c .carried) (length (l .carried)) 3) (enough (c .recorded) (length (l .recorded)) 5) (leb (c .findings) (length (l .findings))) (rw wide (le-leb (c .findings) 2048 few))
     where
       last : (a b c d f : Bool) {e : Bool} → e ≡ true → ((a && (b && (c && (d && e)))) && f) ≡ (a && (b && (c && (d && f))))
       last true true true true f h = rw h
@@ -57,24 +63,40 @@ module _ (warns : Bool) (s : List ℕ) (l : Lent) (flat : List ℕ) (wide : leng
       last true false c d f h = refl
       last false b c d f h = refl
 
-  -- what holds by whether the sheet is accepted, the test in `check_words` and that in `check`
-  abbrev Ends : Sheet Statement → Bool → Bool → Type 0
+  few-findings : (st : Statement) → readSheet s ≡ accepted st → countsOf warns st .findings ≤ n
+  unfolding countsOf
+  few-findings st e = sizes.fits warns s st e .findings
+
+  same-tests : (st : Statement) → readSheet s ≡ accepted st → tests (countsOf warns st) ≡ wants (countsOf warns st)
+  unfolding core.fits fits each
+  same-tests st e =
+      let few = few-words st e in
+      rw (same-room (each n) few, same-room (countsOf warns st) (omega (arith, few, few-findings st e)))
+
+  -- what holds by whether the sheet is accepted and the two tests
+  abbrev Ends : Sheet Statement → (Counts → Bool) → (Counts → Bool) → Type 0
   Ends x t u =
       (answer warns x t ≡ answer warns x u)
       × ((findingsIn (answer warns x t) ≤ length (l .findings)) × (findingsIn (answer warns x t) * 6 ≤ 12288))
       × (stored (core.left warns x t flatly) (findingsIn (answer warns x t)) ≡ left warns x u l)
 
-  accepts : (st : Statement) → readSheet s ≡ accepted st → (t : Bool) → tested ≡ t → Ends (accepted st) t t
-  unfolding answer countsOf core.left core.filledBy withFindings filled left filledBy into
-  accepts st e false h = (refl, (zero-le, zero-le), refl)
-  accepts st e true h =
-      let few = fits warns s st e .findings in
-      let room = leb-true n (length (l .findings)) (both (core.roomy n flatly) (leb n (length (l .findings))) h .1) in
-      (refl, (omega (arith, few, room), omega (arith, few, few-words st e)), rw (into-records (l .findings) (findings warns st) (drop (length (flatMap findingWords (findings warns st))) flat) refl (omega (arith, few, room))))
+  accepts : (st : Statement) → readSheet s ≡ accepted st → (a b : Bool) → tests (countsOf warns st) ≡ a → a ≡ b →
+      (cond a (checked.Is (countsOf warns st)) (checked.Refused 8) ≡ cond b (checked.Is (countsOf warns st)) (checked.Refused 8))
+      × ((findingsIn (cond a (checked.Is (countsOf warns st)) (checked.Refused 8)) ≤ length (l .findings)) × (findingsIn (cond a (checked.Is (countsOf warns st)) (checked.Refused 8)) * 6 ≤ 12288))
+      × (stored (cond a (core.filledBy warns st flatly) flatly) (findingsIn (cond a (checked.Is (countsOf warns st)) (checked.Refused 8))) ≡ cond b (filledBy warns st l) l)
+  unfolding countsOf core.fits core.filledBy withFindings filled filledBy into
+  accepts st e false b h q = rw (← q) (refl, (zero-le, zero-le), refl)
+  accepts st e true b h q =
+      let few = few-findings st e in
+      let most = few-words st e in
+      let m = countsOf warns st .findings in
+      let both-ways = both (core.roomy (each n) flatly && leb n (length (l .findings))) (core.roomy (countsOf warns st) flatly && leb m (length (l .findings))) h in
+      let room = leb-true m (length (l .findings)) (both (core.roomy (countsOf warns st) flatly) (leb m (length (l .findings))) (both-ways .1) .1) in
+      rw (← q) (refl, (room, omega (arith, few, most)), rw (into-records (l .findings) (findings warns st) (drop (length (flatMap findingWords (findings warns st))) flat) refl room))
 
-  ends : (x : Sheet Statement) → readSheet s ≡ x → Ends x tested (roomy n l)
+  ends : (x : Sheet Statement) → readSheet s ≡ x → Ends x tests wants
   unfolding answer core.left left into
-  ends (accepted st) e = subst (λ (u : Bool). Ends (accepted st) tested u) (same-room st e) (accepts st e tested refl)
+  ends (accepted st) e = accepts st e (tests (countsOf warns st)) (wants (countsOf warns st)) refl (same-tests st e)
   ends (refused c) e = (refl, (zero-le, zero-le), refl)
 
   module _ {r : Checked} {k : ℕ} (e : r ≡ answerIn warns s flatly (length (l .findings))) (f : k ≡ findingsIn r) where
