@@ -1,5 +1,5 @@
--- What walks store in the carried list. A walk that is refused stores nothing that is asked for (`refused-takes`); a clause stores what it carries
--- (`clause-takes`). A loop of rounds: whatever list the rounds that are left make, all of them make (`Filling`, before the first round by
+-- What walks store in the carried list. Where a walk is refused, only the list's length is claimed (`refused-takes`); a clause stores what it
+-- carries (`clause-takes`). A loop of rounds: whatever list the rounds that are left make, all of them make (`Filling`, before the first round by
 -- `unfilled`, one round on by `filled`, after the last by `full`).
 use Prim.Native.Nat.{ℕ, zero, suc, _+_, _-_, _*_, _<_, _≤_}
 use native.Mathlib.Omega.{arith}
