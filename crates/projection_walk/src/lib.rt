@@ -1,10 +1,10 @@
 // The projections and the filter of a WITH are walked; what they carry is held, and that one of them is a star is kept in mind.
+use clause_parts::DEPTH;
+use clause_parts::next_word;
 use heads::Form;
 use heads::FormRead;
 use heads::Word;
 use heads::read_form;
-use clause_parts::DEPTH;
-use clause_parts::next_word;
 use steps::AT;
 use steps::HELD;
 use steps::MARKS;

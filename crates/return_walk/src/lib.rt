@@ -1,10 +1,10 @@
 // RETURN: its projections are walked from outside its scope, which is current after it. So are its sort keys, in which its aliases are no use:
 // these are held while its projections are walked, and marked in tab while its sort keys are.
-use heads::Word;
 use clause_parts::DEPTH;
 use clause_parts::Head;
 use clause_parts::next_word;
 use clause_parts::walk_counted;
+use heads::Word;
 use steps::CUR;
 use steps::MARKS;
 use steps::NAMES;
