@@ -14,16 +14,13 @@ use Rattle.words.specs.Words.{words}
 use Rattle.expr.proofs.Inverse.{never}
 use Rattle.sheet.specs.Statement.{Statement}
 use Rattle.sheet.specs.Read.{accepted, readSheet}
+use Rattle.sheet.proofs.Placing.{both}
 use Rattle.semantics.specs.Lists.{bindings, carriedList}
 use Rattle.theorems.proofs.Sizes as sizes
 use Rattle.checker.specs.Room.{enough}
 use Rattle.checker.specs.Checked.{Lent, roomy, each, countsOf, fits}
 use Rattle.checker.specs.Filling.{fitting}
 use Rattle.checker.specs.declared.Counts.{Counts}
-
-both : (a b : Bool) → (a && b) ≡ true → (a ≡ true) × (b ≡ true)
-both true b h = (refl, h)
-both false b h = never (cc)
 
 -- room for n entries by the words that they take, and room for fewer
 entries-fit : (n len w : ℕ) → enough n len w ≡ true → n * w ≤ len

@@ -37,8 +37,8 @@ roomy n l =
 unfoldable pub each : ℕ → Counts
 each n = record { scopes = n; bindings = n; carried = n; recorded = n; findings = n }
 
--- cause 8 is not: every list has as many entries as the sheet has words, and as many as the answer needs; and so has one of `room` entries,
--- where the findings go on to
+-- where 8 is not given: every list has as many entries as the sheet has words, and as many as the answer needs; and so has the list of `room`
+-- entries into which the findings go on
 unfoldable pub fits : ℕ → Counts → Lent → ℕ → Bool
 fits n need l room = (roomy (each n) l && leb n room) && (roomy need l && leb (need .findings) room)
 

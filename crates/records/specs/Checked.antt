@@ -32,7 +32,7 @@ roomy n l =
     && (enough (n .bindings) (length (l .bindings)) 6
     && (enough (n .carried) (length (l .carried)) 3 && (enough (n .recorded) (length (l .recorded)) 5 && leb (n .findings) (length (l .findings)))))
 
--- cause 8 is not: every list has as many entries as the sheet has words, and as many as the answer needs
+-- where 8 is not given: every list has as many entries as the sheet has words, and as many as the answer needs
 unfoldable pub fits : ℕ → Counts → Lent → Bool
 fits n need l = roomy (each n) l && roomy need l
 

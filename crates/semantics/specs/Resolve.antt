@@ -45,7 +45,7 @@ unfoldable pub ifSome : Option ℕ → ℕ → List Pair
 ifSome none x = []
 ifSome (some v) x = pair x v ∷ []
 
--- each visible name once, with its newest variable, newest first
+-- pairs without those of a name; and each visible name once, with its newest variable, newest first
 unfoldable pub without : ℕ → List Pair → List Pair
 without x [] = []
 without x (pair y v ∷ ps) = cond (eqb x y) (without x ps) (pair y v ∷ without x ps)

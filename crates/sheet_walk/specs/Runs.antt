@@ -33,7 +33,7 @@ wantsBy choice = eqb (choice / 2 % 2) 1
 abbrev pub idOf : Statement → ℕ → ℕ
 idOf st x = useId (bytesOf st x)
 
--- the use ids of names, as `lists_fill` asks for kinds, don't matter for these
+-- the kinds of variables don't hang on the use ids of names, so any will do
 abbrev pub noUses : ℕ → ℕ
 noUses x = x
 
