@@ -1,6 +1,8 @@
 // Bytes and words: little-endian words read in place, FNV-1 and the use id, strict UTF-8, decimal digits.
 //
 // No function here has a `requires`.
+#![tactic(auto)]
+
 mod decimal;
 mod fnv;
 mod utf8;
