@@ -1,5 +1,7 @@
 // The heads of expressions and of a pattern's parts and elements, read in place: what a word must be, and which words belong to a
 // head. A section is a slice of bytes that ends where the section does; a position is a word's number.
+#![tactic(auto)]
+
 ghost use Rattle.std.specs.Prelude.{◌≡◌, Bool, ℕ, ◌+◌, ◌<◌, ◌≤◌, length, drop};
 ghost use Rattle.words.specs.Words.{words};
 ghost use Rattle.heads.specs.Got.{ok, bind, word_in};

@@ -1,0 +1,15 @@
+-- Each arm is the definition's entry for its number.
+use borrow.Author.Tests.{ne_eqb}
+use Rattle.heads.proofs.set_kids.Goals as goal
+
+pub returns-in-1 : goal.returns-in-1
+returns-in-1 c =
+    rw c.in-1.is
+
+pub returns-in-2 : goal.returns-in-2
+returns-in-2 c =
+    rw c.in-2.is
+
+pub returns-in_default : goal.returns-in_default
+returns-in_default c =
+    simp (ne_eqb _ 1 c.in_default.in_default-own.rest.0.1, ne_eqb _ 2 c.in_default.in_default-own.rest.1)
