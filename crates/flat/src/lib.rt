@@ -1,5 +1,7 @@
 // Rows of expressions without a call for each: most heads are plain, at most one word and then their parts, so that these can be counted
 // with the row that the head stands in. A position is a word's number.
+#![tactic(auto)]
+
 ghost use Rattle.std.specs.Prelude.{◌≡◌, ℕ, ◌<◌, ◌≤◌, length, drop};
 ghost use Rattle.words.specs.Words.{words};
 ghost use Rattle.heads.specs.Got.{bare};
