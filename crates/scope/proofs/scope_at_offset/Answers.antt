@@ -23,7 +23,7 @@ loop-i-preserved c =
     let l = c.loop-i in
     let keep = keeps a.n a.scopes.now a.o l.i (omega arith) l.best l.width l.invariant (omega (arith, c.type_inv.scopes (l.i * 4 + 3))) in
     elim c.if-start-end.branch [
-        then-start-end+then-start-o+then-o-end+then-end-start w ↦ rw (w.best-is, w.width-is) (takes _ _ _ l.i (omega arith) _ _ l.invariant (omega arith) (omega arith) (omega arith) (omega arith))
+      | then-start-end+then-start-o+then-o-end+then-end-start w ↦ rw (w.best-is, w.width-is) (takes _ _ _ l.i (omega arith) _ _ l.invariant (omega arith) (omega arith) (omega arith) (omega arith))
       | then-start-end+then-start-o+then-o-end+else-end-start w ↦ rw (w.best-is, w.width-is) (keep (λ d e f g. omega arith))
       | then-start-end+then-start-o+else-o-end w ↦ rw (w.best-is, w.width-is) (keep (λ d e f g. omega arith))
       | then-start-end+else-start-o w ↦ rw (w.best-is, w.width-is) (keep (λ d e f g. omega arith))
