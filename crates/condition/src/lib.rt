@@ -1,4 +1,6 @@
 // Conditions: the levels of their operators, and what may stand before what in their text.
+#![tactic(auto)]
+
 ghost use Rattle.std.specs.Prelude.{◌≡◌, ◌<◌};
 ghost use Rattle.condition.specs.Cond.{binary_level, unary_level, left_level};
 ghost use Rattle.condition.specs.Judge.{is_wanted, is_there, unary_mode, may_join};
