@@ -6,7 +6,7 @@ ghost use Rattle.condition.specs.Cond.{binary_level, unary_level, left_level};
 ghost use Rattle.condition.specs.Judge.{is_wanted, is_there, unary_mode, may_join};
 
 // What stands to the right of a position: an operand is wanted; there is one; there is one that begins with NOT; or nothing can stand here.
-#[derive(Drop)]
+#[derive(Clone, Copy)]
 pub enum Mode {
     Wanted,
     There,
