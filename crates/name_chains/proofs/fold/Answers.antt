@@ -5,18 +5,22 @@ use lib.Dec.{lit<}
 use lib.Pow.{shr_lt}
 use borrow.Author.Rules.{rules}
 use Rattle.name_chains.specs.Slot.{folded}
-use Rattle.name_chains.proofs.fold.Statement.{statement}
-use Rattle.name_chains.proofs.fold.Tie as tie
+use Rattle.name_chains.proofs.fold.Goals as goal
 
 product : {a b : ℕ} → a < 2 ^ 32 → b < 2 ^ 32 → a * b < 2 ^ 64
 product h k = lt_of_le_of_lt (mul-le-mul (le-pred_of_lt h) (le-pred_of_lt k)) (lit< tt)
 
-pub fold-spec : {M : Type 1} → statement M
+pub overflow_mul-t : goal.overflow_mul-t
 unfolding folded
-fold-spec =
-    tie.close
-    (tie.spec
-    (λ c. record { fits = product c.ranges.a.fits c.ranges.b.fits })  -- mul-t
-    (λ c. record { fits = shr_lt 32 32 (product c.ranges.a.fits c.ranges.b.fits) })  -- cast-result
-    (λ c. search rules)  -- cast-result-2
-    (λ c. search rules))  -- returns
+overflow_mul-t c =
+    record { fits = product c.ranges.a.fits c.ranges.b.fits }
+
+pub overflow_cast-result : goal.overflow_cast-result
+unfolding folded
+overflow_cast-result c =
+    record { fits = shr_lt 32 32 (product c.ranges.a.fits c.ranges.b.fits) }
+
+pub returns : goal.returns
+unfolding folded
+returns c =
+    search rules
