@@ -1,4 +1,4 @@
--- What `out_of` writes at i is what `get` reads there, and the flat list keeps its length.
+-- What `out_of` writes at i are the words of what `get` reads there.
 use Rattle.std.proofs.Common.{◌∙◌, refl, add-one, arith}
 use Rattle.finding.specs.Records.{out_of}
 use Rattle.finding.proofs.load_all.Goals as goal

@@ -1,4 +1,4 @@
--- What `into` stores at i is what `record_at` reads there, and the list keeps its length.
+-- What `into` stores at i is what `record_at` reads there.
 use Rattle.std.proofs.Common.{◌∙◌, refl, add-one, arith}
 use Rattle.finding.specs.Records.{into}
 use Rattle.finding.proofs.store_all.Goals as goal
