@@ -4,13 +4,11 @@ use mathlib.Core.Path.{◌≡◌, refl}
 use mathlib.Core.Bool.{false, and-true, and-false}
 use mathlib.Core.List.{List, [], ◌∷◌}
 use native.Mathlib.Omega.{arith}
-use borrow.Author.Rules.{rules}
 use lib.Dec.{eqb}
 use lib.ListN.{length, get_or}
 use Rattle.tables.specs.Distinct.{same_bytes}
 use Rattle.texts.specs.Bytes.{bytes}
-use Rattle.message.proofs.is_starred.Statement.{statement}
-use Rattle.message.proofs.is_starred.Tie as tie
+use Rattle.message.proofs.is_starred.Goals as goal
 
 one_byte : (x : List ℕ) → length x ≡ 1 → same_bytes x (bytes "*") ≡ eqb (get_or x 0 0) 42
 unfolding same_bytes
@@ -24,10 +22,10 @@ not-one [] h = refl
 not-one (a ∷ []) h = absurd (h refl)
 not-one (a ∷ (b ∷ l)) h = and-false (eqb a 42)
 
-pub is-starred-spec : {M : Type 1} → statement M
-is-starred-spec =
-    tie.close
-    (tie.spec
-    (λ c. search rules)  -- shared-slice-read-result
-    (λ c. rw (one_byte c.before.before.args.x.now c.before.if1.true))  -- returns
-    (λ c. rw (not-one c.before.args.x.now c.if1.false, and-false)))  -- returns-2
+pub returns-then-x-eq1 : goal.returns-then-x-eq1
+returns-then-x-eq1 c =
+    rw (one_byte c.args.x.now c.if-x-eq1.true)
+
+pub returns : goal.returns
+returns c =
+    rw (not-one c.args.x.now c.if-x-eq1.false, and-false)
