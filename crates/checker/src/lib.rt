@@ -16,7 +16,7 @@ use sheet_walk::{Ran, run};
 use words::{count, word};
 
 // How many entries the lists have.
-#[derive(Drop)]
+#[derive(Clone, Copy)]
 pub struct Counts {
     pub scopes: usize,
     pub bindings: usize,
@@ -26,7 +26,7 @@ pub struct Counts {
 }
 
 // The lists' counts, or the refusal's number.
-#[derive(Drop)]
+#[derive(Clone, Copy)]
 pub enum Checked {
     Is(Counts),
     Refused(u32),
@@ -62,7 +62,7 @@ fn have_room(
 }
 
 // How much a run left: events, findings of the kind walk, bindings, carried names.
-#[derive(Drop)]
+#[derive(Clone, Copy)]
 struct Tally {
     said: usize,
     told: usize,

@@ -15,7 +15,7 @@ use walk::walk_many;
 pub const DEPTH: u32 = 48;
 
 // What a clause begins with.
-#[derive(Drop)]
+#[derive(Clone, Copy)]
 pub struct Head {
     pub kind: u32,
     pub start: u32,

@@ -1,5 +1,7 @@
 // Expressions and patterns of a section, read in place. The two call each other, an expression for the pattern within it and a pattern
 // for its properties, and the words that are left fall.
+#![tactic(auto)]
+
 ghost use Rattle.std.specs.Prelude.{Bool, ℕ, ◌≤◌, length, drop};
 ghost use Rattle.words.specs.Words.{words};
 ghost use Rattle.heads.specs.Got.{bare};
@@ -12,7 +14,7 @@ use heads::{
 };
 
 // An expression, with room for this many levels.
-#[cycle(read_elem_read_elems_read_expr_read_kids_read_marks_read_part_read_parts_read_pattern)]
+#[cycle(readers)]
 pub fn read_expr(s: &[u8], names: u32, rows: usize, k: usize, at: usize, room: u32) -> Read
     requires { at ≤ length (words s.now) }
     ensures { Reads (words s.now) at (bare ((reader (words s.now) names rows k room) (drop at (words s.now)))) result }
@@ -36,7 +38,7 @@ pub fn read_expr(s: &[u8], names: u32, rows: usize, k: usize, at: usize, room: u
 }
 
 // n expressions in a row.
-#[cycle(read_elem_read_elems_read_expr_read_kids_read_marks_read_part_read_parts_read_pattern)]
+#[cycle(readers)]
 pub fn read_kids(
     s: &[u8],
     names: u32,
@@ -63,7 +65,7 @@ pub fn read_kids(
 }
 
 // n marks of a kind, each with its expressions.
-#[cycle(read_elem_read_elems_read_expr_read_kids_read_marks_read_part_read_parts_read_pattern)]
+#[cycle(readers)]
 pub fn read_marks(
     s: &[u8],
     names: u32,
@@ -94,7 +96,7 @@ pub fn read_marks(
 }
 
 // A pattern, where there is one.
-#[cycle(read_elem_read_elems_read_expr_read_kids_read_marks_read_part_read_parts_read_pattern)]
+#[cycle(readers)]
 pub fn read_pattern(
     s: &[u8],
     names: u32,
@@ -118,7 +120,7 @@ pub fn read_pattern(
 }
 
 // n parts of a pattern.
-#[cycle(read_elem_read_elems_read_expr_read_kids_read_marks_read_part_read_parts_read_pattern)]
+#[cycle(readers)]
 pub fn read_parts(s: &[u8], names: u32, rows: usize, k: usize, at: usize, room: u32, n: u32) -> Read
     requires { at ≤ length (words s.now) }
     ensures { Reads (words s.now) at (bare (parts n (tables (words s.now) names rows k) (reader (words s.now) names rows k room) (drop at (words s.now)))) result }
@@ -137,7 +139,7 @@ pub fn read_parts(s: &[u8], names: u32, rows: usize, k: usize, at: usize, room: 
 }
 
 // A part of a pattern, with its elements.
-#[cycle(read_elem_read_elems_read_expr_read_kids_read_marks_read_part_read_parts_read_pattern)]
+#[cycle(readers)]
 pub fn read_part(s: &[u8], names: u32, rows: usize, k: usize, at: usize, room: u32) -> Read
     requires { at ≤ length (words s.now) }
     ensures { Reads (words s.now) at (bare (part_one (tables (words s.now) names rows k) (reader (words s.now) names rows k room) (drop at (words s.now)))) result }
@@ -154,7 +156,7 @@ pub fn read_part(s: &[u8], names: u32, rows: usize, k: usize, at: usize, room: u
 }
 
 // n elements of a part.
-#[cycle(read_elem_read_elems_read_expr_read_kids_read_marks_read_part_read_parts_read_pattern)]
+#[cycle(readers)]
 pub fn read_elems(s: &[u8], names: u32, rows: usize, k: usize, at: usize, room: u32, n: u32) -> Read
     requires { at ≤ length (words s.now) }
     ensures { Reads (words s.now) at (bare (elems n (tables (words s.now) names rows k) (reader (words s.now) names rows k room) no_steps (drop at (words s.now)))) result }
@@ -173,7 +175,7 @@ pub fn read_elems(s: &[u8], names: u32, rows: usize, k: usize, at: usize, room: 
 }
 
 // An element of a part, with its property.
-#[cycle(read_elem_read_elems_read_expr_read_kids_read_marks_read_part_read_parts_read_pattern)]
+#[cycle(readers)]
 pub fn read_elem(s: &[u8], names: u32, rows: usize, k: usize, at: usize, room: u32) -> Read
     requires { at ≤ length (words s.now) }
     ensures { Reads (words s.now) at (bare (elem_one (tables (words s.now) names rows k) (reader (words s.now) names rows k room) (drop at (words s.now)))) result }

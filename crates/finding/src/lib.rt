@@ -4,7 +4,7 @@ ghost use Rattle.std.proofs.lemmas.List.Edits.{sets};
 ghost use Rattle.finding.specs.Records.{nth, record_at, words_of, into, out_of};
 
 // Code, span, name + 1 or 0, two details.
-#[derive(Drop)]
+#[derive(Clone, Copy)]
 pub struct Finding {
     pub code: u32,
     pub start: u32,

@@ -100,7 +100,7 @@ calmed =
     ▹ (λ p h. never (cc))  -- 16 UnaryOp
     ▹ (λ p h. never (cc))  -- 17 Case
     ▹ (λ p h. bare refl refl (λ a. Calm.is-null))  -- 18 IsNull
-    ▹ (λ p h. bare refl refl (λ a. Calm.in_List))  -- 19 Two
+    ▹ (λ p h. bare refl refl (λ a. Calm.in_list))  -- 19 Two
     ▹ (λ p h. never (cc))  -- 20 PatternPredicate
     ▹ (λ p h. never (cc))  -- 21 ListComprehension
     ▹ (λ p h. never (cc))  -- 22 PatternComprehension

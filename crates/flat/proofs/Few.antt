@@ -1,11 +1,11 @@
 -- A row that is accepted has no more expressions than words.
-use Prim.Native.Nat.{ℕ, suc, ◌+◌, ◌≤◌}
+use Prim.Native.Nat.{ℕ, ◌≤◌}
 use native.Mathlib.Omega.{arith}
 use mathlib.Core.Path.{◌≡◌, ap}
 use mathlib.Core.Bool.{true}
 use mathlib.Core.List.{List}
 use lib.ListN.{length, length-append}
-use Rattle.heads.specs.Got.{ok, is_ok}
+use Rattle.heads.specs.Got.{is_ok}
 use Rattle.heads.specs.Form.{form_words}
 use Rattle.heads.specs.Head.{Tables}
 use Rattle.heads.specs.declared.Form.{Form}

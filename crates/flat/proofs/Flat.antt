@@ -55,7 +55,7 @@ calm-simple Calm.variable = Simple.variable
 calm-simple Calm.name = Simple.name
 calm-simple Calm.many = Simple.parts Parts.many
 calm-simple Calm.is-null = Simple.parts Parts.is-null
-calm-simple Calm.in_List = Simple.parts Parts.two
+calm-simple Calm.in_list = Simple.parts Parts.two
 
 -- a row in two, the one after the other
 module _ (P : Reader) (m : ℕ) where

@@ -1,11 +1,11 @@
 -- What a head that reads at a place is, by the code that stands there and the word after it.
 use Prim.Native.Nat.{ℕ, ◌+◌, ◌<◌}
 use native.Mathlib.Omega.{arith}
-use mathlib.Core.Path.{◌≡◌, refl, sym, ap}
-use mathlib.Core.Bool.{Bool, true}
+use mathlib.Core.Path.{◌≡◌, ap}
+use mathlib.Core.Bool.{true}
 use mathlib.Core.List.{List}
 use lib.ListN.{length, get_or, drop}
-use Rattle.heads.specs.Got.{Got, ok, is_ok, bind, word_in, any_word}
+use Rattle.heads.specs.Got.{ok, is_ok, bind, word_in, any_word}
 use Rattle.heads.specs.Form.{read_form, rest_of, shape_of, limit_of, form_none, form_one}
 use Rattle.heads.specs.declared.Form.{Form}
 use Rattle.heads.specs.declared.Form.TheVariants.{Var, Unresolved}

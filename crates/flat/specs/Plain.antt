@@ -1,7 +1,7 @@
 -- Plain heads: at most one word follows the code, and then so many expressions in a row and nothing else. What the code sees of a head
 -- without taking it apart.
 use Rattle.std.specs.Prelude.{ℕ, ◌+◌, ◌*◌, ◌/◌, ◌%◌, ◌^◌, ◌<◌, ◌≤◌, ◌≡◌, Bool, false, cond, ◌&&◌, ◌||◌, List, eqb, leb, ltb, length, get_or, drop}
-use Rattle.heads.specs.Got.{Got, ok, no}
+use Rattle.heads.specs.Got.{ok, no}
 use Rattle.heads.specs.Form.{read_form, kids_of, items_of, has_pattern}
 use Rattle.heads.specs.declared.Form.{Form}
 use Rattle.heads.specs.declared.Form.TheVariants.{Leaf, Var, Unresolved, Prop, Two, Many, BinOp, UnaryOp, IsNull, ListComprehension, ListPredicate}

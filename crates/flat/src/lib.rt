@@ -1,5 +1,7 @@
 // Rows of expressions without a call for each: most heads are plain, at most one word and then their parts, so that these can be counted
 // with the row that the head stands in. A position is a word's number.
+#![tactic(auto)]
+
 ghost use Rattle.std.specs.Prelude.{◌≡◌, ℕ, ◌<◌, ◌≤◌, length, drop};
 ghost use Rattle.words.specs.Words.{words};
 ghost use Rattle.heads.specs.Got.{bare};
@@ -12,7 +14,7 @@ use heads::{FormRead, Read, has_pattern, items_of, kids_of, read_form};
 use words::{count, word};
 
 // A plain head: a use of a variable or of a name, of two words, or parts, with where they begin and how many there are. Any other is rare.
-#[derive(Drop)]
+#[derive(Clone, Copy)]
 pub enum Plain {
     Var(u32),
     Name(u32),
@@ -21,7 +23,7 @@ pub enum Plain {
 }
 
 // A plain head whose parts stand in the general setting of the kinds walk.
-#[derive(Drop)]
+#[derive(Clone, Copy)]
 pub enum Quiet {
     Parts(usize, usize),
     No,
@@ -29,7 +31,7 @@ pub enum Quiet {
 
 // A head that reads, after which expressions follow and nothing else, with where these begin and how many there are; none that reads;
 // or another head.
-#[derive(Drop)]
+#[derive(Clone, Copy)]
 pub enum PlainRead {
     Is(usize, usize),
     Rare,

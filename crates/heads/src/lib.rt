@@ -12,14 +12,14 @@ ghost use Rattle.heads.specs.Answer.{Ans, is_in, row_ids, known_at, tables, word
 use words::{count, word};
 
 // A word that was read, or none that is there and in range.
-#[derive(Drop)]
+#[derive(Clone, Copy)]
 pub enum Word {
     Is(u32),
     No,
 }
 
 // The head of an expression.
-#[derive(Drop)]
+#[derive(Clone, Copy)]
 pub enum Form {
     Leaf(u32),
     Var(u32),
@@ -39,40 +39,40 @@ pub enum Form {
     MapProjection(u32),
 }
 
-#[derive(Drop)]
+#[derive(Clone, Copy)]
 pub enum FormRead {
     Is(Form, usize),
     No,
 }
 
 // A variable, if there is one.
-#[derive(Drop)]
+#[derive(Clone, Copy)]
 pub enum Maybe {
     Var(u32),
     Nothing,
 }
 
-#[derive(Drop)]
+#[derive(Clone, Copy)]
 pub enum MaybeRead {
     Is(Maybe, usize),
     No,
 }
 
 // A part of a pattern: its path variable, and how many elements it has.
-#[derive(Drop)]
+#[derive(Clone, Copy)]
 pub struct Part {
     pub path: Maybe,
     pub count: u32,
 }
 
-#[derive(Drop)]
+#[derive(Clone, Copy)]
 pub enum PartRead {
     Is(Part, usize),
     No,
 }
 
 // An element of a pattern: 1 Node or 2 Rel, its span, its variable, and 1 where a property expression follows.
-#[derive(Drop)]
+#[derive(Clone, Copy)]
 pub struct Elem {
     pub kind: u32,
     pub start: u32,
@@ -81,13 +81,13 @@ pub struct Elem {
     pub property: u32,
 }
 
-#[derive(Drop)]
+#[derive(Clone, Copy)]
 pub enum ElemRead {
     Is(Elem, usize),
     No,
 }
 
-#[derive(Drop)]
+#[derive(Clone, Copy)]
 pub enum Read {
     Next(usize),
     Refused(u32),

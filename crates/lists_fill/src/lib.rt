@@ -20,7 +20,7 @@ use steps::kind_of;
 const NO_NAME: u32 = 4276314682;
 
 // An event: its sort, or a finding's code, and five words.
-#[derive(Drop)]
+#[derive(Clone, Copy)]
 struct Logged {
     sort: u32,
     a: u32,
@@ -136,7 +136,7 @@ fn root_of(e: Logged) -> u32
 }
 
 // How far the bindings are: how many are made, and how many entries of the carried list are met.
-#[derive(Drop)]
+#[derive(Clone, Copy)]
 struct Reached {
     made: usize,
     met: usize,

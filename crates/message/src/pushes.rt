@@ -5,7 +5,7 @@ ghost use Rattle.message.specs.Pushes.{push_of, gives};
 use texts::Text;
 
 // What comes with a text: a name or none; detail two from low to high, but one.
-#[derive(Drop)]
+#[derive(Clone, Copy)]
 pub struct Push {
     pub named: bool,
     pub low: u32,

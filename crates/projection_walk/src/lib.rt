@@ -19,7 +19,7 @@ use visible::{Found, find};
 use walk::{walk_expr, walk_row};
 
 // The two forms of an expression that a WITH may carry.
-#[derive(Drop)]
+#[derive(Clone, Copy)]
 pub enum Direct {
     Var(u32),
     Name(u32),

@@ -9,7 +9,7 @@ use heads::Read;
 use tables::{distinct_names, name_at, scan_names};
 
 // A name's text: the byte where its length stands and the end of the names section, or the refusal's number.
-#[derive(Drop)]
+#[derive(Clone, Copy)]
 pub enum Found {
     At(u32, usize),
     Refused(u32),

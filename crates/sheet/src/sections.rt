@@ -15,7 +15,7 @@ use tables::{distinct_ids, read_rows};
 use words::count;
 
 // Accepted so far, or the refusal's number.
-#[derive(Drop)]
+#[derive(Clone, Copy)]
 pub enum Verdict {
     Accepted,
     Refused(u32),

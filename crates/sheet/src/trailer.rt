@@ -9,7 +9,7 @@ use words::{count, word};
 
 // Where the sections of a sheet stand: how many names, bindings, clauses and arms there are; the first word of the bindings, the head,
 // the arms and the trailer; the statement's span.
-#[derive(Drop)]
+#[derive(Clone, Copy)]
 pub struct Places {
     pub names: u32,
     pub bindings: u32,
@@ -24,7 +24,7 @@ pub struct Places {
 }
 
 // Where the sections stand, or the refusal's number.
-#[derive(Drop)]
+#[derive(Clone, Copy)]
 pub enum Opened {
     At(Places),
     Refused(u32),

@@ -14,7 +14,7 @@ use walking::walk_both;
 
 // How many events and findings of the name walk, how many findings of the kind walk, how many bindings were made and how many names carried;
 // or the refusal's number.
-#[derive(Drop)]
+#[derive(Clone, Copy)]
 pub enum Ran {
     Is(u32, u32, u32, u32),
     Refused(u32),

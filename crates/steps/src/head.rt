@@ -113,7 +113,7 @@ pub fn use_name(s: &[u8], tab: &[u32], m: &mut [u32], vis: &[u32], found: &mut [
 }
 
 // What a head does before its parts: it shows a type, 0 for none; it uses a variable, or a name; it opens the scope of a comprehension.
-#[derive(Drop)]
+#[derive(Clone, Copy)]
 pub enum Act {
     Shows(u32),
     Uses(u32),

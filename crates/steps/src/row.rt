@@ -10,7 +10,7 @@ use rows::find_row;
 use words::word;
 
 // A variable's row: its name and its kind.
-#[derive(Drop)]
+#[derive(Clone, Copy)]
 pub enum Row {
     Is(u32, u32),
     No,

@@ -1,4 +1,6 @@
 // The two tables of a sheet: its names, read from bytes, and its bindings, read from words.
+#![tactic(auto)]
+
 mod names;
 mod rows;
 

@@ -5,7 +5,7 @@ ghost use Rattle.texts.specs.Codes.{of2007, of2008, of5010, unused, text_for};
 use crate::Text;
 
 // A text, or no push has that code and detail.
-#[derive(Drop)]
+#[derive(Clone, Copy)]
 pub enum Said {
     Is(Text),
     No,

@@ -24,7 +24,7 @@ pub use runs::lay;
 use runs::lay_name;
 
 // What a finding says: one for each text of resolve.rs and kinds.rs.
-#[derive(Drop)]
+#[derive(Clone, Copy)]
 pub enum Text {
     Unresolved,
     Shadows,
@@ -41,7 +41,7 @@ pub enum Text {
 }
 
 // The length of a text that was written, or the refusal's number.
-#[derive(Drop)]
+#[derive(Clone, Copy)]
 pub enum Written {
     Bytes(usize),
     Refused(u32),

@@ -6,7 +6,7 @@ ghost use Rattle.semantics.specs.Resolve.{lookup};
 ghost use Rattle.visible.specs.Visible.{seens, scope_of, name_at, answer, Tabled, Bound, Cut, Turned, Restacked};
 
 // The newest binding of a name: its variable and its scope.
-#[derive(Drop)]
+#[derive(Clone, Copy)]
 pub enum Found {
     Is(u32, u32),
     No,

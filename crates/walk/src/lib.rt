@@ -20,7 +20,7 @@ use words::word;
 // Each answers 0, or the refusal's number.
 
 // An expression, with room for this many levels, in the first setting of the mode.
-#[cycle(walk_elem_walk_elems_walk_expr_walk_inner_walk_many_walk_mark_walk_marks_walk_part_walk_parts_walk_pattern_walk_rest_walk_row)]
+#[cycle(walks)]
 pub fn walk_expr(
     s: &[u8],
     tab: &[u32],
@@ -53,7 +53,7 @@ pub fn walk_expr(
 }
 
 // What follows a head: its pattern, its expressions, its items.
-#[cycle(walk_elem_walk_elems_walk_expr_walk_inner_walk_many_walk_mark_walk_marks_walk_part_walk_parts_walk_pattern_walk_rest_walk_row)]
+#[cycle(walks)]
 fn walk_rest(
     s: &[u8],
     tab: &[u32],
@@ -89,7 +89,7 @@ fn walk_rest(
 }
 
 // The pattern of a head, where it has one: a PatternPredicate's is not resolved.
-#[cycle(walk_elem_walk_elems_walk_expr_walk_inner_walk_many_walk_mark_walk_marks_walk_part_walk_parts_walk_pattern_walk_rest_walk_row)]
+#[cycle(walks)]
 fn walk_inner(
     s: &[u8],
     tab: &[u32],
@@ -133,7 +133,7 @@ fn walk_inner(
 
 // n expressions, at most MOST, the first in the mode's first setting and the others in its later one. What is left at a level, and the setting
 // there, wait in m while the parts of a plain head are walked.
-#[cycle(walk_elem_walk_elems_walk_expr_walk_inner_walk_many_walk_mark_walk_marks_walk_part_walk_parts_walk_pattern_walk_rest_walk_row)]
+#[cycle(walks)]
 pub fn walk_row(
     s: &[u8],
     tab: &[u32],
@@ -201,7 +201,7 @@ pub fn walk_row(
 }
 
 // n expressions, any number.
-#[cycle(walk_elem_walk_elems_walk_expr_walk_inner_walk_many_walk_mark_walk_marks_walk_part_walk_parts_walk_pattern_walk_rest_walk_row)]
+#[cycle(walks)]
 pub fn walk_many(
     s: &[u8],
     tab: &[u32],
@@ -234,7 +234,7 @@ pub fn walk_many(
 }
 
 // n marks of a kind, each with its expressions.
-#[cycle(walk_elem_walk_elems_walk_expr_walk_inner_walk_many_walk_mark_walk_marks_walk_part_walk_parts_walk_pattern_walk_rest_walk_row)]
+#[cycle(walks)]
 pub fn walk_marks(
     s: &[u8],
     tab: &[u32],
@@ -260,7 +260,7 @@ pub fn walk_marks(
     0
 }
 
-#[cycle(walk_elem_walk_elems_walk_expr_walk_inner_walk_many_walk_mark_walk_marks_walk_part_walk_parts_walk_pattern_walk_rest_walk_row)]
+#[cycle(walks)]
 fn walk_mark(
     s: &[u8],
     tab: &[u32],
@@ -292,7 +292,7 @@ fn walk_mark(
 }
 
 // A pattern: the number of its parts, and the parts.
-#[cycle(walk_elem_walk_elems_walk_expr_walk_inner_walk_many_walk_mark_walk_marks_walk_part_walk_parts_walk_pattern_walk_rest_walk_row)]
+#[cycle(walks)]
 pub fn walk_pattern(
     s: &[u8],
     tab: &[u32],
@@ -313,7 +313,7 @@ pub fn walk_pattern(
     walk_parts(s, tab, m, vis, found, room, n, mode)
 }
 
-#[cycle(walk_elem_walk_elems_walk_expr_walk_inner_walk_many_walk_mark_walk_marks_walk_part_walk_parts_walk_pattern_walk_rest_walk_row)]
+#[cycle(walks)]
 fn walk_parts(
     s: &[u8],
     tab: &[u32],
@@ -339,7 +339,7 @@ fn walk_parts(
 }
 
 // A part, with its elements.
-#[cycle(walk_elem_walk_elems_walk_expr_walk_inner_walk_many_walk_mark_walk_marks_walk_part_walk_parts_walk_pattern_walk_rest_walk_row)]
+#[cycle(walks)]
 fn walk_part(
     s: &[u8],
     tab: &[u32],
@@ -381,7 +381,7 @@ fn bind_part(
     }
 }
 
-#[cycle(walk_elem_walk_elems_walk_expr_walk_inner_walk_many_walk_mark_walk_marks_walk_part_walk_parts_walk_pattern_walk_rest_walk_row)]
+#[cycle(walks)]
 fn walk_elems(
     s: &[u8],
     tab: &[u32],
@@ -407,7 +407,7 @@ fn walk_elems(
 }
 
 // An element, with its property.
-#[cycle(walk_elem_walk_elems_walk_expr_walk_inner_walk_many_walk_mark_walk_marks_walk_part_walk_parts_walk_pattern_walk_rest_walk_row)]
+#[cycle(walks)]
 fn walk_elem(
     s: &[u8],
     tab: &[u32],
