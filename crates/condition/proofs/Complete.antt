@@ -1,18 +1,18 @@
 -- The judge takes every written text: the tokens of an operand lead from the mode that wants one to the mode that has it.
-use Prim.Native.Nat.{ℕ, zero, suc, ◌+◌, ◌<◌, ◌≤◌}
+use Prim.Native.Nat.{ℕ, zero, suc, ◌<◌, ◌≤◌}
 use native.Mathlib.Omega.{arith}
-use mathlib.Core.Path.{◌≡◌, refl, sym, ap, ◌∙◌}
+use mathlib.Core.Path.{◌≡◌, refl, ◌∙◌}
 use mathlib.Core.Bool.{Bool, true, false, not, ◌&&◌}
 use mathlib.Core.List.{List, [], ◌∷◌}
-use lib.Dec.{eqb, ltb, leb}
-use borrow.Author.Tests.{lt-ltb, le-ltb, ltb-true, ltb-false, eqb-true, eqb-false, ne_eqb}
-use Rattle.condition.specs.Cond.{Cond, atom, unary, binary, binary_level, unary_level, left_level}
+use lib.Dec.{eqb, ltb}
+use borrow.Author.Tests.{lt-ltb, le-ltb, ltb-false, eqb-true, eqb-false, ne_eqb}
+use Rattle.condition.specs.Cond.{Cond, binary_level, unary_level, left_level}
 use Rattle.condition.specs.Written.{Written, an-atom, a-unary, a-binary, in-brackets}
-use Rattle.condition.specs.Tokens.{Tok, open', close', bad, number, un, bin, pick}
-use Rattle.condition.specs.Judge.{is_wanted, is_there, unary_mode, may_join, flag_after, judge}
+use Rattle.condition.specs.Tokens.{Tok, open', un, bin, pick}
+use Rattle.condition.specs.Judge.{is_there, unary_mode, may_join, flag_after, judge}
 use Rattle.condition.specs.declared.Mode.{Mode}
 use Rattle.condition.specs.declared.Mode.TheVariants as mode
-use Rattle.condition.proofs.Levels.{binary-high, left-high, unary-high, left-low, left-level, apart}
+use Rattle.condition.proofs.Levels.{left-low, left-level, apart}
 use Rattle.condition.proofs.Entries.{toks}
 
 -- the mode that a text leads to: whether it begins with NOT

@@ -2,15 +2,13 @@
 -- operators on the stack, and unwinding these gives the operand's entries before what was there.
 use Prim.Native.Nat.{ℕ, suc, ◌+◌, ◌*◌, ◌<◌, ◌≤◌}
 use native.Mathlib.Omega.{arith}
-use mathlib.Core.Path.{◌≡◌, refl, sym, ap, ◌∙◌}
-use mathlib.Core.Bool.{Bool, true, false}
-use mathlib.Core.List.{List, [], ◌∷◌, ◌++◌, append_assoc, append-nil}
-use lib.Dec.{ltb}
+use mathlib.Core.Path.{◌≡◌, refl, ap, ◌∙◌}
+use mathlib.Core.List.{List, [], ◌∷◌, ◌++◌, append_assoc}
 use borrow.Author.Tests.{lt-ltb, le-ltb}
-use Rattle.condition.specs.Cond.{Cond, atom, unary, binary, binary_level, unary_level, left_level, entries}
+use Rattle.condition.specs.Cond.{Cond, unary, binary, binary_level, unary_level, left_level, entries}
 use Rattle.condition.specs.Written.{Written, an-atom, a-unary, a-binary, in-brackets}
-use Rattle.condition.specs.Tokens.{Tok, open', close', bad, number, un, bin, pick}
-use Rattle.condition.specs.Machine.{Stack, empty, waits, Work, work, unwind, rank_of, depth_at, turn, run, count_of}
+use Rattle.condition.specs.Tokens.{Tok, open', close', number, un, bin}
+use Rattle.condition.specs.Machine.{Stack, empty, waits, Work, work, unwind, rank_of, run, count_of}
 use lib.ListN.{length, length-append}
 use Rattle.condition.proofs.Levels.{binary-high, left-high, unary-high, left-low, apart}
 

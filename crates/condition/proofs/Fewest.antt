@@ -1,13 +1,13 @@
 -- The printed text of a tree is written as that tree, and has the fewest brackets of all texts that are: so no pair can be left out.
 use Prim.Native.Nat.{ℕ, zero, suc, ◌+◌, ◌/◌, ◌%◌, ◌<◌, ◌≤◌}
 use native.Mathlib.Omega.{arith}
-use mathlib.Core.Path.{◌≡◌, refl, sym, ap, ◌∙◌}
+use mathlib.Core.Path.{◌≡◌, refl, ap}
 use mathlib.Core.Bool.{Bool, true, false, cond}
 use mathlib.Core.List.{List, [], ◌∷◌, ◌++◌}
 use lib.Dec.{eqb, ltb}
-use borrow.Author.Tests.{ltb-true, ltb-false, lt-ltb, le-ltb, eqb-true, ne_eqb}
-use Rattle.words.specs.Decimal.{low_digits, decimal, width}
-use Rattle.condition.specs.Cond.{Cond, atom, unary, binary, binary_level, unary_level, left_level, binary_sign, unary_sign, atom_text, bracketed, Well}
+use borrow.Author.Tests.{ltb-false, le-ltb, eqb-true, ne_eqb}
+use Rattle.words.specs.Decimal.{low_digits}
+use Rattle.condition.specs.Cond.{Cond, atom, unary, binary, binary_level, unary_level, left_level, binary_sign, unary_sign, bracketed, Well}
 use Rattle.condition.specs.Printed.{wrap, printed}
 use Rattle.condition.specs.Written.{Written, an-atom, a-unary, a-binary, in-brackets}
 use Rattle.condition.proofs.Tables.{all-below}

@@ -1,18 +1,18 @@
 -- An operator and an operand before a written text, and a unary operator before one: the tree takes them in along its left side.
-use Prim.Native.Nat.{ℕ, zero, suc, ◌+◌, ◌<◌, ◌≤◌}
+use Prim.Native.Nat.{ℕ, zero, suc, ◌<◌, ◌≤◌}
 use native.Mathlib.Omega.{arith}
-use mathlib.Core.Path.{◌≡◌, refl, sym, ap, ◌∙◌}
-use mathlib.Core.Bool.{Bool, true, false, not, ◌&&◌, false≢true}
-use mathlib.Core.List.{List, [], ◌∷◌, ◌++◌, append_assoc}
+use mathlib.Core.Path.{◌≡◌, refl, sym}
+use mathlib.Core.Bool.{Bool, true, false, ◌&&◌, false≢true}
+use mathlib.Core.List.{List, ◌++◌, append_assoc}
 use lib.Dec.{eqb, ltb, leb}
-use borrow.Author.Tests.{leb-true, leb-false, lt-ltb, le-ltb, ltb-true, ltb-false, eqb-true, eqb-false, ne_eqb}
+use borrow.Author.Tests.{leb-true, leb-false, ltb-true, eqb-true, eqb-false}
 use Rattle.condition.specs.Cond.{Cond, atom, unary, binary, binary_level, unary_level, left_level, binary_sign, unary_sign, atom_text, bracketed}
 use Rattle.condition.specs.Written.{Written, an-atom, a-unary, a-binary, in-brackets}
 use Rattle.condition.specs.Tokens.{pick}
-use Rattle.condition.specs.Judge.{is_wanted, is_there, unary_mode, may_join, flag_after}
+use Rattle.condition.specs.Judge.{is_there, unary_mode, may_join, flag_after}
 use Rattle.condition.specs.declared.Mode.{Mode}
 use Rattle.condition.specs.declared.Mode.TheVariants as mode
-use Rattle.condition.proofs.Levels.{binary-high, left-high, unary-high, left-low, left-suc, left-level, apart}
+use Rattle.condition.proofs.Levels.{binary-high, left-suc, left-level}
 use Rattle.condition.proofs.Complete.{mode_of}
 
 -- whether a comparison stands in the row at the left

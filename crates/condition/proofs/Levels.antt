@@ -2,8 +2,8 @@
 use Prim.Native.Nat.{ℕ, suc, ◌<◌, ◌≤◌}
 use native.Mathlib.Omega.{arith}
 use mathlib.Core.Path.{◌≡◌, refl}
-use mathlib.Core.Bool.{Bool, true, false, not}
-use lib.Dec.{eqb, leb, ltb}
+use mathlib.Core.Bool.{true, not}
+use lib.Dec.{eqb, leb}
 use borrow.Author.Tests.{leb-true, eqb-true, eqb-false, not-true}
 use Rattle.condition.specs.Cond.{binary_level, unary_level, left_level}
 use Rattle.condition.specs.Tokens.{pick}

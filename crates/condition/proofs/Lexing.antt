@@ -3,20 +3,20 @@ use Prim.Native.Nat.{ℕ, zero, suc, ◌+◌, ◌-◌, ◌*◌, ◌/◌, ◌%◌
 use native.Mathlib.Nat.{add-mul, mul_assoc, mul_comm}
 use native.Mathlib.Omega.{arith}
 use mathlib.Core.Path.{◌≡◌, refl, sym, ap, ◌∙◌}
-use mathlib.Core.Bool.{Bool, true, false, ◌&&◌, ◌||◌}
-use mathlib.Core.List.{List, [], ◌∷◌, ◌++◌, reverse, reverse_aux, reverse_aux-eq, reverse_aux-append, reverse_aux-reverse_aux-nil, append_assoc}
+use mathlib.Core.Bool.{Bool, true, false, ◌&&◌}
+use mathlib.Core.List.{List, [], ◌∷◌, ◌++◌, reverse, reverse_aux, reverse_aux-eq, reverse_aux-append}
 use mathlib.Core.Option.{Option, none, some}
 use lib.Dec.{eqb, leb, ltb}
-use lib.ListN.{length, length-append, length-reverse_aux}
-use borrow.Author.Tests.{eqb-true, eqb-false, leb-true, leb-false, ltb-true, ltb-false, eq-eqb, ne_eqb, le-leb, lt-leb, lt-ltb}
+use lib.ListN.{length, length-reverse_aux}
+use borrow.Author.Tests.{eqb-true, leb-true, ltb-true, ltb-false, eq-eqb, ne_eqb, le-leb, lt-ltb}
 use Rattle.words.specs.Decimal.{low_digits, decimal, width}
 use Rattle.words.proofs.Digits.{width_one, width-more}
-use Rattle.condition.specs.Cond.{Cond, binary_sign, unary_sign, atom_text, bracketed}
+use Rattle.condition.specs.Cond.{Cond, binary_sign, unary_sign, atom_text}
 use Rattle.condition.specs.Written.{Written, an-atom, a-unary, a-binary, in-brackets}
-use Rattle.condition.specs.Tokens.{Tok, open', close', bad, number, un, bin, tok_text, Last, found, nothing, pick, strip, or_else, first_sign, is_digit, is_end, after_operand, minus, sign_last, number_end, number_last, last, more, tokens, lex}
+use Rattle.condition.specs.Tokens.{Tok, open', close', bad, number, un, bin, tok_text, Last, found, nothing, pick, strip, or_else, first_sign, is_digit, after_operand, minus, sign_last, number_end, number_last, last, more, tokens, lex}
 use Rattle.condition.proofs.Tables.{all-below}
 use Rattle.condition.proofs.Entries.{toks}
-use Rattle.condition.proofs.Sound.{WellTok, Wells, spell}
+use Rattle.condition.proofs.Sound.{WellTok}
 
 -- an operand before a binary sign, and none before a unary minus
 signed : (o : ℕ) (r : List ℕ) → o < 20 → after_operand (32 ∷ r) ≡ true → last (reverse_aux (binary_sign o) r) ≡ found (bin o) r

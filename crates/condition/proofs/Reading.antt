@@ -1,5 +1,5 @@
 -- The theorems on texts. Reading a text is the judge and the machine over its tokens, from its end.
-use Prim.Native.Nat.{ℕ, zero, suc, ◌*◌, ◌<◌, ◌≤◌}
+use Prim.Native.Nat.{ℕ, zero, suc, ◌*◌, ◌≤◌}
 use native.Mathlib.Omega.{arith}
 use mathlib.Core.Path.{◌≡◌, refl, sym, ap, ap₂, ◌∙◌}
 use mathlib.Core.Bool.{Bool, true, false, not, ◌&&◌, false≢true}
@@ -8,7 +8,7 @@ use lib.Dec.{eqb}
 use lib.ListN.{length}
 use Rattle.condition.specs.Cond.{Cond, atom, unary, binary, binary_level, Well, entries}
 use Rattle.condition.specs.Printed.{printed}
-use Rattle.condition.specs.Written.{Written, Reads}
+use Rattle.condition.specs.Written.{Reads}
 use Rattle.condition.specs.Tokens.{Tok, open', close', bad, number, un, bin, tok_text, Last, found, nothing, last, tokens, after_operand, lex}
 use Rattle.condition.specs.Judge.{is_wanted, is_there, unary_mode, may_join, judge}
 use Rattle.condition.specs.Machine.{empty, work, run, count_of}
@@ -18,7 +18,7 @@ use Rattle.condition.proofs.Tables.{both}
 use Rattle.condition.proofs.Fewest.{printed-written}
 use Rattle.condition.proofs.Entries.{toks, runs, count-of}
 use Rattle.condition.proofs.Complete.{taken}
-use Rattle.condition.proofs.Sound.{WellTok, Wells, spell, Some, judged}
+use Rattle.condition.proofs.Sound.{Wells, spell, judged}
 use Rattle.condition.proofs.Lexing.{Found, last_found, lex-found, lex-none, lexed}
 
 -- no token is bad

@@ -1,20 +1,19 @@
 -- What the judge takes is a written text: by the tokens from the last to the first, each level of brackets holds a text that is written, or
 -- nothing yet, or an operator before such a text.
-use Prim.Native.Nat.{ℕ, zero, suc, ◌<◌, ◌≤◌}
+use Prim.Native.Nat.{ℕ, ◌<◌}
 use native.Mathlib.Omega.{arith}
 use mathlib.Core.Path.{◌≡◌, refl, sym, subst, ◌∙◌}
 use mathlib.Core.Bool.{Bool, true, false, not, ◌&&◌, false≢true}
 use mathlib.Core.List.{List, [], ◌∷◌, ◌++◌, append_assoc, append-nil}
 use lib.Dec.{eqb, ltb}
 use borrow.Author.Tests.{not-true}
-use Rattle.condition.specs.Cond.{Cond, binary_level, unary_level, binary_sign, unary_sign, atom_text, bracketed}
+use Rattle.condition.specs.Cond.{Cond, binary_level, binary_sign, unary_sign, atom_text, bracketed}
 use Rattle.condition.specs.Written.{Written}
 use Rattle.condition.specs.Tokens.{Tok, open', close', bad, number, un, bin, tok_text, pick}
 use Rattle.condition.specs.Judge.{is_wanted, is_there, unary_mode, may_join, flag_after, judge}
 use Rattle.condition.specs.declared.Mode.{Mode}
 use Rattle.condition.specs.declared.Mode.TheVariants as mode
 use Rattle.condition.proofs.Tables.{both}
-use Rattle.condition.proofs.Complete.{mode_of}
 use Rattle.condition.proofs.Joining.{Have, Primary, p_atom, p-bracket, at, at-mode, at-chained, chained, join, prefix}
 
 -- which tokens there are

@@ -1,5 +1,5 @@
 -- Conditions as trees of operators and atoms, their signs and their levels (CR 9).
-use Rattle.std.specs.Prelude.{ℕ, ◌<◌, cond, List, [], ◌∷◌, ◌++◌, eqb, get_or}
+use Rattle.std.specs.Prelude.{ℕ, ◌<◌, List, [], ◌∷◌, ◌++◌, get_or}
 use Rattle.words.specs.Decimal.{decimal}
 use Rattle.condition.specs.Bytes.{bytes}
 

@@ -1,5 +1,5 @@
 -- Whether tokens, from the last to the first, are a condition's.
-use Rattle.std.specs.Prelude.{ℕ, suc, Bool, true, false, not, ◌&&◌, ◌||◌, List, [], ◌∷◌, eqb, ltb}
+use Rattle.std.specs.Prelude.{ℕ, Bool, true, false, not, ◌&&◌, List, [], ◌∷◌, eqb, ltb}
 use Rattle.condition.specs.Cond.{binary_level}
 use Rattle.condition.specs.Tokens.{Tok, open', close', bad, number, un, bin, pick}
 use Rattle.condition.specs.declared.Mode.{Mode}

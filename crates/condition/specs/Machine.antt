@@ -1,6 +1,6 @@
 -- The entries of tokens, from the last to the first. Operators that wait for their left operand stand in a stack with their ranks: ten for each
 -- level of brackets, and the operator's level + 1.
-use Rattle.std.specs.Prelude.{ℕ, suc, pred, ◌+◌, ◌*◌, Bool, true, false, List, [], ◌∷◌, ltb}
+use Rattle.std.specs.Prelude.{ℕ, suc, pred, ◌+◌, ◌*◌, List, [], ◌∷◌, ltb}
 use Rattle.condition.specs.Cond.{binary_level, unary_level}
 use Rattle.condition.specs.Tokens.{Tok, open', close', bad, number, un, bin, pick}
 

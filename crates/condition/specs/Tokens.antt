@@ -2,7 +2,6 @@
 use Rattle.std.specs.Prelude.{ℕ, zero, suc, ◌+◌, ◌-◌, ◌*◌, Bool, true, false, ◌&&◌, ◌||◌, List, [], ◌∷◌, reverse, eqb, leb, ltb, length, get_or}
 use Rattle.std.proofs.Math.Option.{Option, none, some}
 use Rattle.words.specs.Decimal.{width}
-use Rattle.condition.specs.Bytes.{bytes}
 use Rattle.condition.specs.Cond.{binary_sign, unary_sign, atom_text}
 
 -- brackets, atoms by their number, signs by their operator's, and what is none

@@ -1,10 +1,12 @@
 // Conditions: the levels of their operators, and what may stand before what in their text.
+#![tactic(auto)]
+
 ghost use Rattle.std.specs.Prelude.{◌≡◌, ◌<◌};
 ghost use Rattle.condition.specs.Cond.{binary_level, unary_level, left_level};
 ghost use Rattle.condition.specs.Judge.{is_wanted, is_there, unary_mode, may_join};
 
 // What stands to the right of a position: an operand is wanted; there is one; there is one that begins with NOT; or nothing can stand here.
-#[derive(Drop)]
+#[derive(Clone, Copy)]
 pub enum Mode {
     Wanted,
     There,

@@ -3,13 +3,13 @@ use Prim.Native.Nat.{ℕ, zero, suc, ◌+◌, ◌-◌, ◌<◌, ◌≤◌}
 use native.Mathlib.Omega.{arith}
 use native.Mathlib.Numerals.{add-one, sub-one}
 use mathlib.Core.Path.{◌≡◌, refl, ap}
-use mathlib.Core.Bool.{true, false, ◌&&◌}
+use mathlib.Core.Bool.{false, ◌&&◌}
 use mathlib.Core.List.{List, [], ◌∷◌}
-use mathlib.Core.Option.{Option, none, some}
+use mathlib.Core.Option.{none, some}
 use lib.ListN.{length, get_or, drop, drop_of_length-le, length-append}
 use lib.Seq.{drop-cons}
 use borrow.Author.Tests.{eq-eqb, ne_eqb, le-ltb, lt-ltb}
-use Rattle.condition.specs.Tokens.{Last, found, nothing, number, back, strip, after_operand, is_end, number_end}
+use Rattle.condition.specs.Tokens.{found, nothing, number, back, strip, after_operand, is_end, number_end}
 use Rattle.condition.proofs.Lexing.{stripped}
 use Rattle.words.specs.Decimal.{width}
 use lib.Dec.{eqb}

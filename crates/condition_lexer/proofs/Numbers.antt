@@ -4,12 +4,12 @@ use native.Mathlib.Nat.{mul-le-mul_right}
 use native.Mathlib.Omega.{arith}
 use native.Mathlib.Numerals.{add-one}
 use mathlib.Core.Path.{◌≡◌, refl}
-use mathlib.Core.Bool.{true, false, ◌&&◌}
+use mathlib.Core.Bool.{true, false}
 use mathlib.Core.List.{List, [], ◌∷◌}
 use lib.Dec.{eqb, leb}
 use lib.ListN.{get_or}
 use borrow.Author.Tests.{eqb-true, leb-true}
-use Rattle.condition.specs.Tokens.{Last, nothing, back, is_digit, number_end, number_last}
+use Rattle.condition.specs.Tokens.{nothing, back, is_digit, number_end, number_last}
 use Rattle.condition.proofs.Tables.{both, all-below}
 use Rattle.condition_lexer.proofs.Back.{back_one, back_none}
 

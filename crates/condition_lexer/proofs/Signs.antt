@@ -2,14 +2,14 @@
 use Prim.Native.Nat.{ℕ, suc, ◌+◌, ◌-◌, ◌<◌, ◌≤◌}
 use native.Mathlib.Omega.{arith}
 use native.Mathlib.Numerals.{add-one}
-use mathlib.Core.Path.{◌≡◌, refl}
+use mathlib.Core.Path.{◌≡◌}
 use mathlib.Core.Bool.{true, false}
-use mathlib.Core.List.{List, [], ◌∷◌, reverse}
+use mathlib.Core.List.{List, reverse}
 use mathlib.Core.Option.{Option, none, some}
 use lib.ListN.{get_or}
-use borrow.Author.Tests.{eq-eqb, ne_eqb}
+use borrow.Author.Tests.{ne_eqb}
 use Rattle.condition.specs.Cond.{binary_sign, unary_sign}
-use Rattle.condition.specs.Tokens.{Last, found, nothing, open', close', un, bin, back, strip, or_else, first_sign, minus, after_operand, sign_last, number_last, last}
+use Rattle.condition.specs.Tokens.{Last, found, nothing, open', close', un, bin, back, strip, first_sign, minus, after_operand, sign_last, number_last, last}
 use Rattle.condition_lexer.proofs.Back.{back_one}
 
 module _ (r : List ℕ) (o : ℕ) where

@@ -1,4 +1,6 @@
 // The last token before a position of a text. Signs have their blanks with them, so that tokens stand one after the other.
+#![tactic(auto)]
+
 ghost use Rattle.std.specs.Prelude.{◌≡◌, reverse, ◌<◌, ◌≤◌, length};
 ghost use Rattle.condition.specs.Cond.{binary_sign, unary_sign};
 ghost use Rattle.condition.specs.Tokens.{back, strip, is_digit, is_end, after_operand, first_sign, minus, sign_last, number_end, number_last, last};

@@ -1,12 +1,11 @@
 -- Filling, a token a turn: what is left for the machine is the same.
-use Prim.Native.Nat.{ℕ, zero, suc, pred, ◌+◌, ◌*◌, ◌-◌, ◌<◌, ◌≤◌}
+use Prim.Native.Nat.{ℕ, suc, pred, ◌+◌, ◌*◌, ◌<◌, ◌≤◌}
 use native.Mathlib.Omega.{arith}
 use mathlib.Core.Path.{◌≡◌, refl, sym, ap, ◌∙◌}
-use mathlib.Core.List.{List, [], ◌∷◌}
+use mathlib.Core.List.{List, ◌∷◌}
 use lib.ListN.{length, drop}
-use lib.Seq.{drop-length}
-use Rattle.condition.specs.Tokens.{Tok, open', close', bad, number, un, bin, Last, found, nothing, last, back, tokens, lex}
-use Rattle.condition.specs.Machine.{Stack, empty, Work, work, unwind, depth_at, turn, run, weight, count_of}
+use Rattle.condition.specs.Tokens.{Tok, open', close', bad, number, un, bin, found, nothing, last, back, tokens, lex}
+use Rattle.condition.specs.Machine.{empty, Work, work, depth_at, turn, run, weight, count_of}
 use Rattle.condition.proofs.Lexing.{last_found, lex-found, lex-none}
 use Rattle.condition.proofs.Reading.{Clean, clean-tail}
 use Rattle.condition.proofs.Sound.{WellTok}

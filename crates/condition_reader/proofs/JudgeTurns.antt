@@ -1,15 +1,14 @@
 -- Judging, a token a turn: what is left to be judged is the same, and the array has the flag of every open level that is in the window.
-use Prim.Native.Nat.{ℕ, zero, suc, pred, max, ◌+◌, ◌-◌, ◌/◌, ◌<◌, ◌≤◌}
+use Prim.Native.Nat.{ℕ, suc, pred, max, ◌+◌, ◌-◌, ◌/◌, ◌<◌, ◌≤◌}
 use native.Mathlib.Omega.{arith}
-use native.Mathlib.Numerals.{add-one, sub-one}
+use native.Mathlib.Numerals.{add-one}
 use mathlib.Core.Path.{◌≡◌, refl, sym, ap, ◌∙◌}
 use mathlib.Core.Bool.{Bool, true, false, not, cond, ◌&&◌, false≢true}
 use mathlib.Core.List.{List, [], ◌∷◌}
-use lib.Dec.{eqb, leb, ltb}
+use lib.Dec.{eqb, ltb}
 use lib.ListN.{length}
-use borrow.Author.Tests.{le-leb, lt-ltb, eqb-true, eqb-false}
 use Rattle.condition.specs.Cond.{binary_level}
-use Rattle.condition.specs.Tokens.{Tok, open', close', bad, number, un, bin, pick, Last, found, nothing, last, back, tokens, lex}
+use Rattle.condition.specs.Tokens.{Tok, open', close', number, un, bin, pick, found, nothing, last, back, tokens, lex}
 use Rattle.condition.specs.Machine.{weight, count_of}
 use Rattle.condition.specs.Judge.{is_wanted, is_there, unary_mode, may_join, flag_after}
 use Rattle.condition.specs.declared.Mode.{Mode}

@@ -1,12 +1,12 @@
 -- The stack and the entries after a store.
-use Prim.Native.Nat.{ℕ, zero, suc, ◌+◌, ◌*◌, ◌-◌, ◌<◌, ◌≤◌}
+use Prim.Native.Nat.{ℕ, zero, suc, ◌+◌, ◌*◌, ◌≤◌}
 use native.Mathlib.Omega.{arith}
 use native.Mathlib.Numerals.{add-one, add-two}
-use mathlib.Core.Path.{◌≡◌, refl, ap}
+use mathlib.Core.Path.{◌≡◌, refl}
 use mathlib.Core.List.{List, [], ◌∷◌}
-use lib.ListN.{length, get_or, drop, set, length-set}
-use lib.Seq.{drop-cons, drop-set-lt, get_or-set_same, get_or-set_other}
-use Rattle.condition.specs.Machine.{Stack, empty, waits}
+use lib.ListN.{length, drop, set, length-set}
+use lib.Seq.{drop-set-lt, get_or-set_same, get_or-set_other}
+use Rattle.condition.specs.Machine.{waits}
 use Rattle.condition_reader.specs.Fill.{stack_of}
 
 -- a store above the stack leaves it

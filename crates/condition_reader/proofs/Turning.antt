@@ -1,13 +1,13 @@
 -- What each token does to the list.
-use Prim.Native.Nat.{ℕ, zero, suc, ◌+◌, ◌*◌, ◌-◌, ◌<◌, ◌≤◌}
+use Prim.Native.Nat.{ℕ, ◌+◌, ◌*◌, ◌-◌, ◌≤◌}
 use native.Mathlib.Omega.{arith}
 use native.Mathlib.Numerals.{add-one}
-use mathlib.Core.Path.{◌≡◌, refl, sym, ap, ◌∙◌}
-use mathlib.Core.List.{List, [], ◌∷◌}
-use lib.ListN.{length, get_or, drop, set, length-set}
+use mathlib.Core.Path.{◌≡◌, sym}
+use mathlib.Core.List.{List, ◌∷◌}
+use lib.ListN.{length, drop, set, length-set}
 use Rattle.condition.specs.Cond.{binary_level, unary_level}
-use Rattle.condition.specs.Tokens.{Tok, open', number, un, bin}
-use Rattle.condition.specs.Machine.{Stack, empty, waits, Work, work, unwind, rank_of, turn}
+use Rattle.condition.specs.Tokens.{open', number, un, bin}
+use Rattle.condition.specs.Machine.{work, rank_of}
 use Rattle.condition_reader.specs.Fill.{stack_of, work_of, Unwound, Turned}
 use Rattle.condition_reader.proofs.Stacked.{stack-two, stack_push, drop-two, drop-below}
 

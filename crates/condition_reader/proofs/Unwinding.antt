@@ -1,13 +1,12 @@
 -- Unwinding, an operator a turn.
-use Prim.Native.Nat.{ℕ, zero, suc, ◌+◌, ◌*◌, ◌-◌, ◌<◌, ◌≤◌}
+use Prim.Native.Nat.{ℕ, suc, ◌+◌, ◌*◌, ◌-◌, ◌<◌, ◌≤◌}
 use native.Mathlib.Omega.{arith}
-use native.Mathlib.Numerals.{sub-one, add-one}
-use mathlib.Core.Path.{◌≡◌, refl, sym, ap, ◌∙◌}
-use mathlib.Core.List.{List, [], ◌∷◌}
+use mathlib.Core.Path.{◌≡◌, refl, ◌∙◌}
+use mathlib.Core.List.{List, ◌∷◌}
 use lib.ListN.{length, get_or, drop, set, length-set}
 use borrow.Author.Tests.{lt-ltb, le-ltb}
-use Rattle.condition.specs.Machine.{Stack, empty, waits, Work, work, unwind}
-use Rattle.condition_reader.specs.Fill.{stack_of, work_of, Unwound}
+use Rattle.condition.specs.Machine.{work, unwind}
+use Rattle.condition_reader.specs.Fill.{stack_of, Unwound}
 use Rattle.condition_reader.proofs.Stacked.{stack-two, drop-two}
 
 pub record Unwinding (limit : ℕ) (old : List ℕ) (top first : ℕ) (new : List ℕ) (s w : ℕ) : Type 0 where

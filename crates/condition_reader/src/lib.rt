@@ -2,6 +2,8 @@
 //
 // A text is read from its end: an operator whose sign stands before its operand is then met when the operand is done, and entries in prefix
 // order are written from the last to the first.
+#![tactic(auto)]
+
 mod filling;
 mod judging;
 

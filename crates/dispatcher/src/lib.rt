@@ -2,6 +2,8 @@
 // some state (specs/Words.antt).
 //
 // No public function here has a `requires`.
+#![tactic(auto)]
+
 mod exports;
 
 ghost use Rattle.std.specs.Prelude.{◌+◌, ◌<◌, get_or};

@@ -1,6 +1,6 @@
 -- Lookup (002; document 01, "At the leaves"): "climbs parents, the first fitting entry counting; a WithBarrier lets through only names
 -- it carries".
-use Rattle.std.specs.Prelude.{ℕ, zero, suc, Bool, true, false, cond, ◌&&◌, ◌||◌, List, [], ◌∷◌, eqb, leb, ltb, length, get_or}
+use Rattle.std.specs.Prelude.{ℕ, zero, suc, Bool, true, false, cond, ◌&&◌, ◌||◌, List, [], ◌∷◌, eqb, leb, ltb, length}
 use Rattle.std.proofs.Math.Option.{Option, none, some}
 use Rattle.scope.specs.Graph.{with_barrier, Scope, scope, Entry, entry, Carried, carried}
 use Rattle.scope.specs.Flat.{scope_width, binding_width, carried_width, room, scopes_of, bindings_of, carrieds_of}

@@ -1,5 +1,5 @@
 -- Offset (002; document 01, "At the leaves"): "ends included, empty spans skipped, narrowest wins, then the highest number".
-use Rattle.std.specs.Prelude.{ℕ, zero, suc, ◌-◌, Bool, cond, ◌&&◌, List, [], ◌∷◌, leb, ltb}
+use Rattle.std.specs.Prelude.{ℕ, suc, ◌-◌, Bool, cond, ◌&&◌, List, [], ◌∷◌, leb, ltb}
 use Rattle.std.proofs.Math.Option.{Option, none, some}
 use Rattle.scope.specs.Graph.{Scope, scope}
 use Rattle.scope.specs.Flat.{scope_width, room, scopes_of}

@@ -1,6 +1,8 @@
 // The scope graph (002) on lent lists: lookup of a name from a scope, and the scope at an offset. Lists are flat words, an entry each:
 // scopes 4 (kind, parent + 1 or 0, start, end), bindings 6 (scope, name, variable, kind, 1 if it replaced one, the variable replaced or
 // 0), carried 3 (barrier, name, variable); a count says how many entries are in use.
+#![tactic(auto)]
+
 ghost use Rattle.std.specs.Prelude.{◌≡◌, Bool, ℕ, suc, ◌*◌, ◌<◌, ◌≤◌, length};
 ghost use Rattle.scope.specs.Flat.{scopes_of, bindings_of, carrieds_of};
 ghost use Rattle.scope.specs.Lookup.{bound_in, carries, lets_on, climb, lookup};
