@@ -1,6 +1,6 @@
 -- The variables that clauses bind: "a node, relationship, path or Unwind variable anywhere" (cause 7). A yield's is free.
 use Rattle.std.specs.Prelude.{ℕ}
-use mathlib.Core.List.{List, [], ◌∷◌, ◌++◌, flat_map}
+use mathlib.Core.List.{List, ◌∷◌, ◌++◌, flat_map}
 use Rattle.expr.specs.Binders.{binders_e, binders, binders_s}
 use Rattle.clauses.specs.Tree.{Projection, projection, Clause, opening, reading, with', return, unwind, call, Arm, arm, keys_of}
 

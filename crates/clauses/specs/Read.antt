@@ -3,7 +3,7 @@ use Rattle.std.specs.Prelude.{cond, ℕ, zero, suc, List, [], ◌∷◌}
 use Rattle.std.proofs.Math.Option.{Option, none, some}
 use Rattle.heads.specs.Got.{Got, ok, no, bind, look, word_in, any_word, flag, counted}
 use Rattle.heads.specs.Head.{Tables}
-use Rattle.expr.specs.Tree.{Exprs, Steps}
+use Rattle.expr.specs.Tree.{Exprs}
 use Rattle.expr.specs.Read.{Reader, read_expr, times, no_more, marks, pattern}
 use Rattle.clauses.specs.Tree.{Projection, projection, Yield, yield, Opening, match, create, merge, Reading, where', set, remove, delete, Keys, unsorted, sorted, Clause, opening, reading, with', return, unwind, call, Arm, arm}
 

@@ -1,4 +1,6 @@
 // Clauses and arms of a section, read in place. Each reader's answer is opened, and a refusal is handed up with its number.
+#![tactic(auto)]
+
 ghost use Rattle.std.specs.Prelude.{Bool, true, false, ℕ, ◌≤◌, length, drop};
 ghost use Rattle.words.specs.Words.{words};
 ghost use Rattle.heads.specs.Got.{bare, many, counted};

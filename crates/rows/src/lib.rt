@@ -1,6 +1,8 @@
 // The row of a variable in the binding table, by chains: rows whose variables have the same slot hang together. The lent words hold for each
 // slot its newest row (its number + 1, or 0), then for each row the one before it in its chain. The slot is a mixed hash with a multiplier
 // that the caller gives: which variables share a slot differs with it. Only the time rests on it, never the answer.
+#![tactic(auto)]
+
 ghost use Rattle.std.specs.Prelude.{◌≡◌, ◌+◌, ◌*◌, ◌%◌, ◌^◌, ◌<◌, ◌≤◌, length};
 ghost use Rattle.words.specs.Words.{words};
 ghost use Rattle.rows.specs.Slot.{slots, slot_of};

@@ -1,6 +1,6 @@
 -- The whole sheet from its pieces: where the places, the tables, or head and arms are refused, so is the sheet, and else it is accepted,
 -- and the lent tables hold its names.
-use Prim.Native.Nat.{ℕ, ◌+◌, ◌*◌, ◌-◌, ◌≤◌}
+use Prim.Native.Nat.{ℕ, ◌+◌, ◌*◌, ◌≤◌}
 use native.Mathlib.Omega.{arith}
 use mathlib.Core.Path.{◌≡◌, refl, sym, ap, subst, ◌∙◌}
 use mathlib.Core.Bool.{true}

@@ -1,4 +1,6 @@
 // A sheet read in place: accepted, with where its sections stand, or refused by one of the causes 1 to 7; and the text of a name.
+#![tactic(auto)]
+
 mod names;
 mod sections;
 mod trailer;

@@ -9,7 +9,7 @@ use mathlib.Core.List.{List, [], ◌∷◌, ◌++◌, map, map-append, reverse, 
 use mathlib.Core.Option.{none, some}
 use lib.ListN.{length, length-map, drop, get_or}
 use Rattle.words.specs.Fnv.{use_id}
-use Rattle.scope.specs.Graph.{Scope, scope, carried, Entry, entry}
+use Rattle.scope.specs.Graph.{Scope, scope, Entry, entry}
 use Rattle.expr.specs.Erase.{erases}
 use Rattle.clauses.specs.Tree.{keys_of}
 use Rattle.sheet.specs.Statement.{Statement}

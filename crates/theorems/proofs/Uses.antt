@@ -21,7 +21,7 @@ use Rattle.sheet.specs.Statement.{Statement}
 use Rattle.semantics.specs.Log
 use Rattle.semantics.specs.Log.{e1002, Finding, finding, missing, Write, write, Bound, bound, Event, open', bind, carry, answer, find, answer_of, find_of, answers_in, finds_in}
 use Rattle.semantics.specs.World.{World, hush, variable, opens, yield_name, name_of, kind_of, star_name, bytes_of, world_of}
-use Rattle.semantics.specs.Resolve.{Seen, seen, Pair, pair, State, lookup, binds, say, say_if, enter, bind_name, bind_over, leave, standing, use_var, use_name, visit, bind_anew, bind_new, bind_path, bind_elem, resolve, resolves, bind_pattern, carried_by, carry_all, bind_all, barrier, fresh, yields, aliases, sort_by, clause, clauses, arms, start, run, log}
+use Rattle.semantics.specs.Resolve.{Seen, seen, Pair, pair, State, lookup, say, say_if, enter, bind_name, bind_over, leave, standing, use_var, use_name, visit, bind_anew, bind_new, bind_path, bind_elem, resolve, resolves, bind_pattern, carried_by, carry_all, bind_all, barrier, fresh, yields, aliases, sort_by, clause, clauses, arms, start, run, log}
 use Rattle.semantics.specs.Kinds.{kinds}
 use Rattle.semantics.specs.Lists.{findings}
 use Rattle.theorems.specs.Uses.{Use, by_var, by_name, Lacks, lacks, uses_e, uses_es, uses_s, sort_at, uses_c, uses_cs, uses_as, e1001, answer_by, of_row, record_of, unresolved_of, uses, coded, with_code, unresolved_as, unresolved_in, Arises, OfUses}

@@ -1,6 +1,6 @@
 -- What a WITH carries and binds can stand apart from the rest of a log: the carried list has the names and variables, and a Root under a barrier
 -- binds what that barrier carries. So the bindings list comes from the rest of the log and the carried list. Only contracts need these.
-use Rattle.std.specs.Prelude.{ℕ, suc, ◌≡◌, Bool, true, false, cond, List, [], ◌∷◌, ◌++◌, map, eqb}
+use Rattle.std.specs.Prelude.{ℕ, suc, ◌≡◌, Bool, true, false, cond, List, [], ◌∷◌, ◌++◌, eqb}
 use Rattle.std.proofs.Math.Option.{Option, none, some}
 use Rattle.scope.specs.Graph.{root_scope, Scope, scope, Carried, carried}
 use Rattle.sheet.specs.Statement.{Statement}

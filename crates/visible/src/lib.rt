@@ -1,6 +1,8 @@
 // The visible names in lent words: for each name where its newest entry stands (its number + 1, or 0), then a stack of entries of four
 // words: name, variable, scope, and where the name's newest entry stood before. Finding and binding take constant time, and so does each
 // entry that is undone.
+#![tactic(auto)]
+
 ghost use Rattle.std.specs.Prelude.{◌≡◌, ◌+◌, ◌*◌, ◌<◌, ◌≤◌, length};
 ghost use Rattle.semantics.specs.Resolve.{lookup};
 ghost use Rattle.visible.specs.Visible.{seens, scope_of, name_at, answer, Tabled, Bound, Cut, Turned, Restacked};
