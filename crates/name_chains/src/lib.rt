@@ -2,6 +2,8 @@
 // chain. The lent words hold for each slot its newest name (its number + 1, or 0), then for each name the one before it in its chain. The
 // slot is a hash of the text with a multiplier made from the section, so which names share one differs from sheet to sheet. Only the time
 // rests on it, never the answer.
+#![tactic(auto)]
+
 ghost use Rattle.std.specs.Prelude.{◌≡◌, ◌+◌, ◌/◌, ◌<◌, ◌≤◌, length};
 ghost use Rattle.words.specs.Words.{words};
 ghost use Rattle.tables.specs.Distinct.{same_bytes, name_in, distinct};

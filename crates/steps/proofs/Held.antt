@@ -2,7 +2,7 @@
 -- Steps: nothing done (`idle-step`), one after another (`then-steps`, `framed`), for more words (`more-steps`), put another way
 -- (`as-steps`, `instead`). What is counted: `uncounted`, `recounted`. What is said and told: `says-step`, `says-costs`, `says_if`, `unsaid-step`, `tells-step`, `tells-costs`, `tells-if`, with `wanted`,
 -- `always` and `unwanted` for what is kept of a log.
-use Prim.Native.Nat.{ℕ, zero, suc, ◌+◌, ◌-◌, ◌*◌, ◌<◌, ◌≤◌}
+use Prim.Native.Nat.{ℕ, zero, suc, ◌+◌, ◌-◌, ◌<◌, ◌≤◌}
 use native.Mathlib.Nat.{suc-add, zero-add}
 use native.Mathlib.Omega.{arith}
 use mathlib.Core.Path.{◌≡◌, refl, ap, sym, ◌∙◌}
@@ -18,7 +18,7 @@ use Rattle.theorems.specs.Needs.{made_one, carried_one, made, carried_in}
 use Rattle.theorems.specs.Woven.{written_one, written}
 use Rattle.fused.specs.Fused.{Both, told}
 use Rattle.visible.specs.Visible.{seens, Descends, Tabled}
-use Rattle.steps.specs.Memory.{at_of, top_of, cur_of, last_of, said_of, told_of, lost_of, held_of, made_of, taken_of, level_of, slots_in, wants_in, events, findings, event_of, kept_one, kept}
+use Rattle.steps.specs.Memory.{at_of, top_of, cur_of, last_of, said_of, told_of, lost_of, held_of, made_of, taken_of, level_of, slots_in, wants_in, event_of, kept_one, kept}
 use Rattle.steps.specs.Hold.{Fine, Fits, Fit, Counted, Holds, Frame, Costs, Steps, Ready, Roomy, Says, SaysIf, Tells, TellsIf, on_names, on_kinds}
 
 -- ---- numbers: n is m after stores

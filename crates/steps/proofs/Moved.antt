@@ -11,7 +11,7 @@ use lib.ListN.{length, get_or, set, drop, length-set}
 use lib.Seq.{get_or-set_same, get_or-set_other}
 use Rattle.scope.specs.Graph.{scope}
 use Rattle.expr.specs.Binders.{all_known}
-use Rattle.tables.specs.Row.{Row, row}
+use Rattle.tables.specs.Row.{Row}
 use Rattle.semantics.specs.Log.{bound, Event, open', bind}
 use Rattle.semantics.specs.World.{World}
 use Rattle.semantics.specs.Resolve.{State, seen, lookup, binds, say, enter, bind_name, bind_new, leave}

@@ -13,10 +13,9 @@ use Rattle.expr.specs.Binders.{binder, all_known}
 use Rattle.tables.specs.Row.{Row}
 use Rattle.semantics.specs.Log.{Finding, finding}
 use Rattle.semantics.specs.World.{variable, name_of, row_name}
-use Rattle.semantics.specs.Resolve.{State, lookup, say_if, bind_name, bind_anew, bind_new, bind_path, bind_elem, binds}
+use Rattle.semantics.specs.Resolve.{State, lookup, say_if, bind_anew, bind_new, bind_path, bind_elem}
 use Rattle.semantics.specs.Kinds.{misplaced, row_for}
 use Rattle.fused.specs.Fused.{Both, when, told, step, noting}
-use Rattle.visible.specs.Visible.{seens}
 use Rattle.steps.specs.Memory.{slots_in, warns_in, wants_in, world_at, mode_of}
 use Rattle.steps.specs.Hold.{Costs, Steps, Binds, Says, TellsIf, on_names, path_step, shown_to, name_in, kind_in, misplaced_in}
 use Rattle.steps.specs.declared.row.Row.{Row as Row'}

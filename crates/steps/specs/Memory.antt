@@ -1,7 +1,6 @@
 -- The lent words of both walks. `m` has the numbers of where they stand, `tab` what they go by, `vis` the visible names, `found` what they
 -- said: the name walk's events from the front, the kind walk's findings from the back, six words each.
 use Rattle.std.specs.Prelude.{ℕ, zero, suc, ◌+◌, ◌-◌, ◌*◌, ◌/◌, ◌%◌, Bool, true, false, cond, ◌&&◌, ◌||◌, List, [], ◌∷◌, eqb, ltb, length, get_or, drop}
-use Rattle.std.proofs.Math.Option.{Option, none, some}
 use Rattle.heads.specs.Got.{look}
 use Rattle.heads.specs.Head.{Tables}
 use Rattle.scope.specs.Graph.{scope}

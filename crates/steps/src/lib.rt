@@ -1,5 +1,7 @@
 // The steps of both walks on lent words (specs/Memory): what is said and told, what is opened, bound and left, and what the head of an
 // expression does before its parts. Room is paid for by the words that were read (specs/Hold).
+#![tactic(auto)]
+
 mod bound;
 mod head;
 mod kinds;

@@ -1,0 +1,25 @@
+-- What is found in the table of names is what the visible list has; where no event is wanted, none is kept.
+use mathlib.Core.Path.{sym, ◌∙◌}
+use Rattle.steps.proofs.Held.{roomy}
+use Rattle.steps.proofs.Heads.{unwanted-name, found_name, missing-name}
+use Rattle.steps.proofs.head.record_name.Goals as goal
+
+pub returns-then-tab-ne1 : goal.returns-then-tab-ne1
+returns-then-tab-ne1 c =
+    unwanted-name _ c.if-tab-ne1.true
+
+pub say-requires : goal.say-requires
+say-requires c =
+    roomy c.requires
+
+pub say-requires-in-No : goal.say-requires-in-No
+say-requires-in-No c =
+    roomy c.requires
+
+pub returns-in-Is : goal.returns-in-Is
+returns-in-Is c =
+    found_name c.args.x _ c.requires.fit.size c.if-tab-ne1.false _ _ _ (sym c.find.ensures ∙ c.in-Is.is) c.kind_of-k.ensures c.say.ensures
+
+pub returns-in-No : goal.returns-in-No
+returns-in-No c =
+    missing-name c.args.x _ c.requires.fit.size c.if-tab-ne1.false (sym c.find.ensures ∙ c.in-No.is) c.say-in-No.ensures
