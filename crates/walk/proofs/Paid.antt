@@ -1,6 +1,6 @@
 -- What is read pays for what is done: a head has as many words as its act costs and its name is in range (`form-paid`), a part as
 -- many as its path costs (`part-paid`), an element three (`elem-paid`); a mark counts few expressions (`mark-few`). A refusal for depth has a number (`deep-some`).
-use Prim.Native.Nat.{ℕ, ◌+◌, ◌-◌, ◌<◌, ◌≤◌}
+use Prim.Native.Nat.{ℕ, ◌+◌, ◌<◌, ◌≤◌}
 use native.Mathlib.Omega.{arith}
 use mathlib.Core.Bool.{Bool, true, false, cond}
 use lib.Dec.{eqb}

@@ -1,7 +1,7 @@
 -- What a plain head is by its code (`laws`, one line for each code): how it is read, its parts, their settings, and what it does itself.
 -- `plain-read`: it is read there. `plain-expr`: an expression with such a head is what the head does, and then its parts in a row, a level
 -- lower. `plain-calm`: where the shape has no bit for a setting, the head does nothing there.
-use Prim.Native.Nat.{ℕ, zero, suc, ◌+◌, ◌-◌, ◌/◌, ◌%◌, ◌^◌, ◌≤◌, ◌<◌}
+use Prim.Native.Nat.{ℕ, zero, suc, ◌+◌, ◌/◌, ◌%◌, ◌^◌, ◌≤◌, ◌<◌}
 use native.Mathlib.Omega.{arith}
 use mathlib.Core.Path.{◌≡◌, refl, ap, ◌∙◌}
 use mathlib.Core.Bool.{Bool, true, false, cond, ◌&&◌}

@@ -10,7 +10,7 @@ returns-then-queue-gt31 c =
 
 pub returns-then-n-ge16 : goal.returns-then-n-ge16
 returns-then-n-ge16 c =
-    adds-full _ _ (omega arith) (omega arith) _ c.if-n-ge16.true
+    adds-full _ _ (omega arith) (omega arith) _ (omega arith)
 
 pub bounds-w-q-4 : goal.bounds-w-q-4
 bounds-w-q-4 c =
@@ -18,4 +18,4 @@ bounds-w-q-4 c =
 
 pub returns : goal.returns
 returns c =
-    adds-done _ _ (omega arith) (omega arith) _ c.if-n-ge16.false
+    adds-done _ _ (omega arith) (omega arith) _ (omega arith)
