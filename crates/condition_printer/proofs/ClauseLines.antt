@@ -11,12 +11,12 @@ use Rattle.expr.specs.Tree.{Expr}
 use Rattle.expr.specs.Read.{reader}
 use Rattle.expr.specs.Write.{write_e}
 use Rattle.expr.proofs.Accepted.{ok-inverse, ok-left, refused}
-use Rattle.clauses.specs.Tree.{Clause, Arm, arm}
+use Rattle.clauses.specs.Tree.{Clause, arm}
 use Rattle.clauses.specs.Read.{read_clause, read_arm}
 use Rattle.clauses.specs.Write.{write_clause, write_arm}
 use Rattle.clauses.proofs.WrittenClause.{clause-written, arm_written}
 use Rattle.condition_text.specs.Over.{maybe_byte}
-use Rattle.condition_text.specs.Tree.{cond_e, printed_at}
+use Rattle.condition_text.specs.Tree.{printed_at}
 use Rattle.condition_text.specs.Write.{Wrote, Ready, Put}
 use Rattle.condition_text.proofs.Stages.{Stage, begin, fits, piece, ready, part, further, put}
 use Rattle.condition_text.proofs.Operators.{byte-short}

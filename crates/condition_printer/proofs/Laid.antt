@@ -1,10 +1,9 @@
 -- What an accepted sheet gives the printer: where its sections stand, its head and arms as the walks read them, and its conditions from these.
-use Prim.Native.Nat.{ℕ, ◌+◌, ◌*◌, ◌-◌, ◌≤◌}
+use Prim.Native.Nat.{ℕ, ◌*◌, ◌-◌, ◌≤◌}
 use native.Mathlib.Omega.{arith}
 use mathlib.Core.Path.{◌≡◌, refl, sym, ap, ◌∙◌}
-use mathlib.Core.Bool.{true}
-use mathlib.Core.List.{List, [], ◌∷◌, ◌++◌}
-use lib.ListN.{length, take, drop, length-take, length-drop}
+use mathlib.Core.List.{List, [], ◌∷◌}
+use lib.ListN.{length, take, drop, length-take}
 use Rattle.words.specs.Words.{words}
 use Rattle.words.proofs.Words.{length-words}
 use Rattle.heads.specs.Got.{Got, ok, no, is_ok, many}
@@ -18,7 +17,6 @@ use Rattle.sheet.specs.Trailer.{places_of, section}
 use Rattle.sheet.specs.Read.{Sheet, accepted, refused, then', used_up, any_binder, read_names, read_rows, locate}
 use Rattle.sheet.specs.Answer.{InPlaces}
 use Rattle.sheet.specs.declared.trailer.Places.{Places}
-use Rattle.sheet.specs.declared.trailer.Opened.{Opened}
 use Rattle.sheet.specs.declared.trailer.Opened.TheVariants as opened
 use Rattle.sheet.proofs.Placing.{places-of, in-places}
 use Rattle.sheet.proofs.Cutting.{words_take}

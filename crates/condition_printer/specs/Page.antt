@@ -3,7 +3,7 @@ use Rattle.std.specs.Prelude.{ℕ, ◌<◌, ◌≤◌, ◌≡◌, true, cond, �
 use mathlib.Core.List.{List, [], ◌∷◌, ◌++◌, flat_map}
 use Rattle.words.specs.Words.{words}
 use Rattle.words.specs.Front.{put_front}
-use Rattle.heads.specs.Got.{Got, ok, is_ok, many}
+use Rattle.heads.specs.Got.{ok, is_ok, many}
 use Rattle.heads.specs.Answer.{tables}
 use Rattle.expr.specs.Tree.{Expr}
 use Rattle.expr.specs.Read.{reader}

@@ -1,4 +1,6 @@
 // The conditions of a sheet on a page, a line each: the predicates of WHERE and the filters of WITH in sheet order, with the fewest brackets.
+#![tactic(auto)]
+
 mod lines;
 
 ghost use Rattle.std.specs.Prelude.{◌≡◌, ◌≤◌, length};

@@ -3,13 +3,13 @@
 use Prim.Native.Nat.{ℕ, zero, suc, ◌+◌, ◌-◌, ◌<◌, ◌≤◌}
 use native.Mathlib.Omega.{arith}
 use mathlib.Core.Path.{◌≡◌, refl, sym, ap, ◌∙◌}
-use mathlib.Core.Bool.{Bool, true, false}
-use mathlib.Core.List.{List, [], ◌∷◌, ◌++◌}
+use mathlib.Core.Bool.{true}
+use mathlib.Core.List.{List, [], ◌++◌}
 use lib.ListN.{length, get_or, drop, length-append}
 use lib.Seq.{get_or-drop}
 use Rattle.heads.specs.Got.{Got, ok, no, is_ok, bare, bind, word_in, any_word}
 use Rattle.heads.specs.Head.{Tables}
-use Rattle.heads.specs.Form.{form_words, read_form, rest_of, shape_of, limit_of, form_none, form_one}
+use Rattle.heads.specs.Form.{form_words, read_form, rest_of, shape_of, limit_of, form_one}
 use Rattle.heads.specs.declared.Form.{Form}
 use Rattle.heads.specs.declared.Form.TheVariants.{Leaf, Var, Unresolved, Prop, Two as Form-Two, Slice, Many, BinOp, UnaryOp, Case, IsNull, PatternPredicate, ListComprehension, PatternComprehension, ListPredicate, MapProjection}
 use Rattle.expr.specs.Tree.{Expr, var, unresolved, node, predicate, comprehension, Exprs, done, more, tree}
@@ -18,8 +18,8 @@ use Rattle.expr.specs.Write.{write_e}
 use Rattle.expr.specs.Well.{WellE}
 use Rattle.expr.proofs.Accepted.{refused, ok-left, ok-inverse, word-there, room-left, expr-is}
 use Rattle.expr.proofs.Written.{written}
-use Rattle.condition.specs.Cond.{Cond, atom, unary, binary}
-use Rattle.condition_text.specs.Tree.{cond_e, cond_es}
+use Rattle.condition.specs.Cond.{atom, unary, binary}
+use Rattle.condition_text.specs.Tree.{cond_e}
 
 -- a head of a code after which one word stands
 module _ (ws : List ℕ) (at names : ℕ) (f : Form) (r : List ℕ) (e : read_form names (drop at ws) ≡ ok f r) where

@@ -3,20 +3,20 @@ use Prim.Native.Nat.{ℕ, suc, ◌+◌, ◌-◌, ◌<◌, ◌≤◌}
 use native.Mathlib.Omega.{arith}
 use mathlib.Core.Path.{◌≡◌, refl, sym, ap, ◌∙◌}
 use mathlib.Core.Bool.{Bool, true, false}
-use mathlib.Core.List.{List, [], ◌∷◌, ◌++◌, append_assoc, append-nil}
+use mathlib.Core.List.{List, [], ◌++◌, append_assoc, append-nil}
 use lib.Dec.{leb, ltb}
 use lib.ListN.{length, get_or, drop, length-append, length-drop}
 use borrow.Author.Tests.{leb-true}
 use Rattle.words.proofs.Digits.{length-decimal, width-le}
-use Rattle.heads.specs.Got.{Got, ok, no, is_ok, bare}
+use Rattle.heads.specs.Got.{Got, ok, no, bare}
 use Rattle.heads.specs.Answer.{tables}
 use Rattle.expr.specs.Tree.{Expr}
 use Rattle.expr.specs.Read.{reader}
 use Rattle.expr.specs.Write.{write_e}
-use Rattle.expr.proofs.Accepted.{ok-inverse, inverse}
+use Rattle.expr.proofs.Accepted.{ok-inverse}
 use Rattle.expr.proofs.Written.{written}
 use Rattle.flat.proofs.Few.{a_word}
-use Rattle.condition.specs.Cond.{Cond, atom, unary, binary, binary_level, unary_level, left_level, binary_sign, unary_sign, atom_text}
+use Rattle.condition.specs.Cond.{Cond, unary, binary, binary_level, unary_level, left_level, binary_sign, unary_sign, atom_text}
 use Rattle.condition.specs.Printed.{wrap, printed}
 use Rattle.condition.proofs.Tables.{all-below}
 use Rattle.condition_text.specs.Over.{maybe_byte}
@@ -24,7 +24,7 @@ use Rattle.condition_text.specs.Tree.{cond_e, printed_at}
 use Rattle.condition_text.specs.Skip.{Skips}
 use Rattle.condition_text.specs.Write.{Wrote, Ready, Put}
 use Rattle.condition_text.proofs.OperandsAt.{BinaryAt, UnaryAt, binary-at, unary-at, atom-at}
-use Rattle.condition_text.proofs.Stages.{Stage, begin, piece, part, put}
+use Rattle.condition_text.proofs.Stages.{Stage, begin, piece, put}
 
 -- how long pieces are
 pub byte-short : (b : Bool) (x : ℕ) → length (maybe_byte b x) ≤ 1

@@ -19,7 +19,7 @@ use Rattle.condition.specs.Printed.{printed}
 use Rattle.condition.specs.Written.{Reads}
 use Rattle.condition.proofs.Reading.{reads-back}
 use Rattle.condition_text.specs.Tree.{cond_e}
-use Rattle.condition_text.proofs.OperandsAt.{BinaryAt, UnaryAt, binary-at, unary-at, atom-at}
+use Rattle.condition_text.proofs.OperandsAt.{binary-at, unary-at, atom-at}
 
 -- what is left after some words
 rest-is : (ws : List ℕ) (at : ℕ) (u r : List ℕ) → drop at ws ≡ u ++ r → r ≡ drop (at + length u) ws

@@ -1,4 +1,6 @@
 // The text of a condition with the fewest brackets, written over the sheet's words in place.
+#![tactic(auto)]
+
 mod operands;
 mod pieces;
 mod writing;
