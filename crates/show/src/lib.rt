@@ -4,7 +4,7 @@
 mod lists;
 mod page;
 
-ghost use Rattle.std.specs.Prelude.{OnOk};
+ghost use Rattle.std.specs.Prelude.{◌≡◌, false, take, IfSome, OnOk};
 ghost use Rattle.std.specs.Io.KnownBytes.{Appends};
 ghost use Rattle.show.specs.Printed.{printed};
 
@@ -32,7 +32,10 @@ pub fn show<W: Write>(out: &mut W, s: &[u8]) -> io::Result<()> {
 
 // The sheet on a reader: its listing, and its lists too if they are asked for. There is room for one byte more than a sheet may have, so
 // that a longer input is too long.
-pub fn show_input<R: Read, W: Write>(input: &mut R, out: &mut W, lists: bool) -> io::Result<()> {
+pub fn show_input<R: Read, W: Write>(input: &mut R, out: &mut W, lists: bool) -> io::Result<()>
+    ensures { lists ≡ false → OnOk result (IfSome (R.remaining input.old)
+        (λ xs. Appends (W.contents out.old) (W.contents out.new) (printed (take 8193 xs)))) }
+{
     let mut room = [0u8; 8193];
     let n = read_full(input, &mut room)?;
     if lists {
