@@ -1,5 +1,7 @@
 // One entry more in a lent flat list: a carried name as the last, and a binding or an answer where the first making gives the place and the
 // last one the value.
+#![tactic(auto)]
+
 ghost use Rattle.std.specs.Prelude.{◌≡◌, true, [], ◌∷◌, ◌+◌, ◌*◌, ◌≤◌, eqb, length};
 ghost use Rattle.std.proofs.lemmas.List.Edits.{sets};
 ghost use Rattle.scope.specs.Flat.{bindings_of};

@@ -1,3 +1,1 @@
 pub mod Storing
-pub mod Again
-pub mod Turns

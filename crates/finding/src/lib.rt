@@ -1,4 +1,6 @@
 // Finding records, and the thin functions that store them into a lent list and read them from it.
+#![tactic(auto)]
+
 ghost use Rattle.std.specs.Prelude.{◌≡◌, ◌+◌, ◌*◌, ◌<◌, ◌≤◌, length, set};
 ghost use Rattle.std.proofs.lemmas.List.Edits.{sets};
 ghost use Rattle.finding.specs.Records.{nth, record_at, words_of, into, out_of};

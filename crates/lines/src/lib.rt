@@ -1,4 +1,6 @@
 // The lines of a listing. They are measured before the first byte is written.
+#![tactic(auto)]
+
 ghost use Rattle.std.specs.Prelude.{◌≡◌, ◌+◌, ◌*◌, ◌<◌, ◌≤◌, length, take};
 ghost use mathlib.Core.List.{◌++◌, flat_map};
 ghost use Rattle.words.specs.Decimal.{width, decimal};

@@ -1,4 +1,6 @@
 // The message call: the text of a finding at the front of lent bytes, or a refusal (1 to 3, 9, 10), which alters none of them.
+#![tactic(auto)]
+
 mod pushes;
 
 ghost use Rattle.std.specs.Prelude.{◌≡◌, ◌≤◌, length};

@@ -1,15 +1,15 @@
 -- Texts laid one after the other: what is laid first, then what follows where it ended, is both of them; and from the front on, it is put.
 use Prim.Native.Nat.{ℕ, zero, suc, ◌+◌, ◌-◌, ◌/◌, ◌%◌, ◌<◌, ◌≤◌}
-use native.Mathlib.Nat.{add-zero, add-suc, suc-add, zero-add}
+use native.Mathlib.Nat.{add-zero, zero-add}
 use native.Mathlib.Numerals.{add-one}
 use native.Mathlib.Omega.{arith}
 use mathlib.Core.Path.{◌≡◌, refl, ap, sym, ◌∙◌}
 use mathlib.Core.List.{List, [], ◌∷◌, ◌++◌, append-nil, append_assoc}
-use lib.ListN.{length, get_or, set, take, drop, length-append, length-drop, length-take}
+use lib.ListN.{length, get_or, set, drop, length-append, length-drop}
 use lib.Seq.{sets, length-sets, sets-eq, drop-cons, take-length, drop-length, drop-drop}
 use Rattle.texts.specs.Over.{over, Puts}
 use Rattle.texts.specs.Laid.{laid, little, Lays}
-use Rattle.texts.proofs.Laying.{rest, back, then-puts}
+use Rattle.texts.proofs.Laying.{rest, back}
 
 pub length-laid : (page : List ℕ) (at : ℕ) (text : List ℕ) → length (laid page at text) ≡ length page
 unfolding laid

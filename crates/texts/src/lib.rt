@@ -1,4 +1,6 @@
 // The texts of the findings, written at the front of lent bytes, piece by piece: no array holds a text in between.
+#![tactic(auto)]
+
 mod codes;
 mod measure;
 mod pieces;
