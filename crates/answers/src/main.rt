@@ -1,66 +1,76 @@
 // A row of sheets on standard input, each after its byte length as a little-endian word: the lists of each, warnings on, or its refusal.
 // A function answers false where the row ends early.
-use libc::STDIN_FILENO;
+#![tactic(auto)]
+
+use std::io;
+use std::io::{Read, Write};
+use streams::read_full;
 
 // Reads past at most 1,024 bytes.
-fn skip_some(n: usize) -> bool {
+fn skip_some<R: Read>(input: &mut R, n: usize) -> io::Result<bool> {
     let mut room = [0u8; 1024];
     if 1024 < n {
-        return false;
+        return Ok(false);
     }
-    io::read_full(STDIN_FILENO, &mut room[0..n]) == n
+    Ok(read_full(input, &mut room[0..n])? == n)
 }
 
 // Reads past n bytes.
-fn skip(n: usize) -> bool {
+fn skip<R: Read>(input: &mut R, n: usize) -> io::Result<bool> {
     let mut left = n;
     while 1024 < left {
-        if !skip_some(1024) {
-            return false;
+        if !skip_some(input, 1024)? {
+            return Ok(false);
         }
         left -= 1024;
     }
-    skip_some(left)
+    skip_some(input, left)
 }
 
 // A sheet of n bytes, for which room is long enough.
-fn short_sheet(n: usize, room: &mut [u8]) -> bool {
+fn short_sheet<R: Read, W: Write>(
+    input: &mut R,
+    out: &mut W,
+    n: usize,
+    room: &mut [u8],
+) -> io::Result<bool> {
     if room.len() < n {
-        return false;
+        return Ok(false);
     }
-    if io::read_full(STDIN_FILENO, &mut room[0..n]) < n {
-        return false;
+    if read_full(input, &mut room[0..n])? < n {
+        return Ok(false);
     }
-    show::show(&room[0..n]);
-    true
+    show::show(out, &room[0..n])?;
+    Ok(true)
 }
 
 // A sheet of n bytes. The front of a longer one is refused 1 as the whole is.
-fn sheet(n: usize) -> bool {
+fn sheet<R: Read, W: Write>(input: &mut R, out: &mut W, n: usize) -> io::Result<bool> {
     let mut room = [0u8; 8193];
     if n <= 8193 {
-        return short_sheet(n, &mut room);
+        return short_sheet(input, out, n, &mut room);
     }
-    if !short_sheet(8193, &mut room) {
-        return false;
+    if !short_sheet(input, out, 8193, &mut room)? {
+        return Ok(false);
     }
-    skip(n - 8193)
+    skip(input, n - 8193)
 }
 
-fn one() -> bool {
+fn one<R: Read, W: Write>(input: &mut R, out: &mut W) -> io::Result<bool> {
     let mut front = [0u8; 4];
-    if io::read_full(STDIN_FILENO, &mut front) < 4 {
-        return false;
+    if read_full(input, &mut front)? < 4 {
+        return Ok(false);
     }
-    sheet(words::word(&front, 0) as usize)
+    sheet(input, out, words::word(&front, 0) as usize)
 }
 
-fn main() {
-    let mut turns: u32 = 4294967295;
-    while 0 < turns {
-        if !one() {
-            return;
+fn main(rt: HostRuntime) -> io::Result<()> {
+    let mut input = rt.stdin();
+    let mut out = rt.stdout();
+    for _ in 0..4294967295u32 {
+        if !one(&mut input, &mut out)? {
+            return Ok(());
         }
-        turns -= 1;
     }
+    Ok(())
 }

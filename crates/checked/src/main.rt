@@ -1,14 +1,17 @@
 // A sheet on standard input, and the check call that fills a list of finding records, warnings on. Of a list of 2,048 marker records
 // the call is lent as many as the sheet has words, and then one fewer. Each time: the records, or the refusal, and how many entries past
 // their count are still the marker.
+#![tactic(auto)]
+
 ghost use Rattle.std.specs.Prelude.{◌≤◌, length};
 ghost use Rattle.checked.specs.Ran.{lent, Ran};
 
 use checker::{Checked, findings_in};
 use finding::{Finding, load_all};
-use libc::{STDIN_FILENO, STDOUT_FILENO};
 use records::check;
 use show::show_records;
+use std::io;
+use std::io::Write;
 
 // A word of the marker record, which is no finding's code.
 const MARK: u32 = 7;
@@ -74,14 +77,14 @@ fn markers(flat: &[u32], from: usize) -> usize {
     n
 }
 
-fn line(name: &[u8], n: u64) {
-    io::write_all(STDOUT_FILENO, name);
-    io::print_decimal(STDOUT_FILENO, n);
-    io::write_all(STDOUT_FILENO, b"\n");
+fn line<W: Write>(out: &mut W, name: &[u8], n: u64) -> io::Result<()> {
+    out.write_all(name)?;
+    streams::print_decimal(out, n)?;
+    out.write_all(b"\n")
 }
 
 // A check call with a list of n records.
-fn report(s: &[u8], n: usize)
+fn report<W: Write>(out: &mut W, s: &[u8], n: usize) -> io::Result<()>
     requires { n ≤ 2048 }
 {
     let mut scopes = [0u32; 8192];
@@ -108,18 +111,19 @@ fn report(s: &[u8], n: usize)
         &mut flat,
     );
     match c {
-        Checked::Is(k) => show_records(&flat, k.findings),
-        Checked::Refused(cause) => line(b"refused ", cause as u64),
+        Checked::Is(k) => show_records(out, &flat, k.findings)?,
+        Checked::Refused(cause) => line(out, b"refused ", cause as u64)?,
     }
-    line(b"untouched ", markers(&flat, findings_in(c)) as u64);
+    line(out, b"untouched ", markers(&flat, findings_in(c)) as u64)
 }
 
-fn main() {
+fn main(rt: HostRuntime) -> io::Result<()> {
     let mut room = [0u8; 8193];
-    let n = io::read_full(STDIN_FILENO, &mut room);
-    report(&room[0..n], n / 4);
+    let n = streams::read_full(&mut rt.stdin(), &mut room)?;
+    let mut out = rt.stdout();
+    report(&mut out, &room[0..n], n / 4)?;
     if n < 4 {
-        return;
+        return Ok(());
     }
-    report(&room[0..n], n / 4 - 1);
+    report(&mut out, &room[0..n], n / 4 - 1)
 }

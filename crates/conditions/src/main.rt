@@ -1,24 +1,25 @@
 // A sheet on standard input: its conditions, one a line, or `refused` and the refusal's number. More than 8,192 bytes are refused 1.
+#![tactic(auto)]
+
 use condition_printer::Shown;
-use libc::{STDIN_FILENO, STDOUT_FILENO};
+use std::io;
+use std::io::Write;
 
 // The page has 15 bytes for each word of the longest sheet, which no text exceeds.
-fn show(s: &[u8]) {
+fn show<W: Write>(out: &mut W, s: &[u8]) -> io::Result<()> {
     let mut page = [0u8; 30720];
     match condition_printer::conditions(s, &mut page) {
-        Shown::Bytes(n) => {
-            io::write_all(STDOUT_FILENO, &page[0..n]);
-        }
+        Shown::Bytes(n) => out.write_all(&page[0..n]),
         Shown::Refused(c) => {
-            io::write_all(STDOUT_FILENO, b"refused ");
-            io::print_decimal(STDOUT_FILENO, c as u64);
-            io::write_all(STDOUT_FILENO, b"\n");
+            out.write_all(b"refused ")?;
+            streams::print_decimal(out, c as u64)?;
+            out.write_all(b"\n")
         }
     }
 }
 
-fn main() {
+fn main(rt: HostRuntime) -> io::Result<()> {
     let mut room = [0u8; 8193];
-    let n = io::read_full(STDIN_FILENO, &mut room);
-    show(&room[0..n]);
+    let n = streams::read_full(&mut rt.stdin(), &mut room)?;
+    show(&mut rt.stdout(), &room[0..n])
 }

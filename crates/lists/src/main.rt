@@ -1,4 +1,8 @@
 // A sheet on standard input: its listing and its lists, warnings on, or its refusal. More than 8,192 bytes are refused 1.
-fn main() {
-    show::show_input(true);
+#![tactic(auto)]
+
+use std::io;
+
+fn main(rt: HostRuntime) -> io::Result<()> {
+    show::show_input(&mut rt.stdin(), &mut rt.stdout(), true)
 }

@@ -1,13 +1,16 @@
 // A sheet on standard input: the message or the refusal of every code, name and detail in a range, a line each. After a message stand the
 // answers for a page that it fills and for one a byte shorter: 0, or the refusal's number.
-use libc::{STDIN_FILENO, STDOUT_FILENO};
+#![tactic(auto)]
+
 use message::message;
+use std::io;
+use std::io::Write;
 use texts::Written;
 
 const CODES: [u32; 9] = [1000, 1001, 1002, 2007, 2008, 2011, 5010, 5011, 5012];
 
 // What a message is asked for.
-#[derive(Drop)]
+#[derive(Clone, Copy)]
 struct Question {
     code: u32,
     name: u32,
@@ -15,13 +18,9 @@ struct Question {
     two: u32,
 }
 
-fn text(t: &[u8]) {
-    io::write_all(STDOUT_FILENO, t);
-}
-
-fn field(n: u32, after: &[u8]) {
-    io::print_decimal(STDOUT_FILENO, n as u64);
-    text(after);
+fn field<W: Write>(out: &mut W, n: u32, after: &[u8]) -> io::Result<()> {
+    streams::print_decimal(out, n as u64)?;
+    out.write_all(after)
 }
 
 // 0, or the refusal's number.
@@ -33,32 +32,38 @@ fn cause(s: &[u8], a: Question, page: &mut [u8]) -> u32 {
 }
 
 // The answers for a page of n bytes, and for one a byte shorter.
-fn tight(s: &[u8], a: Question, n: usize, page: &mut [u8]) {
+fn tight<W: Write>(
+    out: &mut W,
+    s: &[u8],
+    a: Question,
+    n: usize,
+    page: &mut [u8],
+) -> io::Result<()> {
     if n == 0 {
-        return;
+        return Ok(());
     }
     if page.len() < n {
-        return;
+        return Ok(());
     }
-    field(cause(s, a, &mut page[0..n]), b" ");
-    field(cause(s, a, &mut page[0..n - 1]), b"\n");
+    field(out, cause(s, a, &mut page[0..n]), b" ")?;
+    field(out, cause(s, a, &mut page[0..n - 1]), b"\n")
 }
 
-fn line(s: &[u8], a: Question) {
+fn line<W: Write>(out: &mut W, s: &[u8], a: Question) -> io::Result<()> {
     let mut page = [0u8; 512];
-    field(a.code, b" ");
-    field(a.name, b" ");
-    field(a.one, b" ");
-    field(a.two, b" ");
+    field(out, a.code, b" ")?;
+    field(out, a.name, b" ")?;
+    field(out, a.one, b" ")?;
+    field(out, a.two, b" ")?;
     match message(s, a.code, a.name, a.one, a.two, &mut page) {
         Written::Bytes(n) => {
-            text(&page[0..n]);
-            text(b" ");
-            tight(s, a, n, &mut page);
+            out.write_all(&page[0..n])?;
+            out.write_all(b" ")?;
+            tight(out, s, a, n, &mut page)
         }
         Written::Refused(c) => {
-            text(b"refused ");
-            field(c, b"\n");
+            out.write_all(b"refused ")?;
+            field(out, c, b"\n")
         }
     }
 }
@@ -73,12 +78,12 @@ fn nth(k: usize) -> Question {
     }
 }
 
-fn main() {
+fn main(rt: HostRuntime) -> io::Result<()> {
     let mut room = [0u8; 8193];
-    let n = io::read_full(STDIN_FILENO, &mut room);
-    let mut k = 0;
-    while k < 2160 {
-        line(&room[0..n], nth(k));
-        k += 1;
+    let n = streams::read_full(&mut rt.stdin(), &mut room)?;
+    let mut out = rt.stdout();
+    for k in 0..2160usize {
+        line(&mut out, &room[0..n], nth(k))?;
     }
+    Ok(())
 }

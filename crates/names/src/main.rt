@@ -1,33 +1,32 @@
 // A sheet on standard input: its names by their index, a line each, up to the first index that is refused; then that refusal.
-use libc::{STDIN_FILENO, STDOUT_FILENO};
-use sheet::{check_name, name_text};
+#![tactic(auto)]
 
-fn text(t: &[u8]) {
-    io::write_all(STDOUT_FILENO, t);
-}
+use sheet::{check_name, name_text};
+use std::io;
+use std::io::Write;
 
 // The name with the index i, or its refusal; whether there is one.
-fn line(s: &[u8], i: u32) -> bool {
+fn line<W: Write>(out: &mut W, s: &[u8], i: u32) -> io::Result<bool> {
     let c = check_name(s, i);
     if c != 0 {
-        text(b"refused ");
-        io::print_decimal(STDOUT_FILENO, c as u64);
-        text(b"\n");
-        return false;
+        out.write_all(b"refused ")?;
+        streams::print_decimal(out, c as u64)?;
+        out.write_all(b"\n")?;
+        return Ok(false);
     }
-    text(name_text(s, i));
-    text(b"\n");
-    true
+    out.write_all(name_text(s, i))?;
+    out.write_all(b"\n")?;
+    Ok(true)
 }
 
-fn main() {
+fn main(rt: HostRuntime) -> io::Result<()> {
     let mut room = [0u8; 8193];
-    let n = io::read_full(STDIN_FILENO, &mut room);
-    let mut i: u32 = 0;
-    while i < 2048 {
-        if !line(&room[0..n], i) {
-            return;
+    let n = streams::read_full(&mut rt.stdin(), &mut room)?;
+    let mut out = rt.stdout();
+    for i in 0..2048u32 {
+        if !line(&mut out, &room[0..n], i)? {
+            return Ok(());
         }
-        i += 1;
     }
+    Ok(())
 }

@@ -1,10 +1,13 @@
 // A row of sheets on standard input, each after its byte length as a little-endian word. A line each: the refusal's number, or 0.
-use libc::{STDIN_FILENO, STDOUT_FILENO};
-use sheet::Opened;
+#![tactic(auto)]
 
-fn print_line(c: u32) {
-    io::print_decimal(STDOUT_FILENO, c as u64);
-    io::write_all(STDOUT_FILENO, b"\n");
+use sheet::Opened;
+use std::io;
+use std::io::{Read, Write};
+
+fn print_line<W: Write>(out: &mut W, c: u32) -> io::Result<()> {
+    streams::print_decimal(out, c as u64)?;
+    out.write_all(b"\n")
 }
 
 // The refusal of a sheet, or 0.
@@ -16,58 +19,65 @@ fn refusal(s: &[u8]) -> u32 {
 }
 
 // Reads n bytes into the front of room, or as many as there are; 0 where room is too short.
-fn read_some(n: usize, room: &mut [u8]) -> usize {
+fn read_some<R: Read>(input: &mut R, n: usize, room: &mut [u8]) -> io::Result<usize> {
     if room.len() < n {
-        return 0;
+        return Ok(0);
     }
-    io::read_full(STDIN_FILENO, &mut room[0..n])
+    streams::read_full(input, &mut room[0..n])
 }
 
 // Reads past n bytes, room's length at a time.
-fn skip(n: usize, room: &mut [u8]) {
+fn skip<R: Read>(input: &mut R, n: usize, room: &mut [u8]) -> io::Result<()> {
     let mut left = n;
     while room.len() < left {
         let k = room.len();
-        if read_some(k, room) < k {
-            return;
+        if read_some(input, k, room)? < k {
+            return Ok(());
         }
         if k == 0 {
-            return;
+            return Ok(());
         }
         left -= k;
     }
-    read_some(left, room);
+    read_some(input, left, room)?;
+    Ok(())
 }
 
 // A sheet of n bytes; one that is longer than room is too long for a sheet. False where the bytes aren't there.
-fn sheet_line(n: usize, room: &mut [u8]) -> bool {
+fn sheet_line<R: Read, W: Write>(
+    input: &mut R,
+    out: &mut W,
+    n: usize,
+    room: &mut [u8],
+) -> io::Result<bool> {
     if room.len() < n {
-        skip(n, room);
-        print_line(1);
-        return true;
+        skip(input, n, room)?;
+        print_line(out, 1)?;
+        return Ok(true);
     }
-    if read_some(n, room) < n {
-        return false;
+    if read_some(input, n, room)? < n {
+        return Ok(false);
     }
-    print_line(refusal(&room[0..n]));
-    true
+    print_line(out, refusal(&room[0..n]))?;
+    Ok(true)
 }
 
-fn one() -> bool {
+fn one<R: Read, W: Write>(input: &mut R, out: &mut W) -> io::Result<bool> {
     let mut front = [0u8; 4];
-    if io::read_full(STDIN_FILENO, &mut front) < 4 {
-        return false;
+    if streams::read_full(input, &mut front)? < 4 {
+        return Ok(false);
     }
     let mut room = [0u8; 8192];
-    sheet_line(words::word(&front, 0) as usize, &mut room)
+    sheet_line(input, out, words::word(&front, 0) as usize, &mut room)
 }
 
-fn main() {
-    let mut turns: u32 = 4294967295;
-    while 0 < turns {
-        if !one() {
-            return;
+fn main(rt: HostRuntime) -> io::Result<()> {
+    let mut input = rt.stdin();
+    let mut out = rt.stdout();
+    for _ in 0..4294967295u32 {
+        if !one(&mut input, &mut out)? {
+            return Ok(());
         }
-        turns -= 1;
     }
+    Ok(())
 }

@@ -1,33 +1,45 @@
-// A sheet's answers as text on standard output: its listing, and its lists after that.
+// A sheet's answers as text on a writer: its listing, and its lists after that.
+#![tactic(auto)]
+
 mod lists;
 mod page;
 
-use libc::STDIN_FILENO;
+ghost use Rattle.std.specs.Prelude.{◌≡◌, false, take, IfSome, OnOk};
+ghost use Rattle.std.specs.Io.KnownBytes.{Appends};
+ghost use Rattle.show.specs.Printed.{printed};
+
+use lists::show_lists;
 pub use lists::show_records;
-use lists::{show_lists, text};
 use page::print_sheet;
+use std::io;
+use std::io::{Read, Write};
+use streams::read_full;
 
 // The listing of a sheet, warnings on, or `refused` and the refusal's number.
-pub fn show_listing(s: &[u8]) {
+pub fn show_listing<W: Write>(out: &mut W, s: &[u8]) -> io::Result<()>
+    ensures { OnOk result (Appends (W.contents out.old) (W.contents out.new) (printed s.now)) }
+{
     let mut page = [0u8; 65536];
     let n = print_sheet(s, &mut page);
-    text(&page[0..n]);
+    out.write_all(&page[0..n])
 }
 
 // The listing, then the lists, also where only the listing doesn't fit its page.
-pub fn show(s: &[u8]) {
-    show_listing(s);
-    show_lists(s);
+pub fn show<W: Write>(out: &mut W, s: &[u8]) -> io::Result<()> {
+    show_listing(out, s)?;
+    show_lists(out, s)
 }
 
-// The sheet on standard input: its listing, and its lists too if they are asked for. There is room for one byte more than a sheet may
-// have, so that a longer input is too long.
-pub fn show_input(lists: bool) {
+// The sheet on a reader: its listing, and its lists too if they are asked for. There is room for one byte more than a sheet may have, so
+// that a longer input is too long.
+pub fn show_input<R: Read, W: Write>(input: &mut R, out: &mut W, lists: bool) -> io::Result<()>
+    ensures { lists ≡ false → OnOk result (IfSome (R.remaining input.old)
+        (λ xs. Appends (W.contents out.old) (W.contents out.new) (printed (take 8193 xs)))) }
+{
     let mut room = [0u8; 8193];
-    let n = io::read_full(STDIN_FILENO, &mut room);
+    let n = read_full(input, &mut room)?;
     if lists {
-        show(&room[0..n]);
-        return;
+        return show(out, &room[0..n]);
     }
-    show_listing(&room[0..n]);
+    show_listing(out, &room[0..n])
 }

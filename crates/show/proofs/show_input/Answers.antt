@@ -1,0 +1,20 @@
+-- What was read is the front of what the reader had, so its listing is printed.
+use Rattle.std.proofs.Common.{◌≡◌, ℕ, ◌-◌, List, length, take, Result, Ok, Err, None, Some, OnOk, IfSome, arith, sym, ap, subst, ◌∙◌}
+use Rattle.std.specs.Io.KnownBytes.{Appends}
+use Rattle.std.specs.declared.option.Option.{Option}
+use Rattle.show.specs.Printed.{printed}
+use Rattle.show.proofs.show_input.Goals as goal
+
+read_front : {E : Type 0} (r : Result (Unit {0}) E) (known : Option (List ℕ)) (Q : List ℕ → Type 0) {s t : List ℕ} {k n : ℕ}
+    → IfSome known (λ xs. s ≡ take k xs) → k ≡ n → t ≡ s → OnOk r (Q t) → OnOk r (IfSome known (λ xs. Q (take n xs)))
+read_front (Err e) known Q f k t q = tt
+read_front (Ok u) None Q f k t q = tt
+read_front (Ok u) (Some xs) Q f k t q = subst Q (t ∙ f ∙ ap (λ m. take m xs) k) q
+
+pub returns : goal.returns
+returns g c =
+    let n = c.in_ok-n.n in
+    let same : n - 0 ≡ n = omega arith in
+    λ no. read_front c.show_listing.result (g.R.Read.remaining c.args.input.now)
+        (λ s. Appends (g.W.Write.contents c.args.out.now) (g.W.Write.contents c.show_listing.new.out) (printed s))
+        c.in_ok-n.ensures.front c.read_full.auto.room (ap (λ m. take m c.read_full.new.room) same) c.show_listing.ensures
