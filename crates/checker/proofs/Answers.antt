@@ -21,7 +21,6 @@ use Rattle.sheet.proofs.Placing.{too_long}
 use Rattle.semantics.specs.Log.{Event, Bound, Finding, scopes_in, answers_in, finds_in}
 use Rattle.semantics.specs.World.{kind_of, world_of}
 use Rattle.semantics.specs.Resolve.{log}
-use Rattle.semantics.specs.Kinds.{kinds}
 use Rattle.semantics.specs.Lists.{puts, notes, scopes, bindings, carried_list, recorded, findings}
 use Rattle.theorems.specs.Woven.{written, woven}
 use Rattle.theorems.proofs.Woven.{scopes-written, answers-written, finds-written, woven-log}
@@ -31,7 +30,7 @@ use Rattle.entries.specs.Adding.{Holds}
 use Rattle.entries.proofs.Filling.{length-flat, length-filled, sized-carried}
 use Rattle.sheet_walk.specs.Runs.{Scratch, Sized}
 use Rattle.lists_fill.specs.Said.{id_in, events_in, told_in}
-use Rattle.lists_fill.specs.Weaving.{kind_in, woven_in}
+use Rattle.lists_fill.specs.Weaving.{woven_in}
 use Rattle.checker.specs.Checked.{Lent, lent, counts_of, filled_by, answer, left, fits, answer_in, left_in, Answers}
 use Rattle.checker.specs.Filling.{fitting, uses_in, Fitting, Filling, Again}
 use Rattle.checker.specs.declared.Counts.{Counts}

@@ -7,7 +7,6 @@ use Rattle.sheet.specs.Read.{accepted, read_sheet}
 use Rattle.semantics.specs.Log.{scopes_in, answers_in, finds_in}
 use Rattle.semantics.specs.Lists.{notes}
 use Rattle.finding.specs.Flat.{finding_words}
-use Rattle.sheet_walk.specs.Runs.{Scratch}
 use Rattle.entries.specs.Filled.{scope_words, binding_words, recorded_words}
 use Rattle.entries.specs.Adding.{Holds}
 use Rattle.lists_fill.specs.Said.{events_in, told_in}

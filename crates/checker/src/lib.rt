@@ -2,6 +2,8 @@
 // which alters none of them. Lists are flat words, an entry each: scopes 4 (kind, parent + 1 or 0, start, end), bindings 6 (scope, name,
 // variable, kind, 1 if it replaced one, the variable replaced or 0), carried 3 (barrier, name, variable), recorded 5 (use id, 1 found or 0
 // unresolved, variable, kind, via_projection), findings 6 (code, start, end, name + 1 or 0, two details).
+#![tactic(auto)]
+
 ghost use Rattle.std.specs.Prelude.{◌≡◌, true, ◌≤◌, length, take};
 ghost use Rattle.words.specs.Words.{words};
 ghost use Rattle.sheet_walk.specs.Runs.{warns_by, wants_by, Scratch};

@@ -1,5 +1,5 @@
 -- The loop's invariant: the first i words are copied.
-use Prim.Native.Nat.{ℕ, suc, ◌+◌, ◌-◌, ◌<◌, ◌≤◌}
+use Prim.Native.Nat.{ℕ, suc, ◌+◌, ◌<◌, ◌≤◌}
 use native.Mathlib.Numerals.{add-one}
 use native.Mathlib.Omega.{arith}
 use mathlib.Core.Path.{◌≡◌, refl, sym, ◌∙◌, ap}
@@ -8,8 +8,7 @@ use lib.ListN.{length, get_or, take, drop, set, length-set}
 use lib.Seq.{length-take-le, take-suc, drop-cons, set_at}
 use Rattle.entries.specs.Filled.{filled}
 use Rattle.entries.proofs.Filling.{filled-nil}
-use Rattle.checker.proofs.copy.Statement.{statement}
-use Rattle.checker.proofs.copy.Tie as tie
+use Rattle.checker.proofs.copy.Goals as goal
 
 copied_more : (old from : List ℕ) {to : List ℕ} {i : ℕ} → to ≡ filled old (take i from) → i < length from → i < length old → set to i (get_or from i 0) ≡ filled old (take (i + 1) from)
 unfolding filled
@@ -23,25 +22,14 @@ copied_more old from {to} {i} e h g =
 all-copied : (old from : List ℕ) {to : List ℕ} (i n : ℕ) → to ≡ filled old (take i from) → i ≤ n → n ≤ i → to ≡ filled old (take n from)
 all-copied old from i n e h g = let same : i ≡ n = omega arith in rw same at e
 
-abbrev invariant-loop : tie.invariant-loop
-invariant-loop from n to₀ i₀ to i = (i ≤ n) × (length to ≡ length to₀) × (to ≡ filled to₀ (take i from))
+pub loop-i-init : goal.loop-i-init
+loop-i-init c =
+    (omega arith, refl, sym (filled-nil _))
 
-abbrev decreases-loop : tie.decreases-loop
-decreases-loop from n to₀ i₀ to i = n - i
+pub loop-i-preserved : goal.loop-i-preserved
+loop-i-preserved c =
+    let z = c.loop-i.invariant in (omega arith, simp length-set z.1, copied_more _ _ z.2 (omega arith) (omega arith))
 
-pub copy_spec : {M : Type 1} → statement M
-copy_spec =
-    tie.close
-    (tie.spec
-    invariant-loop
-    decreases-loop
-    (λ c. (omega arith, refl, sym (filled-nil _)))  -- loop-holds
-    (λ c. omega arith)  -- mul-to
-    (λ c. omega arith)  -- shared-slice-read-to
-    (λ c. omega arith)  -- mul-to-2
-    (λ c. omega arith)  -- slice-write-to
-    (λ c. omega arith)  -- add-i
-    (λ c. omega arith)  -- loop-less
-    (λ c. let z = c.before.before.loop.invariant in (omega arith, simp length-set z.1, copied_more _ _ z.2 (omega arith) (omega arith)))  -- loop-again
-    (λ c. c.before.loop.invariant.1)  -- same-length
-    (λ c. let l = c.before in let a = l.before.args in all-copied a.to.now a.from.now l.loop.i a.n l.loop.invariant.2 (omega arith) (omega arith)))  -- returns
+pub returns : goal.returns
+returns c =
+    let a = c.args in all-copied a.to.now a.from.now c.loop-i.i a.n c.loop-i.invariant.2 (omega arith) (omega arith)
