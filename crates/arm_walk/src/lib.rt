@@ -1,4 +1,6 @@
 // The clauses of a head and the arms, one after the other. What a WITH carries is stored into the carried list behind it, where that has room.
+#![tactic(auto)]
+
 ghost use Rattle.std.specs.Prelude.{◌≡◌, ◌≤◌, length};
 ghost use Rattle.words.specs.Words.{words};
 ghost use Rattle.visible.specs.Visible.{Tabled};

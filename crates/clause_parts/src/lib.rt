@@ -1,5 +1,7 @@
 // What walks over clauses have in common: the next word, and a count of expressions. `head` is what a clause begins with: its kind, its
 // start, its end.
+#![tactic(auto)]
+
 ghost use Rattle.std.specs.Prelude.{◌≡◌, ◌+◌, ◌*◌, ◌≤◌, length};
 ghost use Rattle.words.specs.Words.{words};
 ghost use Rattle.steps.specs.Memory.{at_of};

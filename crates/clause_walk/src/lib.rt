@@ -1,6 +1,8 @@
 // A clause, read and walked in one over any words: the refusal, or where both walks stand then. `head` is what it begins with:
 // its kind, its start, its end. `held` has the pairs that a WITH is to carry, two words each, or the aliases of a RETURN with sort keys, while
 // its projections are walked. Such a RETURN marks these in `tab`, and leaves it as it was.
+#![tactic(auto)]
+
 ghost use Rattle.std.specs.Prelude.{◌≡◌, true, [], ◌+◌, ◌*◌};
 ghost use Rattle.words.specs.Words.{words};
 ghost use Rattle.steps.specs.Memory.{mode_of};

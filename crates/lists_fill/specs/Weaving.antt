@@ -1,5 +1,5 @@
 -- The bindings, woven out of the events and the carried list: what the code asks and leaves, an event at a time.
-use Rattle.std.specs.Prelude.{ℕ, ◌-◌, ◌*◌, ◌≤◌, ◌≡◌, List, [], ◌∷◌, ◌++◌, length, drop}
+use Rattle.std.specs.Prelude.{ℕ, ◌-◌, ◌*◌, ◌≤◌, ◌≡◌, List, [], ◌++◌, length, drop}
 use Rattle.std.proofs.Math.Option.{Option, none}
 use Rattle.scope.specs.Flat.{parent_of, carrieds_of}
 use Rattle.scope.specs.Graph.{Entry, Carried}

@@ -1,5 +1,7 @@
 // Four of the five lists, filled from what both walks left in `found` and in the carried list: scopes and findings as they come, bindings and
 // recorded uses with the first making giving the place and the last one the value.
+#![tactic(auto)]
+
 ghost use Rattle.std.specs.Prelude.{◌≡◌, [], ◌++◌, ℕ, suc, ◌+◌, ◌-◌, ◌*◌, ◌≤◌, length};
 ghost use Rattle.words.specs.Words.{words};
 ghost use Rattle.scope.specs.Flat.{parent_of};

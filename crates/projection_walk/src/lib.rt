@@ -1,4 +1,6 @@
 // The projections and the filter of a WITH are walked; what they carry is held, and that one of them is a star is kept in mind.
+#![tactic(auto)]
+
 ghost use Rattle.std.specs.Prelude.{◌≡◌, ◌+◌, ◌*◌, ◌<◌, ◌≤◌, length};
 ghost use Rattle.words.specs.Words.{words};
 ghost use Rattle.clauses.specs.Read.{alias_of};

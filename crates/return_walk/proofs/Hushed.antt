@@ -2,11 +2,10 @@
 -- (`hushed-ready`).
 use Prim.Native.Nat.{ℕ, zero, suc}
 use native.Mathlib.Omega.{arith}
-use mathlib.Core.Path.{◌≡◌, refl, ap, ap₂, sym, ◌∙◌}
+use mathlib.Core.Path.{◌≡◌, ap, ap₂, sym, ◌∙◌}
 use mathlib.Core.List.{List}
 use lib.Dec.{eqb}
 use lib.ListN.{drop}
-use Rattle.heads.specs.Got.{Got}
 use Rattle.heads.specs.Head.{Tables}
 use Rattle.sheet.specs.Read.{any_binder}
 use Rattle.semantics.specs.World.{World}

@@ -12,8 +12,7 @@ use lib.Seq.{get_or-set_same, get_or-set_other, get_or-drop, ext_get_or}
 use borrow.Author.Tests.{eq-eqb, ne_eqb, eqb-true, eqb-false, ltb-true, ltb-false}
 use Rattle.expr.proofs.Inverse.{never}
 use Rattle.heads.specs.Answer.{is_in}
-use Rattle.clauses.specs.Read.{alias_of}
-use Rattle.semantics.specs.World.{World, hush}
+use Rattle.semantics.specs.World.{hush}
 use Rattle.semantics.specs.Resolve.{alias_in}
 use Rattle.rows.specs.Rows.{id_at, seek, row_told}
 use Rattle.steps.specs.Memory.{slots_in, hushed_in, world_at, use_in}

@@ -12,7 +12,7 @@ use Rattle.clauses.specs.Read.{alias_of}
 use Rattle.semantics.specs.World.{World}
 use Rattle.semantics.specs.Resolve.{enter, leave, alias_in}
 use Rattle.semantics.specs.Kinds.{general}
-use Rattle.fused.specs.Fused.{Both, Mode, Go, rounds, step, told}
+use Rattle.fused.specs.Fused.{Both, Mode, Go, rounds, step}
 use Rattle.fused.specs.Clauses.{within, aliased, projections_go, returned, return_go}
 use Rattle.visible.specs.Visible.{Tabled}
 use Rattle.steps.specs.Memory.{at_of, top_of, cur_of, last_of, said_of, told_of, lost_of, held_of, slots_in, tables_in, world_at, mode_of}

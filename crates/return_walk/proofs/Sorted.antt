@@ -1,13 +1,13 @@
 -- Projections of a RETURN whose aliases are held (`Sorting`: k of them, and `left` projections are left), and then its sort keys. It begins
 -- with none held (`begun`); a turn reads an alias (`alias-stage`, `expr-ready`, `hold-asks`), holds it and walks an expression (`turned`,
 -- `fell-expr`), or the alias is refused (`no-alias`); at the end the sort keys are left (`ended`, `keys-ask`).
-use Prim.Native.Nat.{ℕ, zero, suc, ◌+◌, ◌-◌, ◌*◌, ◌/◌, ◌<◌, ◌≤◌}
+use Prim.Native.Nat.{ℕ, suc, ◌+◌, ◌-◌, ◌*◌, ◌/◌, ◌<◌, ◌≤◌}
 use native.Mathlib.Omega.{arith}
 use native.Mathlib.Numerals.{add-one}
-use mathlib.Core.Path.{◌≡◌, refl, ap, sym, ◌∙◌}
+use mathlib.Core.Path.{◌≡◌, refl, ap, ◌∙◌}
 use mathlib.Core.List.{List, [], ◌++◌}
 use mathlib.Core.Option.{some}
-use lib.ListN.{length, get_or}
+use lib.ListN.{length}
 use Rattle.heads.specs.Got.{Got, ok, no, bind, word_in}
 use Rattle.heads.specs.declared.Word.{Word}
 use Rattle.heads.specs.declared.Word.TheVariants as word
@@ -22,7 +22,7 @@ use Rattle.steps.specs.Hold.{Ready}
 use Rattle.walk.specs.Goes.{Walked, expr_at}
 use Rattle.walk.proofs.Modes.{in-set}
 use Rattle.walk.proofs.Stage.{Rest, Stage, placed, start, ready, recast, fewer, go, fell, refused}
-use Rattle.clause_parts.specs.Passes.{Held, Next}
+use Rattle.clause_parts.specs.Passes.{Next}
 use Rattle.clause_parts.proofs.Passing.{past, stopped, stays, in-range, goes_on_lem}
 use Rattle.return_walk.specs.Returns.{aliases_in, AllNamed, HeldAlias, hushed_at, keyed_at}
 

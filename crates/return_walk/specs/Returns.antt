@@ -6,7 +6,7 @@ use Rattle.semantics.specs.Resolve.{alias_in}
 use Rattle.semantics.specs.Kinds.{general}
 use Rattle.fused.specs.Fused.{rounds}
 use Rattle.fused.specs.Clauses.{within, aliased, projections_go, hushed_row, return_go}
-use Rattle.steps.specs.Memory.{names_in, slots_in, tables_in, world_at, mode_of}
+use Rattle.steps.specs.Memory.{names_in, tables_in, world_at, mode_of}
 use Rattle.walk.specs.Goes.{Goer}
 
 -- the first k of the aliases that are held, a word each, in order

@@ -1,5 +1,7 @@
 // RETURN: its projections are walked from outside its scope, which is current after it. So are its sort keys, in which its aliases are no use:
 // these are held while its projections are walked, and marked in tab while its sort keys are.
+#![tactic(auto)]
+
 ghost use Rattle.std.specs.Prelude.{◌≡◌, true, false, [], ◌+◌, ◌*◌, ◌<◌, ◌≤◌, length};
 ghost use Rattle.words.specs.Words.{words};
 ghost use Rattle.steps.specs.Memory.{slots_in, mode_of};

@@ -15,7 +15,6 @@ use borrow.Rule.Slice.PartMut.{put_mid, mid_of}
 use Rattle.words.proofs.Words.{drop-none}
 use Rattle.tables.specs.Index.{index_of}
 use Rattle.sheet.specs.declared.trailer.Places.{Places}
-use Rattle.rows.specs.Slot.{slots}
 use Rattle.rows.specs.Rows.{Empty, Indexed}
 use Rattle.steps.specs.Memory.{slots_in}
 use Rattle.sheet_walk.specs.Parts.{Shift, Clear, HungUp, names_by, Stored, Settles}

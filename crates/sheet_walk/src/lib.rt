@@ -1,4 +1,6 @@
 // A whole sheet, read and walked in one: the tables of names and bindings, the head, the arms. Causes 1 to 7.
+#![tactic(auto)]
+
 mod reading;
 mod walking;
 

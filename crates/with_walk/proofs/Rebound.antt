@@ -2,16 +2,16 @@
 -- and the pairs are seen is the definition's, but for counts (`rooted-quiet`). With a star the names before are seen once each, which is what the
 -- star's pairs are when they are bound (`spread-seen`), and all of them are first (`spread-first`). The whole: `rebinds`; what each step asks:
 -- `root-asks`, `root-ready`, `leave-asks`, `spread-asks`, `pairs-ask`, `count-asks`.
-use Prim.Native.Nat.{ℕ, zero, suc, ◌+◌, ◌-◌, ◌*◌, ◌<◌, ◌≤◌}
+use Prim.Native.Nat.{ℕ, zero, suc, ◌+◌, ◌*◌, ◌<◌, ◌≤◌}
 use native.Mathlib.Omega.{arith}
 use mathlib.Core.Path.{◌≡◌, refl, ap, sym, ◌∙◌}
 use mathlib.Core.Bool.{Bool, true, false, cond, ◌&&◌, ◌||◌}
-use mathlib.Core.List.{List, [], ◌∷◌, ◌++◌, reverse, reverse_aux, append-nil}
+use mathlib.Core.List.{List, [], ◌∷◌, ◌++◌, reverse, reverse_aux}
 use mathlib.Core.Option.{some}
 use lib.Dec.{eqb}
 use lib.ListN.{length, get_or, set, length-set, length-append}
 use lib.Seq.{get_or-set_same, get_or-set_other}
-use borrow.Author.Tests.{eqb-true, eqb-false, eq-eqb, ne_eqb}
+use borrow.Author.Tests.{eqb-true, eqb-false}
 use Rattle.scope.specs.Graph.{root_scope, with_barrier, scope, carried}
 use Rattle.semantics.specs.Log.{Bound, bound, Event, open', bind, carry}
 use Rattle.semantics.specs.World.{World, kind_of}
@@ -20,11 +20,11 @@ use Rattle.theorems.specs.Needs.{made, carried_in}
 use Rattle.theorems.specs.Woven.{written}
 use Rattle.fused.specs.Fused.{Both}
 use Rattle.fused.specs.Clauses.{all_of}
-use Rattle.visible.specs.Visible.{seens, Descends, Tabled, Restacked, seen_once}
+use Rattle.visible.specs.Visible.{seens, Descends, Tabled, seen_once}
 use Rattle.steps.specs.Memory.{at_of, top_of, cur_of, last_of, said_of, told_of, lost_of, held_of, made_of, taken_of, level_of, slots_in, wants_in, world_at, kept}
-use Rattle.steps.specs.Hold.{Binding, Fine, Fits, Fit, Holds, Costs, Steps, Ready, Left, on_names}
+use Rattle.steps.specs.Hold.{Binding, Fits, Fit, Holds, Steps, Ready, Left, on_names}
 use Rattle.steps.proofs.Held.{Numbers, unset, store, recounted, lower, refit}
-use Rattle.projection_walk.specs.Carries.{pairs_in, InNames, star_of, kept_of, taken_by}
+use Rattle.projection_walk.specs.Carries.{pairs_in, star_of, kept_of}
 use Rattle.with_walk.specs.Binds.{rooted_on, under_star, firsts, seen_by, Sees, SeesAll, SeesIn, Spreads, BindsIn, Rebinds}
 use Rattle.clause_parts.proofs.Cleared.{below-descends, cut-numbers, cut_fits, cut_holds}
 use Rattle.with_walk.proofs.Seeing.{above, seen_as_lem}

@@ -1,16 +1,16 @@
 -- What a star does to the names before, or nothing (`spread-yes`, `spread-no`); and how the pairs alone are seen again after sort keys (`again-yes`,
 -- `again-no`; what that asks: `again-leaves`, `again-clears`, `again-sees`).
-use Prim.Native.Nat.{ℕ, ◌+◌, ◌*◌, ◌<◌, ◌≤◌}
+use Prim.Native.Nat.{ℕ, ◌≤◌}
 use native.Mathlib.Omega.{arith}
 use mathlib.Core.Path.{◌≡◌, refl, ◌∙◌}
-use mathlib.Core.List.{List, []}
+use mathlib.Core.List.{List}
 use lib.ListN.{length, set}
 use Rattle.visible.specs.Visible.{seens, Descends, Tabled, Restacked}
 use Rattle.steps.specs.Memory.{top_of, cur_of, held_of, slots_in}
 use Rattle.steps.specs.Hold.{Left}
 use Rattle.clause_parts.proofs.Cleared.{cut-numbers}
 use Rattle.projection_walk.specs.Carries.{star_of}
-use Rattle.with_walk.specs.Binds.{Sees, SeesIn, Spreads, SeesAgainIn, Again, SeesAgain}
+use Rattle.with_walk.specs.Binds.{Sees, SeesIn, Spreads, SeesAgainIn, SeesAgain}
 
 pub spread-yes : {tab m vis vis' : List ℕ} {r : ℕ} → star_of m ≡ 1 → Restacked (slots_in tab) (top_of m) (cur_of m) vis vis' r → Spreads tab m vis (set m 1 r) vis' r
 spread-yes e z = record { yes = λ q. (refl, z); no = λ q. absurd (q e) }

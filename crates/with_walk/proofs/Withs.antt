@@ -2,7 +2,7 @@
 -- (`with-refused`), or on from what they leave (`Filtered`, `filtered`), where the pairs are bound anew (`with-asks`, `with-passes`). Its sort
 -- keys come then (`keys-ask`, `keys-refused`), and what they saw is left (`leave-asks`), so that the pairs alone are seen (`see-asks`,
 -- `sorted-passes`).
-use Prim.Native.Nat.{ℕ, zero, suc, ◌+◌, ◌*◌, ◌<◌, ◌≤◌}
+use Prim.Native.Nat.{ℕ, zero, suc, ◌+◌, ◌<◌, ◌≤◌}
 use native.Mathlib.Omega.{arith}
 use mathlib.Core.Path.{◌≡◌, refl, ap, sym, ◌∙◌}
 use mathlib.Core.Bool.{Bool, true, false, cond}
@@ -16,7 +16,7 @@ use Rattle.semantics.specs.Resolve.{Seen, Pair, binds, leave, standing, barrier,
 use Rattle.fused.specs.Fused.{Both, row_go, left}
 use Rattle.fused.specs.Clauses.{Taken, nothing, takes, all_of, within, projections_go, rooted_by, sort_go, with_go, counted_row}
 use Rattle.visible.specs.Visible.{seens, Descends}
-use Rattle.steps.specs.Memory.{at_of, top_of, cur_of, last_of, said_of, told_of, lost_of, held_of, slots_in, tables_in, world_at, mode_of}
+use Rattle.steps.specs.Memory.{at_of, top_of, cur_of, held_of, slots_in, tables_in, world_at, mode_of}
 use Rattle.steps.specs.Hold.{Fit, Holds, Ready, on_names}
 use Rattle.steps.proofs.Held.{lower}
 use Rattle.steps.proofs.Moved.{left-numbers, left-fits, left-holds}

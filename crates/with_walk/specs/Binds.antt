@@ -1,5 +1,5 @@
 -- What the walk over a WITH asks and leaves: what it has taken is carried by a barrier, and bound in a new Root.
-use Rattle.std.specs.Prelude.{ℕ, suc, ◌+◌, ◌*◌, ◌<◌, ◌≤◌, ◌≡◌, Bool, cond, List, [], ◌∷◌, eqb, length, set}
+use Rattle.std.specs.Prelude.{ℕ, ◌+◌, ◌*◌, ◌<◌, ◌≤◌, ◌≡◌, Bool, cond, List, [], ◌∷◌, eqb, length, set}
 use Rattle.scope.specs.Graph.{root_scope}
 use Rattle.semantics.specs.Resolve.{Seen, seen, binds, State, Pair, pair, enter, standing, bind_all, barrier}
 use Rattle.fused.specs.Fused.{Both}

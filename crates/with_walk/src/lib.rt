@@ -1,6 +1,8 @@
 // WITH: what its projections carry is held, then bound in a new Root, and alone visible; a star takes each name before it once, in its place on
 // the stack. Sort keys are walked while the names before the WITH are still seen below the pairs, unless a star carries these. No event says what
 // is carried and bound: it is counted.
+#![tactic(auto)]
+
 ghost use Rattle.std.specs.Prelude.{◌≡◌, true, false, cond, ℕ, ◌+◌, ◌<◌, ◌≤◌, length, set};
 ghost use Rattle.words.specs.Words.{words};
 ghost use Rattle.semantics.specs.Resolve.{binds};

@@ -1,4 +1,5 @@
 -- The sheet's own reading answers, unless it gives 7; then head and arms are read again, with binders not looked up (`Unbound`).
+use native.Mathlib.Omega.{arith}
 use mathlib.Core.Path.{sym, ◌∙◌}
 use Rattle.sheet.proofs.Placing.{opened-at, opened-no}
 use Rattle.condition_printer.proofs.Unbound.{open_at, open_no, places-refused, gave-seven, loose-no, loose_at}
@@ -10,7 +11,7 @@ returns-in_default c =
 
 pub returns-then-c-ne7 : goal.returns-then-c-ne7
 returns-then-c-ne7 c =
-    sym c.in-Refused.is ∙ open_no _ c.open-a.ensures c.in-Refused.is c.if-c-ne7.true
+    sym c.in-Refused.is ∙ open_no _ c.open-a.ensures c.in-Refused.is (omega (arith, c.if-c-ne7.true))
 
 pub returns-in_default-b : goal.returns-in_default-b
 returns-in_default-b c =

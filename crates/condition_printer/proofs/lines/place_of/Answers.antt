@@ -27,7 +27,7 @@ returns-then-kind-eq3 c =
 
 pub filter_of-requires-then-kind-eq12 : goal.filter_of-requires-then-kind-eq12
 filter_of-requires-then-kind-eq12 c =
-    (c.requires.0, (inr (sym c.word-kind.ensures ∙ c.if-kind-eq12.true), c.requires.1))
+    (c.requires.0, (inr (omega (arith, c.word-kind.ensures, c.if-kind-eq12.true)), c.requires.1))
 
 pub returns-then-kind-eq12 : goal.returns-then-kind-eq12
 returns-then-kind-eq12 c =

@@ -1,4 +1,5 @@
 -- Each arm puts the table's sign.
+use native.Mathlib.Omega.{arith}
 use Rattle.condition_text.proofs.Table.{no-binary}
 use Rattle.condition_text.proofs.Laying.{puts_none}
 use Rattle.condition_text.proofs.pieces.put_binary.Goals as goal
@@ -165,4 +166,4 @@ returns-in-19 c =
 
 pub returns-in_default : goal.returns-in_default
 returns-in_default c =
-    rw (no-binary _ c.in_default.in_default-own.rest) (puts_none _)
+    rw (no-binary c.args.o (omega arith)) (puts_none _)
