@@ -1,5 +1,7 @@
 // The listing of a sheet: its findings as text, a line each, at the front of lent bytes; or a refusal (1 to 8, 10), which alters none of
 // them. The sheet is read and walked once, with scratch that is sized to it.
+#![tactic(auto)]
+
 ghost use Rattle.std.specs.Prelude.{◌≡◌, not, ◌<◌, ◌≤◌, eqb, length};
 ghost use Rattle.words.specs.Words.{words};
 ghost use Rattle.sheet_walk.specs.Runs.{Scratch};
