@@ -80,7 +80,7 @@ def main():
         except UnicodeDecodeError:
             continue
         if path.endswith(".antt"):
-            new = turned(old, crate, f"{os.sep}proofs{os.sep}" in path)
+            new = outside_strings(old, lambda t: turned(t, crate, f"{os.sep}proofs{os.sep}" in path))
         elif path.endswith(".rt"):
             new = outside_strings(old, lambda t: turned(t, crate, False))
         elif path.endswith(".edit"):

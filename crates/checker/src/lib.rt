@@ -475,7 +475,7 @@ pub fn check_words(
     findings: &mut [u32],
     room: usize,
 ) -> Checked
-    ensures { (result ≡ answer_in warns s.now (record { scopes = scopes.entry.now; bindings = bindings.old; carried = carried.old; recorded = recorded.old; findings = findings.old }) room) × (record { scopes = scopes.exit.now; bindings = bindings.new; carried = carried.new; recorded = recorded.new; findings = findings.new } ≡ left_in warns s.now (record { scopes = scopes.entry.now; bindings = bindings.old; carried = carried.old; recorded = recorded.old; findings = findings.old }) room) }
+    ensures { (result ≡ answer_in warns s.now (record { scopes = scopes.old; bindings = bindings.old; carried = carried.old; recorded = recorded.old; findings = findings.old }) room) × (record { scopes = scopes.new; bindings = bindings.new; carried = carried.new; recorded = recorded.new; findings = findings.new } ≡ left_in warns s.now (record { scopes = scopes.old; bindings = bindings.old; carried = carried.old; recorded = recorded.old; findings = findings.old }) room) }
 {
     if s.len() <= 256 {
         return check_64(

@@ -1,20 +1,20 @@
 -- The findings that both walks left in words, in the order of the listing: those of the name walk, which stand from the front on, then those
 -- of the kind walk, which stand from the end back.
-use Prim.Native.Nat.{ℕ, zero, suc, ◌+◌, ◌-◌, ◌*◌, ◌<◌, ◌≤◌}
+use Prim.Native.Nat.{ℕ, zero, suc, ◌+◌, ◌-◌, ◌*◌, ◌≤◌}
 use native.Mathlib.Nat.{add-zero, add-suc}
 use native.Mathlib.Omega.{arith}
 use mathlib.Core.Path.{◌≡◌, refl, ap, sym, ◌∙◌}
 use mathlib.Core.Bool.{Bool, true, false, cond}
-use mathlib.Core.List.{List, [], ◌∷◌, ◌++◌, map, flat_map, reverse, append_assoc, append-nil, reverse-cons, reverse-append, reverse-reverse}
+use mathlib.Core.List.{List, [], ◌∷◌, ◌++◌, map, reverse, append_assoc, append-nil, reverse-cons, reverse-append, reverse-reverse}
 use borrow.Author.Tests.{lt-ltb, le-ltb}
 use lib.Dec.{eqb}
-use lib.ListN.{length, get_or}
+use lib.ListN.{length}
 use Rattle.expr.proofs.Inverse.{never}
 use Rattle.scope.specs.Graph.{scope}
 use Rattle.scope.specs.Flat.{parent_of}
 use Rattle.semantics.specs.Log.{Finding, finding, found, bound, write, Event, open', bind, carry, answer, find, finds_in, logs}
 use Rattle.steps.specs.Memory.{answered, event_of, event_at, events, findings, kept}
-use Rattle.lines.specs.Given.{finding_at, word_of, findings_in}
+use Rattle.lines.specs.Given.{finding_at, findings_in}
 
 -- a log of which findings alone are kept
 kept-finds : (l : List Event) → kept false l ≡ map find (finds_in l)

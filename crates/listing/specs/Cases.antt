@@ -19,7 +19,6 @@ use Rattle.tables.specs.Distinct.{same_bytes, name_in, fresh_after, distinct}
 use Rattle.tables.specs.Name.{all_zero, name_body, read_name}
 use Rattle.tables.specs.Row.{row_id, read_row}
 use Rattle.sheet.specs.Trailer.{sized, in_place, places_of}
-use Rattle.sheet.specs.Statement.{Statement}
 use Rattle.sheet.specs.Read.{Sheet, accepted, refused, read_names, read_rows, read_clauses, locate, read_sections, read_sheet}
 use Rattle.sheet.specs.Write.{bytes_of}
 use Rattle.scope.specs.Graph.{Scope, scope, Entry, entry, Carried, carried}
@@ -243,7 +242,7 @@ cases =
     -- of the operators `^`, `<` and `>=` are arithmetic, `=`, `<>` and `AND` are not
     ∷ case (bytes_of traps) its_findings (finds (finding 2007 0 0 2 1 1 ∷ finding 2007 0 0 2 1 1 ∷ finding 2007 0 0 2 1 1 ∷ []))
     -- every message
-    ∷ case (bytes_of every_message) its_listing (text (bytes "findings 12\nE1002 0 0 variable `a` shadows an earlier binding\n_e1001 0 0 unresolved variable `seat`\nE2008 10 13 variable `r` used in node-pattern position but has kind `Relationship`; expected `Node`\nE2008 13 18 variable `a` used in relationship-pattern position but has kind `Node`; expected `Relationship`\nE2008 0 0 variable `a` used as path binder but has kind `Node`; expected `Path`\nE2007 0 0 variable `a` has kind `Node` but is used in an arithmetic expression; only `Value` variables are valid here\n_e2007 0 0 variable `p` has kind `Path` and does not support property access; use `nodes()` or `relationships()` to extract graph elements first\n_e5010 0 0 cannot index non-list expression of type `Int`; list indexing and slicing require a list target\n_e5010 0 0 cannot slice non-list expression of type `String`; list indexing and slicing require a list target\n_e5010 0 0 cannot iterate over non-list expression of type `Map`; list indexing and slicing require a list target\n_e5011 0 0 list-predicate iterable must be a list but found `Int`; ANY/ALL/NONE/SINGLE require a `LIST<T>` source\n_e2011 0 0 list-predicate WHERE clause requires a `Bool` predicate but found `String`\n"))
+    ∷ case (bytes_of every_message) its_listing (text (bytes "findings 12\nE1002 0 0 variable `a` shadows an earlier binding\nE1001 0 0 unresolved variable `seat`\nE2008 10 13 variable `r` used in node-pattern position but has kind `Relationship`; expected `Node`\nE2008 13 18 variable `a` used in relationship-pattern position but has kind `Node`; expected `Relationship`\nE2008 0 0 variable `a` used as path binder but has kind `Node`; expected `Path`\nE2007 0 0 variable `a` has kind `Node` but is used in an arithmetic expression; only `Value` variables are valid here\nE2007 0 0 variable `p` has kind `Path` and does not support property access; use `nodes()` or `relationships()` to extract graph elements first\nE5010 0 0 cannot index non-list expression of type `Int`; list indexing and slicing require a list target\nE5010 0 0 cannot slice non-list expression of type `String`; list indexing and slicing require a list target\nE5010 0 0 cannot iterate over non-list expression of type `Map`; list indexing and slicing require a list target\nE5011 0 0 list-predicate iterable must be a list but found `Int`; ANY/ALL/NONE/SINGLE require a `LIST<T>` source\nE2011 0 0 list-predicate WHERE clause requires a `Bool` predicate but found `String`\n"))
     -- a sort key that is misspelt
     ∷ case (bytes_of sort_key) its_findings (finds (finding 1001 0 0 2 0 0 ∷ []))
     ∷ case (bytes_of sort_key) its_listing (text (bytes "findings 1\nE1001 0 0 unresolved variable `b`\n"))

@@ -15,7 +15,7 @@ pub fn check(
     recorded: &mut [u32],
     findings: &mut [Finding],
 ) -> Checked
-    ensures { (result ≡ answer_for warns s.now (record { scopes = scopes.entry.now; bindings = bindings.old; carried = carried.old; recorded = recorded.old; findings = findings.old })) × (record { scopes = scopes.exit.now; bindings = bindings.new; carried = carried.new; recorded = recorded.new; findings = findings.new } ≡ left_for warns s.now (record { scopes = scopes.entry.now; bindings = bindings.old; carried = carried.old; recorded = recorded.old; findings = findings.old })) }
+    ensures { (result ≡ answer_for warns s.now (record { scopes = scopes.old; bindings = bindings.old; carried = carried.old; recorded = recorded.old; findings = findings.old })) × (record { scopes = scopes.new; bindings = bindings.new; carried = carried.new; recorded = recorded.new; findings = findings.new } ≡ left_for warns s.now (record { scopes = scopes.old; bindings = bindings.old; carried = carried.old; recorded = recorded.old; findings = findings.old })) }
 {
     let mut flat = [0u32; 12288];
     let c = check_words(

@@ -28,6 +28,7 @@ module _ {A : Type 0} {P : A → Type 0} where
   cut (x ∷ xs) (cons p h) = let g = cut xs h in (cons p g.0, g.1)
 
   pub member : {a : A} {xs : List A} → All P xs → Memᴰ a xs → P a
+  member {a = a} nil x3 = elim x3 [ ]
   member (cons p h) (Memᴰ.head e) = rw e p
   member (cons p h) (Memᴰ.tail m) = member h m
 
