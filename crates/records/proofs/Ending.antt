@@ -2,7 +2,7 @@
 -- so that the flat list always has room, and its first words are those of the findings.
 use Prim.Native.Nat.{ℕ, ◌*◌, ◌≤◌, zero-le}
 use native.Mathlib.Omega.{arith}
-use mathlib.Core.Path.{◌≡◌, refl, subst, ◌∙◌}
+use mathlib.Core.Path.{◌≡◌, refl, ◌∙◌}
 use mathlib.Core.Bool.{Bool, true, false, cond, ◌&&◌}
 use mathlib.Core.List.{List, flat_map}
 use borrow.Author.Tests.{leb-true, le-leb}

@@ -1,5 +1,5 @@
 -- What the check call answers and leaves where the findings go into a list of records (document 01, "What comes out"; causes 1 to 8).
-use Rattle.std.specs.Prelude.{ℕ, ◌≡◌, Bool, cond, ◌&&◌, List, leb, length}
+use Rattle.std.specs.Prelude.{ℕ, Bool, cond, ◌&&◌, List, leb, length}
 use Rattle.words.specs.Words.{words}
 use Rattle.sheet.specs.Statement.{Statement}
 use Rattle.sheet.specs.Read.{Sheet, accepted, refused, read_sheet}

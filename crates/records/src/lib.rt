@@ -1,4 +1,6 @@
 // The check call with its findings in a lent list of finding records: the core's flat findings are stored one by one.
+#![tactic(auto)]
+
 ghost use Rattle.std.specs.Prelude.{◌≡◌, Bool};
 ghost use Rattle.records.specs.Checked.{Lent, answer_for, left_for};
 
