@@ -1,4 +1,6 @@
 // The check call, lookup and offset as C functions on flat lists, for the program that compares them with the Rust.
+#![tactic(auto)]
+
 ghost use Rattle.std.specs.Prelude.{◌≡◌, not, ◌/◌, eqb, length};
 ghost use Rattle.scope.specs.Lookup.{lookup};
 ghost use Rattle.scope.specs.Offset.{offset};
