@@ -11,10 +11,10 @@ pub returns-in-Refused : goal.returns-in-Refused
 returns-in-Refused c =
     let h = c.check_words.ensures in
     let e = sym c.in-Refused.is ∙ h.0 in
-    (ap checked_number e, (h.1, ap (stored c) e))
+    (ap checked_number e, (h.1, ap (λ (x : Checked). with_counts x c.args.counts.now) e))
 
 pub returns-in-Is : goal.returns-in-Is
 returns-in-Is c =
     let h = c.check_words.ensures in
     let e = sym c.in-Is.is ∙ h.0 in
-    (ap checked_number e, (h.1, ap (stored c) e))
+    (ap checked_number e, (h.1, ap (λ (x : Checked). with_counts x c.args.counts.now) e))

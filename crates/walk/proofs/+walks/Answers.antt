@@ -23,7 +23,6 @@ use Rattle.walk.proofs.+walks.Goals.{walk_row-then-t-set-eq1, walk_row-else-t-se
 use Rattle.std.proofs.Common.{◌%◌}
 use Rattle.walk.proofs.+walks.Goals as goal
 
-
 -- walk_elem
 pub walk_elem-bounds-m-0 : goal.walk_elem-bounds-m-0
 unfolding elem_go
@@ -40,13 +39,13 @@ unfolding elem_go
 walk_elem-returns-in_default t c =
     let begun = let a = c.args in
     start {keep = some a.room} (λ id u v. step read_elem λ h. last (row_go (expr_go (world_at (words a.s.now) a.tab.now id) (tables_in a.tab.now) a.room (mode_of a.mode)) h.property plain (elem_step (world_at (words a.s.now) a.tab.now id) (mode_of a.mode) h v))) c.requires.1 (λ id z r. refl) in
-   refused 5 (λ e. omega arith) begun (stop begun (rw c.in_default.is at c.read_elem_head.ensures))
+    refused 5 (λ e. omega arith) begun (stop begun (rw c.in_default.is at c.read_elem_head.ensures))
 
 pub walk_elem-overflow_cast-m : goal.walk_elem-overflow_cast-m
 unfolding elem_go
 walk_elem-overflow_cast-m t c =
     let answer = rw c.in-Is.is at c.read_elem_head.ensures in
-   omega (arith, answer.within, c.requires.1.fine.short)
+    omega (arith, answer.within, c.requires.1.fine.short)
 
 pub walk_elem-bounds-m-0-2 : goal.walk_elem-bounds-m-0-2
 unfolding elem_go
@@ -61,14 +60,14 @@ walk_elem-bind_elem-requires t c =
     let answer = rw c.in-Is.is at c.read_elem_head.ensures in
     let paid = elem-paid _ _ _ _ answer in
     let one = read begun 3 answer (omega (arith, paid.0)) in
-   (paid.2, ready (omega arith) c.requires.1 one)
+    (paid.2, ready (omega arith) c.requires.1 one)
 
 pub walk_elem-overflow_cast-h : goal.walk_elem-overflow_cast-h
 unfolding elem_go
 walk_elem-overflow_cast-h t c =
     let answer = rw c.in-Is.is at c.read_elem_head.ensures in
     let paid = elem-paid _ _ _ _ answer in
-   omega (arith, paid.1)
+    omega (arith, paid.1)
 
 pub walk_elem-overflow_mul-mode : goal.walk_elem-overflow_mul-mode
 unfolding elem_go
@@ -85,7 +84,7 @@ walk_elem-walk_row-requires t c =
     let one = read begun 3 answer (omega (arith, paid.0)) in
     let two = let a = c.args in
     did (λ id u v. last (row_go (expr_go (world_at (words a.s.now) a.tab.now id) (tables_in a.tab.now) a.room (mode_of a.mode)) c.in-Is.h.property plain v)) 0 (omega arith) (omega arith) one c.bind_elem.ensures in
-   let p = paid in let w = answer.within in let x = c.bind_elem.ensures.at in let y = (placed c.args.m.now c.in-Is.p c.requires.1.fit.size).at in
+    let p = paid in let w = answer.within in let x = c.bind_elem.ensures.at in let y = (placed c.args.m.now c.in-Is.p c.requires.1.fit.size).at in
     (omega (arith, p.0, w, x, y, c.requires.0), ((c.requires.0, omega (arith, p.1)), ready (omega arith) c.requires.1 two))
 
 pub walk_elem-returns : goal.walk_elem-returns
@@ -100,7 +99,7 @@ walk_elem-returns t c =
     did (λ id u v. last (row_go (expr_go (world_at (words a.s.now) a.tab.now id) (tables_in a.tab.now) a.room (mode_of a.mode)) c.in-Is.h.property plain v)) 0 (omega arith) (omega arith) one c.bind_elem.ensures in
     let ended = let a = c.args in
     tail c.walk_row.result (omega arith) two (in_pair a.mode 0 (a.mode / 64 * 64) (omega arith) (omega arith) a.room _ c.walk_row.ensures) in
-   ended
+    ended
 
 -- walk_elems
 pub walk_elems-loop-left-init : goal.walk_elems-loop-left-init
@@ -114,7 +113,7 @@ walk_elems-walk_elem-r-requires t c =
 pub walk_elems-returns-then-r-ne0 : goal.walk_elems-returns-then-r-ne0
 walk_elems-returns-then-r-ne0 t c =
     let bad = fall c.loop-left.invariant c.walk_elem-r.result (omega arith) c.if-r-ne0.true c.walk_elem-r.ensures in
-   bad
+    bad
 
 pub walk_elems-loop-left-preserved : goal.walk_elems-loop-left-preserved
 walk_elems-loop-left-preserved t c =
@@ -123,7 +122,7 @@ walk_elems-loop-left-preserved t c =
 pub walk_elems-returns : goal.walk_elems-returns
 walk_elems-returns t c =
     let ended = over c.loop-left.invariant (omega arith) in
-   ended
+    ended
 
 -- walk_expr
 pub walk_expr-bounds-m-0 : goal.walk_expr-bounds-m-0
@@ -155,7 +154,7 @@ walk_expr-returns-in_default t c =
     let e : a.room ≡ suc (a.room - 1) = omega arith in
     start {keep = some a.room} {G = expr_at (words a.s.now) a.tab.now a.room a.mode} (λ id u v. step (read_form (names_in a.tab.now)) λ f. step (rest_at (words a.s.now) a.tab.now (a.room - 1) a.mode f id (head_of (world_at (words a.s.now) a.tab.now id) (mode_of a.mode) f (first_of a.mode) v)) λ x. last (ok (tail_of (mode_of a.mode) f u x))) c.requires.1
     (λ id z r. ap (λ (d : ℕ). expr_go (world_at (words a.s.now) a.tab.now id) (tables_in a.tab.now) d (mode_of a.mode) (first_of a.mode) z r) e) in
-   let o = begun in refused 5 (λ e. omega arith) o (stop o (rw c.in_default.is at c.read_form.ensures.ans))
+    let o = begun in refused 5 (λ e. omega arith) o (stop o (rw c.in_default.is at c.read_form.ensures.ans))
 
 pub walk_expr-bounds-m-1 : goal.walk_expr-bounds-m-1
 unfolding expr_go
@@ -171,7 +170,7 @@ pub walk_expr-overflow_cast-m : goal.walk_expr-overflow_cast-m
 unfolding expr_go
 walk_expr-overflow_cast-m t c =
     let answer = rw c.in-Is.is at c.read_form.ensures.ans in
-   omega (arith, answer.within, c.requires.1.fine.short)
+    omega (arith, answer.within, c.requires.1.fine.short)
 
 pub walk_expr-bounds-m-0-2 : goal.walk_expr-bounds-m-0-2
 unfolding expr_go
@@ -188,7 +187,7 @@ walk_expr-begin-requires t c =
     let answer = rw c.in-Is.is at c.read_form.ensures.ans in
     let paid = let a = c.args in form-paid (words a.s.now) (at_of a.m.now) c.in-Is.p (names_in a.tab.now) (slots_in a.tab.now) c.in-Is.f c.requires.1.fine.places answer in
     let one = read begun (cost_of c.in-Is.f) answer (omega (arith, paid.0)) in
-   (paid.1, ready (omega arith) c.requires.1 one)
+    (paid.1, ready (omega arith) c.requires.1 one)
 
 pub walk_expr-walk_rest-r-requires : goal.walk_expr-walk_rest-r-requires
 unfolding expr_go
@@ -203,7 +202,7 @@ walk_expr-walk_rest-r-requires t c =
     let one = read begun (cost_of c.in-Is.f) answer (omega (arith, paid.0)) in
     let two = let a = c.args in let f = c.in-Is.f in
     did (λ id u v. step (rest_at (words a.s.now) a.tab.now (a.room - 1) a.mode f id v) λ x. last (ok (tail_of (mode_of a.mode) f u x))) 0 (omega arith) (omega arith) one c.begin.ensures in
-   let x = c.begin.ensures.at in let y = (placed c.args.m.now c.in-Is.p c.requires.1.fit.size).at in
+    let x = c.begin.ensures.at in let y = (placed c.args.m.now c.in-Is.p c.requires.1.fit.size).at in
     (omega (arith, longer, answer.within, x, y, c.requires.0), (omega (arith, c.requires.0), ready (omega arith) c.requires.1 two))
 
 pub walk_expr-returns-then-r-ne0 : goal.walk_expr-returns-then-r-ne0
@@ -219,7 +218,7 @@ walk_expr-returns-then-r-ne0 t c =
     let two = let a = c.args in let f = c.in-Is.f in
     did (λ id u v. step (rest_at (words a.s.now) a.tab.now (a.room - 1) a.mode f id v) λ x. last (ok (tail_of (mode_of a.mode) f u x))) 0 (omega arith) (omega arith) one c.begin.ensures in
     let bad = fell c.walk_rest-r.result c.if-r-ne0.true two c.walk_rest-r.ensures in
-   bad
+    bad
 
 pub walk_expr-finish-requires : goal.walk_expr-finish-requires
 unfolding expr_go
@@ -234,7 +233,7 @@ walk_expr-finish-requires t c =
     let two = let a = c.args in let f = c.in-Is.f in
     did (λ id u v. step (rest_at (words a.s.now) a.tab.now (a.room - 1) a.mode f id v) λ x. last (ok (tail_of (mode_of a.mode) f u x))) 0 (omega arith) (omega arith) one c.begin.ensures in
     let three = go two c.walk_rest-r.ensures (omega arith) c.if-r-ne0.false in
-   let o = three in (omega (arith, c.requires.1.fine.long), (o.size, (o.keeps.kept.top, (ready {i = 0} (omega arith) c.requires.1 o).fit.tabled)))
+    let o = three in (omega (arith, c.requires.1.fine.long), (o.size, (o.keeps.kept.top, (ready {i = 0} (omega arith) c.requires.1 o).fit.tabled)))
 
 pub walk_expr-returns : goal.walk_expr-returns
 unfolding expr_go
@@ -250,7 +249,7 @@ walk_expr-returns t c =
     did (λ id u v. step (rest_at (words a.s.now) a.tab.now (a.room - 1) a.mode f id v) λ x. last (ok (tail_of (mode_of a.mode) f u x))) 0 (omega arith) (omega arith) one c.begin.ensures in
     let three = go two c.walk_rest-r.ensures (omega arith) c.if-r-ne0.false in
     let ended = close (mode_of c.args.mode) c.in-Is.f c.requires.1 three c.finish.ensures in
-   ended
+    ended
 
 -- walk_inner
 pub walk_inner-overflow_mul-mode : goal.walk_inner-overflow_mul-mode
@@ -272,12 +271,12 @@ walk_inner-walk_pattern-requires-in-PatternComprehension t c =
 pub walk_inner-returns-in-PatternPredicate : goal.walk_inner-returns-in-PatternPredicate
 walk_inner-returns-in-PatternPredicate t c =
     let kinds = let a = c.args in in-kinds a.room a.mode c.walk_pattern.ensures in
-   rw c.in-PatternPredicate.is kinds
+    rw c.in-PatternPredicate.is kinds
 
 pub walk_inner-returns-in-PatternComprehension : goal.walk_inner-returns-in-PatternComprehension
 walk_inner-returns-in-PatternComprehension t c =
     let both = let a = c.args in in-pattern a.mode 0 (a.mode / 64 * 64) (omega arith) (omega arith) a.room c.walk_pattern-in-PatternComprehension.ensures in
-   rw c.in-PatternComprehension.is both
+    rw c.in-PatternComprehension.is both
 
 pub walk_inner-returns-in-Leaf : goal.walk_inner-returns-in-Leaf
 walk_inner-returns-in-Leaf t c =
@@ -365,18 +364,18 @@ walk_many-returns-then-r-ne0 t c =
     let walked = let a = c.args in let l = c.loop-left in
     in-set a.mode l.set (a.mode / 64 * 64 + l.set) (omega (arith, l.invariant.first)) refl a.room l.invariant.first c.walk_expr-r.ensures in
     let bad = count-fall c.loop-left.invariant c.walk_expr-r.result (omega arith) c.if-r-ne0.true walked in
-   bad
+    bad
 
 pub walk_many-loop-left-preserved : goal.walk_many-loop-left-preserved
 walk_many-loop-left-preserved t c =
     let walked = let a = c.args in let l = c.loop-left in
     in-set a.mode l.set (a.mode / 64 * 64 + l.set) (omega (arith, l.invariant.first)) refl a.room l.invariant.first c.walk_expr-r.ensures in
-   count-one c.loop-left.invariant (omega arith) c.if-r-ne0.false walked
+    count-one c.loop-left.invariant (omega arith) c.if-r-ne0.false walked
 
 pub walk_many-returns : goal.walk_many-returns
 walk_many-returns t c =
     let ended = count-done c.loop-left.invariant (omega arith) in
-   ended
+    ended
 
 -- walk_mark
 pub walk_mark-bounds-m-0 : goal.walk_mark-bounds-m-0
@@ -395,13 +394,13 @@ walk_mark-returns-in_default t c =
     let begun = let a = c.args in
     start {keep = some a.room} {G = mark_at (words a.s.now) a.tab.now a.room a.mode a.kind} (λ id u v. step (word_in c.mark_low.result c.mark_high.result) λ w. last (row_go (expr_go (world_at (words a.s.now) a.tab.now id) (tables_in a.tab.now) a.room (mode_of a.mode)) (mark_kids a.kind w) plain v)) c.requires.1
     (λ id z r. rw (← c.mark_low.ensures, ← c.mark_high.ensures)) in
-   let o = begun in refused 5 (λ e. omega arith) o (stop o (rw c.in_default.is at c.word_in.ensures))
+    let o = begun in refused 5 (λ e. omega arith) o (stop o (rw c.in_default.is at c.word_in.ensures))
 
 pub walk_mark-overflow_add-m : goal.walk_mark-overflow_add-m
 unfolding mark_go
 walk_mark-overflow_add-m t c =
     let answer = rw c.in-Is.is at c.word_in.ensures in
-   omega (arith, answer.within, c.requires.1.fine.short)
+    omega (arith, answer.within, c.requires.1.fine.short)
 
 pub walk_mark-bounds-m-0-2 : goal.walk_mark-bounds-m-0-2
 unfolding mark_go
@@ -422,7 +421,7 @@ walk_mark-walk_row-requires t c =
     let answer = rw c.in-Is.is at c.word_in.ensures in
     let few = let a = c.args in mark-few (words a.s.now) (at_of a.m.now) (at_of a.m.now + 1) a.kind c.in-Is.k (rw (c.mark_low.ensures, c.mark_high.ensures) at answer.same) in
     let one = read begun 0 answer (omega arith) in
-   (omega (arith, answer.within, (placed c.args.m.now (at_of c.args.m.now + 1) c.requires.1.fit.size).at, c.requires.0), ((c.requires.0, omega (arith, few, c.mark_kids.ensures)), ready (omega arith) c.requires.1 one))
+    (omega (arith, answer.within, (placed c.args.m.now (at_of c.args.m.now + 1) c.requires.1.fit.size).at, c.requires.0), ((c.requires.0, omega (arith, few, c.mark_kids.ensures)), ready (omega arith) c.requires.1 one))
 
 pub walk_mark-returns : goal.walk_mark-returns
 unfolding mark_go
@@ -434,7 +433,7 @@ walk_mark-returns t c =
     let one = read begun 0 answer (omega arith) in
     let ended = let a = c.args in
     tail c.walk_row.result (omega arith) one (in_pair a.mode 0 (a.mode / 64 * 64) (omega arith) (omega arith) a.room _ (rw c.mark_kids.ensures at c.walk_row.ensures)) in
-   ended
+    ended
 
 -- walk_marks
 pub walk_marks-loop-left-init : goal.walk_marks-loop-left-init
@@ -448,7 +447,7 @@ walk_marks-walk_mark-r-requires t c =
 pub walk_marks-returns-then-r-ne0 : goal.walk_marks-returns-then-r-ne0
 walk_marks-returns-then-r-ne0 t c =
     let bad = fall c.loop-left.invariant c.walk_mark-r.result (omega arith) c.if-r-ne0.true c.walk_mark-r.ensures in
-   bad
+    bad
 
 pub walk_marks-loop-left-preserved : goal.walk_marks-loop-left-preserved
 walk_marks-loop-left-preserved t c =
@@ -457,7 +456,7 @@ walk_marks-loop-left-preserved t c =
 pub walk_marks-returns : goal.walk_marks-returns
 walk_marks-returns t c =
     let ended = over c.loop-left.invariant (omega arith) in
-   ended
+    ended
 
 -- walk_part
 pub walk_part-bounds-m-0 : goal.walk_part-bounds-m-0
@@ -475,13 +474,13 @@ unfolding part_go
 walk_part-returns-in_default t c =
     let begun = let a = c.args in
     start {keep = some a.room} (λ id u v. step read_part λ h. last (elems_at (words a.s.now) a.tab.now a.room a.mode h.count id (part_step (world_at (words a.s.now) a.tab.now id) (mode_of a.mode) h v))) c.requires.1 (λ id z r. refl) in
-   let o = begun in refused 5 (λ e. omega arith) o (stop o (rw c.in_default.is at c.read_part_head.ensures))
+    let o = begun in refused 5 (λ e. omega arith) o (stop o (rw c.in_default.is at c.read_part_head.ensures))
 
 pub walk_part-overflow_cast-m : goal.walk_part-overflow_cast-m
 unfolding part_go
 walk_part-overflow_cast-m t c =
     let answer = rw c.in-Is.is at c.read_part_head.ensures in
-   omega (arith, answer.within, c.requires.1.fine.short)
+    omega (arith, answer.within, c.requires.1.fine.short)
 
 pub walk_part-bounds-m-0-2 : goal.walk_part-bounds-m-0-2
 unfolding part_go
@@ -496,7 +495,7 @@ walk_part-bind_part-requires t c =
     let answer = rw c.in-Is.is at c.read_part_head.ensures in
     let paid = part-paid _ _ _ _ answer in
     let one = read begun (path_cost c.in-Is.h.path) answer (omega (arith, paid.0)) in
-   ready (omega arith) c.requires.1 one
+    ready (omega arith) c.requires.1 one
 
 pub walk_part-walk_elems-requires : goal.walk_part-walk_elems-requires
 unfolding part_go
@@ -508,7 +507,7 @@ walk_part-walk_elems-requires t c =
     let one = read begun (path_cost c.in-Is.h.path) answer (omega (arith, paid.0)) in
     let two = let a = c.args in
     did (λ id u v. last (elems_at (words a.s.now) a.tab.now a.room a.mode c.in-Is.h.count id v)) 0 (omega arith) (omega arith) one c.bind_part.ensures in
-   let x = c.bind_part.ensures.at in let y = (placed c.args.m.now c.in-Is.p c.requires.1.fit.size).at in
+    let x = c.bind_part.ensures.at in let y = (placed c.args.m.now c.in-Is.p c.requires.1.fit.size).at in
     (omega (arith, paid.1, answer.within, x, y, c.requires.0), (c.requires.0, ready (omega arith) c.requires.1 two))
 
 pub walk_part-returns : goal.walk_part-returns
@@ -522,7 +521,7 @@ walk_part-returns t c =
     let two = let a = c.args in
     did (λ id u v. last (elems_at (words a.s.now) a.tab.now a.room a.mode c.in-Is.h.count id v)) 0 (omega arith) (omega arith) one c.bind_part.ensures in
     let ended = tail c.walk_elems.result (omega arith) two c.walk_elems.ensures in
-   ended
+    ended
 
 -- walk_parts
 pub walk_parts-loop-left-init : goal.walk_parts-loop-left-init
@@ -536,7 +535,7 @@ walk_parts-walk_part-r-requires t c =
 pub walk_parts-returns-then-r-ne0 : goal.walk_parts-returns-then-r-ne0
 walk_parts-returns-then-r-ne0 t c =
     let bad = fall c.loop-left.invariant c.walk_part-r.result (omega arith) c.if-r-ne0.true c.walk_part-r.ensures in
-   bad
+    bad
 
 pub walk_parts-loop-left-preserved : goal.walk_parts-loop-left-preserved
 walk_parts-loop-left-preserved t c =
@@ -545,7 +544,7 @@ walk_parts-loop-left-preserved t c =
 pub walk_parts-returns : goal.walk_parts-returns
 walk_parts-returns t c =
     let ended = over c.loop-left.invariant (omega arith) in
-   ended
+    ended
 
 -- walk_pattern
 pub walk_pattern-bounds-m-0 : goal.walk_pattern-bounds-m-0
@@ -563,13 +562,13 @@ unfolding pattern_go
 walk_pattern-returns-in_default t c =
     let begun = let a = c.args in
     start {keep = some a.room} (λ id u v. step any_word λ n. last (parts_at (words a.s.now) a.tab.now a.room a.mode n id v)) c.requires.1 (λ id z r. refl) in
-   let o = begun in refused 5 (λ e. omega arith) o (stop o (rw c.in_default.is at c.word_in.ensures))
+    let o = begun in refused 5 (λ e. omega arith) o (stop o (rw c.in_default.is at c.word_in.ensures))
 
 pub walk_pattern-overflow_add-m : goal.walk_pattern-overflow_add-m
 unfolding pattern_go
 walk_pattern-overflow_add-m t c =
     let answer = rw c.in-Is.is at c.word_in.ensures in
-   omega (arith, answer.within, c.requires.1.fine.short)
+    omega (arith, answer.within, c.requires.1.fine.short)
 
 pub walk_pattern-bounds-m-0-2 : goal.walk_pattern-bounds-m-0-2
 unfolding pattern_go
@@ -583,7 +582,7 @@ walk_pattern-walk_parts-requires t c =
     start {keep = some a.room} (λ id u v. step any_word λ n. last (parts_at (words a.s.now) a.tab.now a.room a.mode n id v)) c.requires.1 (λ id z r. refl) in
     let answer = rw c.in-Is.is at c.word_in.ensures in
     let one = read begun 0 answer (omega arith) in
-   (omega (arith, answer.within, (placed c.args.m.now (at_of c.args.m.now + 1) c.requires.1.fit.size).at, c.requires.0), (c.requires.0, ready (omega arith) c.requires.1 one))
+    (omega (arith, answer.within, (placed c.args.m.now (at_of c.args.m.now + 1) c.requires.1.fit.size).at, c.requires.0), (c.requires.0, ready (omega arith) c.requires.1 one))
 
 pub walk_pattern-returns : goal.walk_pattern-returns
 unfolding pattern_go
@@ -593,7 +592,7 @@ walk_pattern-returns t c =
     let answer = rw c.in-Is.is at c.word_in.ensures in
     let one = read begun 0 answer (omega arith) in
     let ended = tail c.walk_parts.result (omega arith) one c.walk_parts.ensures in
-   ended
+    ended
 
 -- walk_rest
 pub walk_rest-walk_inner-a-requires : goal.walk_rest-walk_inner-a-requires
@@ -607,7 +606,7 @@ walk_rest-returns-then-a-ne0 t c =
     let begun = let a = c.args in
     start {keep = some a.room} (λ id u v. step (inner_at (words a.s.now) a.tab.now a.room a.mode a.f id v) λ x. step (row_go (expr_go (world_at (words a.s.now) a.tab.now id) (tables_in a.tab.now) a.room (mode_of a.mode)) (kids_of a.f) (settings (world_at (words a.s.now) a.tab.now id).is_id a.f (first_of a.mode)) x) λ y. last (marks_at (words a.s.now) a.tab.now a.room a.mode 0 (items_of a.f) id y)) c.requires.1 (λ id z r. refl) in
     let bad = fell c.walk_inner-a.result c.if-a-ne0.true begun c.walk_inner-a.ensures in
-   bad
+    bad
 
 pub walk_rest-overflow_mul-calm : goal.walk_rest-overflow_mul-calm
 unfolding rest_go
@@ -630,7 +629,7 @@ walk_rest-walk_many-b-requires t c =
     let begun = let a = c.args in
     start {keep = some a.room} (λ id u v. step (inner_at (words a.s.now) a.tab.now a.room a.mode a.f id v) λ x. step (row_go (expr_go (world_at (words a.s.now) a.tab.now id) (tables_in a.tab.now) a.room (mode_of a.mode)) (kids_of a.f) (settings (world_at (words a.s.now) a.tab.now id).is_id a.f (first_of a.mode)) x) λ y. last (marks_at (words a.s.now) a.tab.now a.room a.mode 0 (items_of a.f) id y)) c.requires.1 (λ id z r. refl) in
     let one = go begun c.walk_inner-a.ensures (omega arith) c.if-a-ne0.false in
-   let o = one in (omega (arith, o.from, c.requires.0), (omega (arith, c.requires.0), ready (omega arith) c.requires.1 o))
+    let o = one in (omega (arith, o.from, c.requires.0), (omega (arith, c.requires.0), ready (omega arith) c.requires.1 o))
 
 pub walk_rest-returns-then-b-ne0 : goal.walk_rest-returns-then-b-ne0
 unfolding rest_go
@@ -641,7 +640,7 @@ walk_rest-returns-then-b-ne0 t c =
     let kids = let a = c.args in
     in-kids a.mode c.pair_of.result (a.mode / 64 * 64 + c.pair_of.result) c.pair_of.ensures.below refl a.room (kids_of a.f) c.pair_of.ensures.result_value (rw c.kids_of.ensures at c.walk_many-b.ensures) in
     let bad2 = fell c.walk_many-b.result c.if-b-ne0.true one kids in
-   bad2
+    bad2
 
 pub walk_rest-walk_marks-requires : goal.walk_rest-walk_marks-requires
 unfolding rest_go
@@ -652,7 +651,7 @@ walk_rest-walk_marks-requires t c =
     let kids = let a = c.args in
     in-kids a.mode c.pair_of.result (a.mode / 64 * 64 + c.pair_of.result) c.pair_of.ensures.below refl a.room (kids_of a.f) c.pair_of.ensures.result_value (rw c.kids_of.ensures at c.walk_many-b.ensures) in
     let two = go one kids (omega arith) c.if-b-ne0.false in
-   let o = two in (omega (arith, o.from, c.requires.0), (omega (arith, c.requires.0), ready (omega arith) c.requires.1 o))
+    let o = two in (omega (arith, o.from, c.requires.0), (omega (arith, c.requires.0), ready (omega arith) c.requires.1 o))
 
 pub walk_rest-returns : goal.walk_rest-returns
 unfolding rest_go
@@ -665,7 +664,7 @@ walk_rest-returns t c =
     let two = go one kids (omega arith) c.if-b-ne0.false in
     let ended = let a = c.args in
     tail c.walk_marks.result (omega arith) two (in-marks a.mode 0 (a.mode / 64 * 64) (omega arith) (omega arith) a.room 0 (items_of a.f) (rw c.items_of.ensures at c.walk_marks.ensures)) in
-   ended
+    ended
 
 -- walk_row
 pub walk_row-overflow_mul-calm : goal.walk_row-overflow_mul-calm
@@ -683,7 +682,7 @@ walk_row-loop-left-init t c =
 pub walk_row-overflow_cast-m : goal.walk_row-overflow_cast-m
 walk_row-overflow_cast-m t c =
     let place = row_within c.loop-left.invariant c.requires.1 in
-   omega (arith, place.1, c.requires.1.fine.short)
+    omega (arith, place.1, c.requires.1.fine.short)
 
 pub walk_row-bounds-m-0-then-d-room : goal.walk_row-bounds-m-0-then-d-room
 walk_row-bounds-m-0-then-d-room t c =
@@ -692,7 +691,7 @@ walk_row-bounds-m-0-then-d-room t c =
 pub walk_row-returns-then-d-room : goal.walk_row-returns-then-d-room
 walk_row-returns-then-d-room t c =
     let ended = row_done c.loop-left.invariant (omega arith) (omega arith) in
-   ended
+    ended
 
 pub walk_row-overflow_add-d : goal.walk_row-overflow_add-d
 walk_row-overflow_add-d t c =
@@ -733,12 +732,12 @@ walk_row-bounds-tab-0 t c =
 pub walk_row-plain_at-t-requires : goal.walk_row-plain_at-t-requires
 walk_row-plain_at-t-requires t c =
     let place = row_within c.loop-left.invariant c.requires.1 in
-   place.1
+    place.1
 
 pub walk_row-overflow_cast-m-then-t-eq0 : goal.walk_row-overflow_cast-m-then-t-eq0
 walk_row-overflow_cast-m-then-t-eq0 t c =
     let place = row_within c.loop-left.invariant c.requires.1 in
-   omega (arith, place.1, c.requires.1.fine.short)
+    omega (arith, place.1, c.requires.1.fine.short)
 
 pub walk_row-bounds-m-0-then-t-eq0 : goal.walk_row-bounds-m-0-then-t-eq0
 walk_row-bounds-m-0-then-t-eq0 t c =
@@ -751,7 +750,7 @@ walk_row-overflow_add-calm t c =
 pub walk_row-walk_expr-r-requires : goal.walk_row-walk_expr-r-requires
 walk_row-walk_expr-r-requires t c =
     let place = row_within c.loop-left.invariant c.requires.1 in
-   let p = place in
+    let p = place in
     (omega (arith, p.0, p.1, (placed c.loop-left.m c.loop-left.at c.loop-left.invariant.size).at, c.requires.0), (omega (arith, c.loop-left.invariant.levels.le, c.loop-left.invariant.levels.low), row-ready c.loop-left.invariant c.requires.1))
 
 pub walk_row-returns-then-r-ne0 : goal.walk_row-returns-then-r-ne0
@@ -759,40 +758,40 @@ walk_row-returns-then-r-ne0 t c =
     let walked = let a = c.args in let l = c.loop-left in
     in-set a.mode l.set (a.mode / 64 * 64 + l.set) (omega (arith, l.invariant.first)) refl l.d l.invariant.first c.walk_expr-r.ensures in
     let bad = row-fall c.loop-left.invariant c.walk_expr-r.result (omega arith) c.if-r-ne0.true walked in
-   bad
+    bad
 
 pub walk_row-bounds-m-0-then-t-eq0-2 : goal.walk_row-bounds-m-0-then-t-eq0-2
 walk_row-bounds-m-0-then-t-eq0-2 t c =
     let walked = let a = c.args in let l = c.loop-left in
     in-set a.mode l.set (a.mode / 64 * 64 + l.set) (omega (arith, l.invariant.first)) refl l.d l.invariant.first c.walk_expr-r.ensures in
-   omega (arith, walked.sized, (placed c.loop-left.m c.loop-left.at c.loop-left.invariant.size).size, c.loop-left.invariant.size)
+    omega (arith, walked.sized, (placed c.loop-left.m c.loop-left.at c.loop-left.invariant.size).size, c.loop-left.invariant.size)
 
 pub walk_row-loop-left-smaller-then-t-eq0 : goal.walk_row-loop-left-smaller-then-t-eq0
 walk_row-loop-left-smaller-then-t-eq0 t c =
     let walked = let a = c.args in let l = c.loop-left in
     in-set a.mode l.set (a.mode / 64 * 64 + l.set) (omega (arith, l.invariant.first)) refl l.d l.invariant.first c.walk_expr-r.ensures in
-   let x = rw c.if-r-ne0.false at walked.goes in omega (arith, x.from, (placed c.loop-left.m c.loop-left.at c.loop-left.invariant.size).at)
+    let x = rw c.if-r-ne0.false at walked.goes in omega (arith, x.from, (placed c.loop-left.m c.loop-left.at c.loop-left.invariant.size).at)
 
 pub walk_row-loop-left-preserved-then-t-eq0 : goal.walk_row-loop-left-preserved-then-t-eq0
 walk_row-loop-left-preserved-then-t-eq0 t c =
     let walked = let a = c.args in let l = c.loop-left in
     in-set a.mode l.set (a.mode / 64 * 64 + l.set) (omega (arith, l.invariant.first)) refl l.d l.invariant.first c.walk_expr-r.ensures in
-   row_one c.loop-left.invariant (omega arith) c.if-r-ne0.false walked
+    row_one c.loop-left.invariant (omega arith) c.if-r-ne0.false walked
 
 pub walk_row-overflow_add-at : goal.walk_row-overflow_add-at
 walk_row-overflow_add-at t c =
     let plain = plain-some c.plain_at-t.result c.if-t-eq0.false c.plain_at-t.ensures in
-   omega (arith, plain.within, c.requires.1.fine.short)
+    omega (arith, plain.within, c.requires.1.fine.short)
 
 pub walk_row-overflow_add-at-else-t-eq0 : goal.walk_row-overflow_add-at-else-t-eq0
 walk_row-overflow_add-at-else-t-eq0 t c =
     let plain = plain-some c.plain_at-t.result c.if-t-eq0.false c.plain_at-t.ensures in
-   omega (arith, plain.within, c.requires.1.fine.short)
+    omega (arith, plain.within, c.requires.1.fine.short)
 
 pub walk_row-overflow_add-at-else-t-eq0-2 : goal.walk_row-overflow_add-at-else-t-eq0-2
 walk_row-overflow_add-at-else-t-eq0-2 t c =
     let plain = plain-some c.plain_at-t.result c.if-t-eq0.false c.plain_at-t.ensures in
-   omega (arith, plain.within, c.requires.1.fine.short)
+    omega (arith, plain.within, c.requires.1.fine.short)
 
 pub walk_row-overflow_add-set : goal.walk_row-overflow_add-set
 walk_row-overflow_add-set t c =
@@ -805,7 +804,7 @@ walk_row-overflow_shr-t t c =
 pub walk_row-overflow_cast-m-then-t-set-eq1 : goal.walk_row-overflow_cast-m-then-t-set-eq1
 walk_row-overflow_cast-m-then-t-set-eq1 t c =
     let plain = plain-some c.plain_at-t.result c.if-t-eq0.false c.plain_at-t.ensures in
-   omega (arith, plain.within, c.requires.1.fine.short)
+    omega (arith, plain.within, c.requires.1.fine.short)
 
 pub walk_row-bounds-m-0-then-t-set-eq1 : goal.walk_row-bounds-m-0-then-t-set-eq1
 walk_row-bounds-m-0-then-t-set-eq1 t c =
@@ -818,17 +817,17 @@ walk_row-overflow_add-calm-then-t-set-eq1 t c =
 pub walk_row-act-requires : goal.walk_row-act-requires
 walk_row-act-requires t c =
     let plain = plain-some c.plain_at-t.result c.if-t-eq0.false c.plain_at-t.ensures in
-   let l = c.loop-left in let h : 0 < l.left = omega (arith, c.if-left-eq0.false) in let g : 0 < c.plain_at-t.result = omega (arith, c.if-t-eq0.false) in rw (c.word-code.ensures, c.word-a.ensures) (act-asks l.invariant h g plain c.requires.1)
+    let l = c.loop-left in let h : 0 < l.left = omega (arith, c.if-left-eq0.false) in let g : 0 < c.plain_at-t.result = omega (arith, c.if-t-eq0.false) in rw (c.word-code.ensures, c.word-a.ensures) (act-asks l.invariant h g plain c.requires.1)
 
 pub walk_row-parts_of-k-requires : goal.walk_row-parts_of-k-requires
 walk_row-parts_of-k-requires t c =
     let plain = plain-some c.plain_at-t.result c.if-t-eq0.false c.plain_at-t.ensures in
-   let l = c.loop-left in let h : 0 < l.left = omega (arith, c.if-left-eq0.false) in let g : 0 < c.plain_at-t.result = omega (arith, c.if-t-eq0.false) in parts-ask l.invariant h g plain
+    let l = c.loop-left in let h : 0 < l.left = omega (arith, c.if-left-eq0.false) in let g : 0 < c.plain_at-t.result = omega (arith, c.if-t-eq0.false) in parts-ask l.invariant h g plain
 
 pub walk_row-loop-left-smaller-then-k-eq0 : goal.walk_row-loop-left-smaller-then-k-eq0
 walk_row-loop-left-smaller-then-k-eq0 t c =
     let plain = plain-some c.plain_at-t.result c.if-t-eq0.false c.plain_at-t.ensures in
-   let l = c.loop-left in let h : 0 < l.left = omega (arith, c.if-left-eq0.false) in let g : 0 < c.plain_at-t.result = omega (arith, c.if-t-eq0.false) in let p = head-end l.invariant h g plain in omega (arith, p.0, p.1)
+    let l = c.loop-left in let h : 0 < l.left = omega (arith, c.if-left-eq0.false) in let g : 0 < c.plain_at-t.result = omega (arith, c.if-t-eq0.false) in let p = head-end l.invariant h g plain in omega (arith, p.0, p.1)
 
 pub walk_row-loop-left-preserved-then-k-eq0 : goal.walk_row-loop-left-preserved-then-k-eq0
 walk_row-loop-left-preserved-then-k-eq0 t c =
@@ -836,7 +835,7 @@ walk_row-loop-left-preserved-then-k-eq0 t c =
     let did : Heading (words c.args.s.now) c.args.tab.now c.args.m.now c.args.vis.now c.args.found.now c.args.room c.args.mode c.args.n c.if-t-set-eq1.m c.loop-left.vis c.if-t-set-eq1.found (c.loop-left.at + 1 + c.plain_at-t.result % 2) c.loop-left.left c.loop-left.set c.loop-left.later c.loop-left.d (get_or (words c.args.s.now) c.loop-left.at 0) (get_or (words c.args.s.now) (c.loop-left.at + 1) 0) = let a = c.args in let l = c.loop-left in let h : 0 < l.left = omega (arith, c.if-left-eq0.false) in let g : 0 < c.plain_at-t.result = omega (arith, c.if-t-eq0.false) in
     elim c.if-t-set-eq1.branch [ walk_row-then-t-set-eq1 w ↦ head_at_lem w.m-is w.found-is (head-acted l.invariant h g plain (in-act a.mode l.set (a.mode / 64 * 64 + l.set) (headed (get_or (words a.s.now) l.at 0) (get_or (words a.s.now) (l.at + 1) 0)) l.invariant.first refl (rw (c.word-code.ensures, c.word-a.ensures) at w.act.ensures))) | walk_row-else-t-set-eq1 w ↦ head_at_lem w.m-is w.found-is (head-calm l.invariant h g plain w.if-t-set-eq1.false) ] in
     let parts = rw (plain.shaped, c.word-a.ensures) at c.parts_of-k.ensures in
-   row-leaf did (sym parts ∙ c.if-k-eq0.true)
+    row-leaf did (sym parts ∙ c.if-k-eq0.true)
 
 pub walk_row-bounds-tab-3 : goal.walk_row-bounds-tab-3
 walk_row-bounds-tab-3 t c =
@@ -845,7 +844,7 @@ walk_row-bounds-tab-3 t c =
 pub walk_row-pair-p-requires : goal.walk_row-pair-p-requires
 walk_row-pair-p-requires t c =
     let plain = plain-some c.plain_at-t.result c.if-t-eq0.false c.plain_at-t.ensures in
-   let l = c.loop-left in let h : 0 < l.left = omega (arith, c.if-left-eq0.false) in let g : 0 < c.plain_at-t.result = omega (arith, c.if-t-eq0.false) in rw (c.word-code.ensures, c.word-a.ensures) (pair-asks l.invariant h g plain)
+    let l = c.loop-left in let h : 0 < l.left = omega (arith, c.if-left-eq0.false) in let g : 0 < c.plain_at-t.result = omega (arith, c.if-t-eq0.false) in rw (c.word-code.ensures, c.word-a.ensures) (pair-asks l.invariant h g plain)
 
 pub walk_row-overflow_sub-m : goal.walk_row-overflow_sub-m
 walk_row-overflow_sub-m t c =
@@ -876,18 +875,18 @@ walk_row-bounds-m-d-else-k-eq0 t c =
     let plain = plain-some c.plain_at-t.result c.if-t-eq0.false c.plain_at-t.ensures in
     let did : Heading (words c.args.s.now) c.args.tab.now c.args.m.now c.args.vis.now c.args.found.now c.args.room c.args.mode c.args.n c.if-t-set-eq1.m c.loop-left.vis c.if-t-set-eq1.found (c.loop-left.at + 1 + c.plain_at-t.result % 2) c.loop-left.left c.loop-left.set c.loop-left.later c.loop-left.d (get_or (words c.args.s.now) c.loop-left.at 0) (get_or (words c.args.s.now) (c.loop-left.at + 1) 0) = let a = c.args in let l = c.loop-left in let h : 0 < l.left = omega (arith, c.if-left-eq0.false) in let g : 0 < c.plain_at-t.result = omega (arith, c.if-t-eq0.false) in
     elim c.if-t-set-eq1.branch [ walk_row-then-t-set-eq1 w ↦ head_at_lem w.m-is w.found-is (head-acted l.invariant h g plain (in-act a.mode l.set (a.mode / 64 * 64 + l.set) (headed (get_or (words a.s.now) l.at 0) (get_or (words a.s.now) (l.at + 1) 0)) l.invariant.first refl (rw (c.word-code.ensures, c.word-a.ensures) at w.act.ensures))) | walk_row-else-t-set-eq1 w ↦ head_at_lem w.m-is w.found-is (head-calm l.invariant h g plain w.if-t-set-eq1.false) ] in
-   omega (arith, c.loop-left.invariant.levels.le, c.loop-left.invariant.levels.low, did.size)
+    omega (arith, c.loop-left.invariant.levels.le, c.loop-left.invariant.levels.low, did.size)
 
 pub walk_row-overflow_sub-d : goal.walk_row-overflow_sub-d
 walk_row-overflow_sub-d t c =
     let plain = plain-some c.plain_at-t.result c.if-t-eq0.false c.plain_at-t.ensures in
-   omega (arith, plain.level)
+    omega (arith, plain.level)
 
 pub walk_row-loop-left-smaller : goal.walk_row-loop-left-smaller
 walk_row-loop-left-smaller t c =
     let plain = plain-some c.plain_at-t.result c.if-t-eq0.false c.plain_at-t.ensures in
     let parts = rw (plain.shaped, c.word-a.ensures) at c.parts_of-k.ensures in
-   let l = c.loop-left in let h : 0 < l.left = omega (arith, c.if-left-eq0.false) in let g : 0 < c.plain_at-t.result = omega (arith, c.if-t-eq0.false) in let p = head-end l.invariant h g plain in
+    let l = c.loop-left in let h : 0 < l.left = omega (arith, c.if-left-eq0.false) in let g : 0 < c.plain_at-t.result = omega (arith, c.if-t-eq0.false) in let p = head-end l.invariant h g plain in
     lighter (length (words c.args.s.now)) l.at _ c.args.room l.d l.left _ p.0 p.1 plain.level l.invariant.levels.le (omega (arith, parts, head_few l.invariant h g plain))
 
 pub walk_row-loop-left-preserved : goal.walk_row-loop-left-preserved
@@ -896,4 +895,4 @@ walk_row-loop-left-preserved t c =
     let did : Heading (words c.args.s.now) c.args.tab.now c.args.m.now c.args.vis.now c.args.found.now c.args.room c.args.mode c.args.n c.if-t-set-eq1.m c.loop-left.vis c.if-t-set-eq1.found (c.loop-left.at + 1 + c.plain_at-t.result % 2) c.loop-left.left c.loop-left.set c.loop-left.later c.loop-left.d (get_or (words c.args.s.now) c.loop-left.at 0) (get_or (words c.args.s.now) (c.loop-left.at + 1) 0) = let a = c.args in let l = c.loop-left in let h : 0 < l.left = omega (arith, c.if-left-eq0.false) in let g : 0 < c.plain_at-t.result = omega (arith, c.if-t-eq0.false) in
     elim c.if-t-set-eq1.branch [ walk_row-then-t-set-eq1 w ↦ head_at_lem w.m-is w.found-is (head-acted l.invariant h g plain (in-act a.mode l.set (a.mode / 64 * 64 + l.set) (headed (get_or (words a.s.now) l.at 0) (get_or (words a.s.now) (l.at + 1) 0)) l.invariant.first refl (rw (c.word-code.ensures, c.word-a.ensures) at w.act.ensures))) | walk_row-else-t-set-eq1 w ↦ head_at_lem w.m-is w.found-is (head-calm l.invariant h g plain w.if-t-set-eq1.false) ] in
     let parts = rw (plain.shaped, c.word-a.ensures) at c.parts_of-k.ensures in
-   let l = c.loop-left in let h : 0 < l.left = omega (arith, c.if-left-eq0.false) in let g : 0 < c.plain_at-t.result = omega (arith, c.if-t-eq0.false) in row-down did c.parts_of-k.result c.pair-p.result parts (omega (arith, parts, head_few l.invariant h g plain)) c.pair-p.ensures.below (rw (c.word-code.ensures, c.word-a.ensures) at c.pair-p.ensures.result_value)
+    let l = c.loop-left in let h : 0 < l.left = omega (arith, c.if-left-eq0.false) in let g : 0 < c.plain_at-t.result = omega (arith, c.if-t-eq0.false) in row-down did c.parts_of-k.result c.pair-p.result parts (omega (arith, parts, head_few l.invariant h g plain)) c.pair-p.ensures.below (rw (c.word-code.ensures, c.word-a.ensures) at c.pair-p.ensures.result_value)

@@ -47,7 +47,6 @@ decreases-walk_rest l = 8 * (length (words l.s.now) - at_of l.m.now) + 4
 abbrev pub decreases-walk_row : goal.decreases-walk_row
 decreases-walk_row l = 8 * (length (words l.s.now) - at_of l.m.now) + 1
 
-
 abbrev pub invariant-walk_elems-loop-left : goal.invariant-walk_elems-loop-left
 invariant-walk_elems-loop-left l = Turning (some l.room) (words l.s) l.tab l.initial.m l.initial.vis l.initial.found l.n (elem_at (words l.s) l.tab l.room l.mode) l.m l.vis l.found l.left
 
