@@ -1,8 +1,5 @@
 -- The answer that an arm opens is the definition's, so the arm's number is that answer's, and so are the counts that it stores.
-use borrow.Author.Rules.{rules}
-use mathlib.Core.List.{List}
 use mathlib.Core.Path.{ap, sym, ◌∙◌}
-use Prim.Native.Nat.{ℕ}
 use Rattle.checker.specs.declared.Checked.{Checked}
 use Rattle.exports.specs.Numbers.{checked_number, with_counts}
 use Rattle.exports.proofs.cenguatu_check.Goals as goal
