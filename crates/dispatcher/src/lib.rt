@@ -6,6 +6,8 @@
 
 mod exports;
 
+pub use exports::{cenguatu_add, cenguatu_take};
+
 ghost use Rattle.std.specs.Prelude.{◌+◌, ◌<◌, get_or};
 ghost use Rattle.dispatcher.specs.Words.{Adds, Takes, Serves};
 
