@@ -126,5 +126,5 @@ stale() {
 }
 
 archive() {
-    if stale "$host/../target/staticlib/lib$1.a"; then (cd "$host/.." && rt staticlib "$1" >&2); fi
+    if stale "$host/../target/staticlib/lib$1.a"; then "$host/../tools/build" archive "$1" >&2; fi
 }
