@@ -2,12 +2,12 @@
 -- refusal was laid there.
 use Prim.Native.Nat.{ℕ, ◌+◌, ◌^◌, ◌<◌, ◌≤◌}
 use native.Mathlib.Omega.{arith}
-use mathlib.Core.Path.{◌≡◌, refl}
+use mathlib.Core.Path.{◌≡◌, refl, ap}
 use mathlib.Core.Bool.{Bool, true, false, cond}
 use mathlib.Core.List.{List, ◌++◌}
 use borrow.Author.Tests.{leb-true}
 use lib.Dec.{leb}
-use lib.ListN.{length, drop, length-append}
+use lib.ListN.{length, take, drop, length-append, length-take}
 use lib.Seq.{take-append_seam}
 use Rattle.words.specs.Decimal.{decimal}
 use Rattle.words.specs.Front.{put_front}
@@ -31,6 +31,10 @@ refusal-short c h = omega (arith, refusal-long c, length-append (bytes "refused 
 prints : {text old new : List ℕ} {r : ℕ} → Puts text old new r → r ≤ page_size → Prints text new r
 unfolding over
 prints {text} {old} p h = record { front = rw (p.wrote, p.long) (take-append_seam text (drop (length text) old)); long = p.long; within = h }
+
+-- the page is long enough for what stands on it
+pub page-holds : {text page : List ℕ} {r : ℕ} → Prints text page r → r ≤ length page
+page-holds {page = page} {r = r} p = omega (arith, length-take r page, ap length p.front, p.long)
 
 pub on-page : (x : Sheet (List ℕ)) {old new : List ℕ} {n : ℕ} → length old ≡ page_size → Writes x old new (written.Bytes n) → Prints (on_page x) new n
 unfolding written_as page_as put_front on_page over
