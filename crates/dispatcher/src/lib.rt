@@ -6,10 +6,10 @@
 
 mod exports;
 
-pub use exports::{cenguatu_add, cenguatu_take};
-
 ghost use Rattle.std.specs.Prelude.{◌+◌, ◌<◌, get_or};
 ghost use Rattle.dispatcher.specs.Words.{Adds, Takes, Serves};
+
+pub use exports::{cenguatu_add, cenguatu_take};
 
 // Where the words of a state begin, after 16 items for each queue: the place of each queue's oldest item, how many wait in each, and the
 // queue served last, as its number + 1 or 0 before any is served.
