@@ -1,4 +1,4 @@
-/* Cenguatu's C function. `rt staticlib listing` makes the archive to link, target/staticlib/liblisting.a. */
+/* Cenguatu's C function. `tools/build archive listing` makes the archive to link, target/staticlib/liblisting.a. */
 #ifndef CENGUATU_H
 #define CENGUATU_H
 

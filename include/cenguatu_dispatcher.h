@@ -1,4 +1,4 @@
-/* Cenguatu's dispatcher: turns among 32 queues of up to 16 items. `rt staticlib dispatcher` makes the archive to link,
+/* Cenguatu's dispatcher: turns among 32 queues of up to 16 items. `tools/build archive dispatcher` makes the archive to link,
    target/staticlib/libdispatcher.a. */
 #ifndef CENGUATU_DISPATCHER_H
 #define CENGUATU_DISPATCHER_H
