@@ -1,6 +1,2 @@
-pub mod Later
-pub mod Shapes
-pub mod Chain
-pub mod Opened
+pub mod Reading
 pub mod Bindings
-pub mod Rows

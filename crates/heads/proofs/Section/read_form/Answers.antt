@@ -1,0 +1,17 @@
+use Rattle.std.proofs.Common.{rules, ◌<◌}
+use Rattle.heads.specs.Form.{read_form}
+use Rattle.heads.proofs.Reading.{onward, halted, longer_from}
+use Rattle.heads.proofs.Section.read_form.Goals as goal
+
+pub returns-in_err-code-clause-takes : goal.returns-in_err-code-clause-takes
+unfolding read_form
+returns-in_err-code-clause-takes c = search (rules, halted)
+
+pub returns-clause-longer : goal.returns-clause-longer
+returns-clause-longer c =
+    let l : c.args.at < c.in_ok-code.at = c.in_ok-code.ensures.longer in
+    longer_from _ l c.read_rest.ensures
+
+pub returns-clause-takes : goal.returns-clause-takes
+unfolding read_form
+returns-clause-takes c = search (rules, onward)
