@@ -1,5 +1,6 @@
 -- Cause 7 is decided after causes 5 and 6, in clauses and arms too: a strict reader and its loose one agree up to the first variable
 -- that is not known, and what the loose one reads binds it. Readers one after the other keep this, so that many of a kind do.
+use Rattle.std.specs.Prelude.{Some}
 use Prim.Native.Nat.{ℕ, zero, suc}
 use mathlib.Core.Bool.{Bool, true, false, cond}
 use mathlib.Core.Path.{refl}
@@ -7,7 +8,6 @@ use mathlib.Core.List.{List, [], flat_map}
 use lib.Dec.{eqb}
 use Rattle.heads.specs.Got.{Got, word_in, any_word, flag, many, counted}
 use Rattle.heads.specs.Head.{Tables}
-use Rattle.heads.specs.declared.Maybe.TheVariants as maybe
 use Rattle.expr.specs.Binders.{binder, binders, binders_e}
 use Rattle.expr.proofs.Strict.{loose, Strict, same, refused, Follows, strict-bind, strict-head, strict-allow, strict-row, strict-marks, strict-pattern, strict-expr}
 use Rattle.clauses.specs.Tree.{Keys, unsorted, keys_of}
@@ -77,7 +77,7 @@ module _ {w : Tables} where
       (entry (eqb kind 3) (strict-with a b no_keys_lem ws)  -- With
       (entry (eqb kind 4) (strict-return a b no_keys_lem ws)  -- Return
       (entry (eqb kind 5)  -- Unwind
-      (strict-head (any_word ws) (λ v r. strict-allow (maybe.Var v) (strict-bind (expr r) (λ e r2. same refl))))
+      (strict-head (any_word ws) (λ v r. strict-allow (Some v) (strict-bind (expr r) (λ e r2. same refl))))
       (entry (eqb kind 6) (strict-bind (strict-pattern expr ws) (λ s r. same refl))  -- Create
       (entry (eqb kind 7) (strict-bind (strict-pattern expr ws) (λ s r. same refl))  -- Merge
       (entry (eqb kind 8) (strict-bind (strict-marked 1 ws) (λ es r. same refl))  -- Set

@@ -1,15 +1,19 @@
 -- The rows of an expression and a pattern: expressions, marks with their expressions, elements, parts.
+use Rattle.std.proofs.Common.{◌≤◌, drop, length, arith}
+use Rattle.heads.specs.Answer.{Ans}
 use mathlib.Core.Bool.{cond}
 use Rattle.heads.proofs.Rows.{Rows, rows-rest}
-use Rattle.heads.proofs.Shapes.{Rest, bare-bind, bare-row, bare-map, next-bind, bare-end, bare-pick-row}
-use Rattle.heads.proofs.Chain.{step, test, last, Past, turn, bare-run}
+use Rattle.heads.proofs.Shapes.{Rest, bare-bind, bare-head, bare-row, bare-map, bare-pick, bare-pick-row}
 use Prim.Native.Nat.{ℕ, suc}
-use mathlib.Core.Path.{◌≡◌, refl, sym, ◌∙◌}
+use mathlib.Core.Path.{◌≡◌, refl, ◌∙◌}
 use mathlib.Core.List.{List}
 use Rattle.heads.specs.Got.{Got, ok, no, bind, next, bare, word_in}
+use Rattle.heads.specs.declared.Form.{Form}
+use Rattle.heads.specs.Form.{read_form, kids_of, items_of, has_pattern}
+use Rattle.heads.proofs.Reading.{onward, none, past, beyond, ended}
 use Rattle.heads.specs.Head.{Tables, allowed, read_part, mark_low, mark_high, mark_kids}
-use Rattle.expr.specs.Tree.{more, mark, elem, part}
-use Rattle.expr.specs.Read.{Reader, RestE, RestS, no_more, no_steps, times, marks, elem_one, elems, part_one, parts}
+use Rattle.expr.specs.Tree.{more, mark, elem, part, tree}
+use Rattle.expr.specs.Read.{Reader, RestE, RestS, no_more, no_steps, times, marks, elem_one, elems, part_one, parts, maybe_pattern, after_form, read_expr}
 
 -- expressions
 module _ (P : Reader) where
@@ -27,10 +31,13 @@ module _ (P : Reader) where
   pub times-rest : (K : RestE) (n : ℕ) (ws : List ℕ) → bare (times n P K ws) ≡ next (bare (times n P no_more ws)) (λ r. bare (K r))
   times-rest K = rows-rest kid_rows (λ n r. bare (times n P K r)) (λ r. bare (K r)) (times_more K) (times-end K)
 
--- in a chain, expressions and what follows them are two steps
-pub times-then : {ws : List ℕ} {at p : ℕ} {g : Got (Unit {0})} (n : ℕ) (P : Reader) (K : RestE) → Past ws at g p (step (times n P K) (λ es. last (λ r. ok tt r))) → Past ws at g p (step (λ r. bare (times n P no_more r)) (λ u. last (λ r. bare (K r))))
-times-then n P K o =
-    turn (step (λ r. bare (times n P no_more r)) (λ u. last (λ r. bare (K r)))) o (sym (bare-end (times n P K _)) ∙ times-rest P K n _ ∙ next-bind (bare (times n P no_more _)) (λ r. bare (K r)))
+-- expressions and what follows them are two readings
+module _ {ws : List ℕ} {at : ℕ} (n : ℕ) (P : Reader) (K : RestE) where
+  pub kids_then : {p : ℕ} {h : Got (Unit {0})} {e : ℕ} → Ans ws at (bare (times n P no_more (drop at ws))) (ok tt (drop p ws)) p → Ans ws p (bare (K (drop p ws))) h e → Ans ws at (bare (times n P K (drop at ws))) h e
+  kids_then a b = record { same = rw (times-rest P K n (drop at ws), a.same, b.same); from = omega arith; within = b.within }
+
+  pub kids_none : {p c : ℕ} → Ans ws at (bare (times n P no_more (drop at ws))) (no c) p → Ans ws at (bare (times n P K (drop at ws))) (no c) p
+  kids_none a = record { same = rw (times-rest P K n (drop at ws), a.same); from = a.from; within = a.within }
 
 -- marks of a kind, each with its expressions
 abbrev pub mark_one : ℕ → Reader → Rest
@@ -48,6 +55,14 @@ marks-end kind P ws = refl
 
 abbrev pub mark_rows : ℕ → Reader → Rows
 mark_rows kind P = record { all = λ n r. bare (marks kind n P r); one = mark_one kind P; more = marks-more kind P; end = marks-end kind P }
+
+-- a mark, and the expressions that follow it
+module _ {ws : List ℕ} {at : ℕ} (kind : ℕ) (P : Reader) where
+  pub mark_none : {p c : ℕ} → Ans ws at (word_in (mark_low kind) (mark_high kind) (drop at ws)) (no c) p → Ans ws at (mark_one kind P (drop at ws)) (no c) p
+  mark_none a = none (λ w r. bare (times (mark_kids kind w) P no_more r)) a
+
+  pub mark_then : {p w : ℕ} {h : Got (Unit {0})} {e : ℕ} → Ans ws at (word_in (mark_low kind) (mark_high kind) (drop at ws)) (ok w (drop p ws)) p → Ans ws p (bare (times (mark_kids kind w) P no_more (drop p ws))) h e → Ans ws at (mark_one kind P (drop at ws)) h e
+  mark_then a b = onward (λ w r. bare (times (mark_kids kind w) P no_more r)) a b
 
 -- elements
 module _ (w : Tables) (P : Reader) where
@@ -69,7 +84,7 @@ module _ (w : Tables) (P : Reader) where
   -- parts
   part-one : (ws : List ℕ) → bare (part_one w P ws) ≡ bind (read_part ws) (λ h r. cond (allowed w h.path) (bare (elems h.count w P no_steps r)) (no 7))
   unfolding part_one
-  part-one = bare-run (step read_part (λ h. test (allowed w h.path) 7 (last (elems h.count w P no_steps))))
+  part-one ws = bare-head (read_part ws) _ _ (λ h r. bare-pick 7 (allowed w h.path) _ _ refl)
 
   pub parts_more : (n : ℕ) (ws : List ℕ) → bare (parts (suc n) w P ws) ≡ next (bare (part_one w P ws)) (λ r. bare (parts n w P r))
   unfolding parts
@@ -84,3 +99,19 @@ module _ (w : Tables) (P : Reader) where
 
   abbrev pub part_rows : Rows
   part_rows = record { all = λ n r. bare (parts n w P r); one = λ r. bare (part_one w P r); more = parts_more; end = parts-end }
+
+-- an expression: its head, the pattern if there is one, its own list and the items
+module _ {ws : List ℕ} {at p q : ℕ} {f : Form} (w : Tables) (room d : ℕ) (l : room ≡ suc d) (one : Ans ws at (read_form w.names (drop at ws)) (ok f (drop p ws)) p) (two : Ans ws p (bare (maybe_pattern (has_pattern f) w (read_expr w d) (drop p ws))) (ok tt (drop q ws)) q) where
+  more_of : {h : Got (Unit {0})} {e : ℕ} → Ans ws q (bare (times (kids_of f) (read_expr w d) (marks 0 (items_of f) (read_expr w d)) (drop q ws))) h e → Ans ws at (bare (read_expr w room (drop at ws))) h e
+  unfolding read_expr after_form
+  more_of a =
+      rw l
+      (past (λ f r. after_form w (read_expr w d) f r) one
+      (beyond (maybe_pattern (has_pattern f) w (read_expr w d) (drop p ws)) (λ s r. bind (times (kids_of f) (read_expr w d) (marks 0 (items_of f) (read_expr w d)) r) (λ es t. ok (tree f s es) t)) two
+      (λ s. ended (times (kids_of f) (read_expr w d) (marks 0 (items_of f) (read_expr w d)) (drop q ws)) (λ es t. ok (tree f s es) t) (λ x r. refl) a)))
+
+  pub kids_refused : {t c : ℕ} → Ans ws q (bare (times (kids_of f) (read_expr w d) no_more (drop q ws))) (no c) t → Ans ws at (bare (read_expr w room (drop at ws))) (no c) t
+  kids_refused a = more_of (kids_none _ _ _ a)
+
+  pub items_read : {t : ℕ} {h : Got (Unit {0})} {e : ℕ} → Ans ws q (bare (times (kids_of f) (read_expr w d) no_more (drop q ws))) (ok tt (drop t ws)) t → Ans ws t (bare (marks 0 (items_of f) (read_expr w d) (drop t ws))) h e → Ans ws at (bare (read_expr w room (drop at ws))) h e
+  items_read a b = more_of (kids_then _ _ _ a b)

@@ -1,5 +1,6 @@
 -- Cause 7 is decided after causes 5 and 6. A strict reader refuses with 7 at the first variable that has no row of the bindings table,
 -- a loose one lets every variable pass. The two agree up to that variable, and what the loose one reads from there on binds it as well.
+use Rattle.std.specs.Prelude.{Option, None, Some}
 use Prim.Native.Nat.{ℕ, zero, suc}
 use mathlib.Core.Bool.{Bool, true, false, ◌&&◌, and_assoc, and-true, and-false, cond}
 use mathlib.Core.Path.{◌≡◌, refl, sym, ◌∙◌, ap}
@@ -10,8 +11,6 @@ use Rattle.heads.specs.Head.{Tables, allowed, read_part, read_elem, mark_low, ma
 use Rattle.heads.specs.declared.Elem.{Elem}
 use Rattle.heads.specs.declared.Form.{Form}
 use Rattle.heads.specs.declared.Form.TheVariants.{Leaf, Var, Unresolved, Prop, Two, Slice, Many, BinOp, UnaryOp, Case, IsNull, PatternPredicate, ListComprehension, PatternComprehension, ListPredicate, MapProjection}
-use Rattle.heads.specs.declared.Maybe.{Maybe}
-use Rattle.heads.specs.declared.Maybe.TheVariants as maybe
 use Rattle.expr.specs.Tree.{node, Exprs, tree}
 use Rattle.expr.specs.Read.{Reader, RestE, RestS, no_more, times, marks, elem_one, elems, parts, pattern, maybe_pattern, after_form, read_expr}
 use Rattle.expr.specs.Binders.{binder, binders_e, binders, binders_s, all_known}
@@ -72,10 +71,10 @@ module _ {w : Tables} where
   strict-head (no c) f = refused
 
   -- after a variable that is bound, where one is
-  pub strict-allow : {A : Type 0} {xs : List ℕ} {ds : A → List ℕ} {g h : Got A} (m : Maybe) → Strict w (xs ++ binder m) ds g h → Strict w xs ds (cond (allowed (loose w) m) g (no 7)) (cond (allowed w m) h (no 7))
+  pub strict-allow : {A : Type 0} {xs : List ℕ} {ds : A → List ℕ} {g h : Got A} (m : Option ℕ) → Strict w (xs ++ binder m) ds g h → Strict w xs ds (cond (allowed (loose w) m) g (no 7)) (cond (allowed w m) h (no 7))
   unfolding all_known binder
-  strict-allow (maybe.Var v) s = cut (v ∷ []) (w.known v) (and-true (w.known v)) s
-  strict-allow maybe.Nothing s = cut [] true refl s
+  strict-allow (Some v) s = cut (v ∷ []) (w.known v) (and-true (w.known v)) s
+  strict-allow None s = cut [] true refl s
 
   pub strict-times : (n : ℕ) {P P' : Reader} {K K' : RestE} → Follows w binders_e P P' → Follows w binders K K' → Follows w binders (times n P K) (times n P' K')
   unfolding times binders_e

@@ -3,190 +3,121 @@
 #![tactic(auto)]
 
 ghost use Rattle.std.specs.Prelude.{Bool, ℕ, ◌≤◌, length, drop};
-ghost use Rattle.words.specs.Words.{words};
-ghost use Rattle.heads.specs.Got.{bare};
-ghost use Rattle.heads.specs.Answer.{Reads, tables};
-ghost use Rattle.expr.specs.Read.{reader, no_more, no_steps, times, marks, elem_one, elems, part_one, parts, maybe_pattern};
+ghost use Rattle.heads.specs.Answer.{Reads, words_of, tables_of, kind_of};
+ghost use Rattle.expr.specs.Read.{reader_of, no_more, no_steps, times, marks, elem_one, elems, part_one, parts, maybe_pattern};
 
-use heads::{
-    ElemRead, FormRead, PartRead, Read, Word, deep_cause, has_pattern, items_of, kids_of,
-    mark_high, mark_kids, mark_low, may_bind, read_elem_head, read_form, read_part_head, word_in,
-};
+use heads::{MarkKind, Section};
+use refusal::Refusal;
 
 // An expression, with room for this many levels.
 #[cycle(readers)]
-pub fn read_expr(s: &[u8], names: u32, rows: usize, k: usize, at: usize, room: u32) -> Read
-    requires { at ≤ length (words s.now) }
-    ensures { Reads (words s.now) at (bare ((reader (words s.now) names rows k room) (drop at (words s.now)))) result }
+pub fn read_expr(section: &Section, at: usize, room: u32) -> Result<usize, Refusal>
+    requires { at ≤ length (words_of section.now) }
+    ensures { Reads (words_of section.now) at (reader_of section.now room) result }
 {
     if room == 0 {
-        return Read::Refused(deep_cause(s, at));
+        return Err(section.too_deep(at));
     }
-    let d = room - 1;
-    let FormRead::Is(f, p) = read_form(s, names, at) else {
-        return Read::Refused(5);
-    };
-    let a = read_pattern(s, names, rows, k, p, d, has_pattern(f));
-    let Read::Next(q) = a else {
-        return a;
-    };
-    let b = read_kids(s, names, rows, k, q, d, kids_of(f));
-    let Read::Next(t) = b else {
-        return b;
-    };
-    read_marks(s, names, rows, k, t, d, 0, items_of(f))
+    let (form, at) = section.read_form(at)?;
+    let at = read_pattern(section, at, room - 1, form.has_pattern())?;
+    let at = read_kids(section, at, room - 1, form.kids())?;
+    read_marks(section, at, room - 1, MarkKind::Item, form.items())
 }
 
 // n expressions in a row.
 #[cycle(readers)]
-pub fn read_kids(
-    s: &[u8],
-    names: u32,
-    rows: usize,
-    k: usize,
-    at: usize,
-    room: u32,
-    n: usize,
-) -> Read
-    requires { at ≤ length (words s.now) }
-    ensures { Reads (words s.now) at (bare (times n (reader (words s.now) names rows k room) no_more (drop at (words s.now)))) result }
+pub fn read_kids(section: &Section, at: usize, room: u32, n: usize) -> Result<usize, Refusal>
+    requires { at ≤ length (words_of section.now) }
+    ensures { Reads (words_of section.now) at (times n (reader_of section.now room) no_more) result }
 {
     let mut p = at;
-    let mut left = n;
-    while 0 < left {
-        let r = read_expr(s, names, rows, k, p, room);
-        let Read::Next(q) = r else {
-            return r;
-        };
-        p = q;
-        left -= 1;
+    for _ in 0..n {
+        p = read_expr(section, p, room)?;
     }
-    Read::Next(p)
+    Ok(p)
 }
 
 // n marks of a kind, each with its expressions.
 #[cycle(readers)]
 pub fn read_marks(
-    s: &[u8],
-    names: u32,
-    rows: usize,
-    k: usize,
+    section: &Section,
     at: usize,
     room: u32,
-    kind: u32,
+    kind: MarkKind,
     n: u32,
-) -> Read
-    requires { at ≤ length (words s.now) }
-    ensures { Reads (words s.now) at (bare (marks kind n (reader (words s.now) names rows k room) (drop at (words s.now)))) result }
+) -> Result<usize, Refusal>
+    requires { at ≤ length (words_of section.now) }
+    ensures { Reads (words_of section.now) at (marks (kind_of kind) n (reader_of section.now room)) result }
 {
     let mut p = at;
-    let mut left = n;
-    while 0 < left {
-        let Word::Is(w) = word_in(s, p, mark_low(kind), mark_high(kind)) else {
-            return Read::Refused(5);
-        };
-        let r = read_kids(s, names, rows, k, p + 1, room, mark_kids(kind, w));
-        let Read::Next(q) = r else {
-            return r;
-        };
-        p = q;
-        left -= 1;
+    for _ in 0..n {
+        let (mark, q) = section.word_in(p, kind.low(), kind.high())?;
+        p = read_kids(section, q, room, kind.kids(mark))?;
     }
-    Read::Next(p)
+    Ok(p)
 }
 
 // A pattern, where there is one.
 #[cycle(readers)]
-pub fn read_pattern(
-    s: &[u8],
-    names: u32,
-    rows: usize,
-    k: usize,
-    at: usize,
-    room: u32,
-    has: bool,
-) -> Read
-    requires { at ≤ length (words s.now) }
-    ensures { Reads (words s.now) at (bare (maybe_pattern has (tables (words s.now) names rows k) (reader (words s.now) names rows k room) (drop at (words s.now)))) result }
+pub fn read_pattern(section: &Section, at: usize, room: u32, has: bool) -> Result<usize, Refusal>
+    requires { at ≤ length (words_of section.now) }
+    ensures { Reads (words_of section.now) at (maybe_pattern has (tables_of section.now) (reader_of section.now room)) result }
 {
-    if has {
-        let Word::Is(n) = word_in(s, at, 0, 4294967296) else {
-            return Read::Refused(5);
-        };
-        read_parts(s, names, rows, k, at + 1, room, n)
-    } else {
-        Read::Next(at)
+    if !has {
+        return Ok(at);
     }
+    let (n, at) = section.any_word(at)?;
+    read_parts(section, at, room, n)
 }
 
 // n parts of a pattern.
 #[cycle(readers)]
-pub fn read_parts(s: &[u8], names: u32, rows: usize, k: usize, at: usize, room: u32, n: u32) -> Read
-    requires { at ≤ length (words s.now) }
-    ensures { Reads (words s.now) at (bare (parts n (tables (words s.now) names rows k) (reader (words s.now) names rows k room) (drop at (words s.now)))) result }
+fn read_parts(section: &Section, at: usize, room: u32, n: u32) -> Result<usize, Refusal>
+    requires { at ≤ length (words_of section.now) }
+    ensures { Reads (words_of section.now) at (parts n (tables_of section.now) (reader_of section.now room)) result }
 {
     let mut p = at;
-    let mut left = n;
-    while 0 < left {
-        let r = read_part(s, names, rows, k, p, room);
-        let Read::Next(q) = r else {
-            return r;
-        };
-        p = q;
-        left -= 1;
+    for _ in 0..n {
+        p = read_part(section, p, room)?;
     }
-    Read::Next(p)
+    Ok(p)
 }
 
 // A part of a pattern, with its elements.
 #[cycle(readers)]
-pub fn read_part(s: &[u8], names: u32, rows: usize, k: usize, at: usize, room: u32) -> Read
-    requires { at ≤ length (words s.now) }
-    ensures { Reads (words s.now) at (bare (part_one (tables (words s.now) names rows k) (reader (words s.now) names rows k room) (drop at (words s.now)))) result }
+fn read_part(section: &Section, at: usize, room: u32) -> Result<usize, Refusal>
+    requires { at ≤ length (words_of section.now) }
+    ensures { Reads (words_of section.now) at (part_one (tables_of section.now) (reader_of section.now room)) result }
 {
-    let PartRead::Is(h, p) = read_part_head(s, at) else {
-        return Read::Refused(5);
-    };
-    let path = h.path;
-    if may_bind(s, names, rows, k, path) {
-        let n = h.count;
-        return read_elems(s, names, rows, k, p, room, n);
+    let (part, at) = section.read_part(at)?;
+    if !section.may_bind(part.path) {
+        return Err(Refusal::Unbound);
     }
-    Read::Refused(7)
+    read_elems(section, at, room, part.count)
 }
 
 // n elements of a part.
 #[cycle(readers)]
-pub fn read_elems(s: &[u8], names: u32, rows: usize, k: usize, at: usize, room: u32, n: u32) -> Read
-    requires { at ≤ length (words s.now) }
-    ensures { Reads (words s.now) at (bare (elems n (tables (words s.now) names rows k) (reader (words s.now) names rows k room) no_steps (drop at (words s.now)))) result }
+fn read_elems(section: &Section, at: usize, room: u32, n: u32) -> Result<usize, Refusal>
+    requires { at ≤ length (words_of section.now) }
+    ensures { Reads (words_of section.now) at (elems n (tables_of section.now) (reader_of section.now room) no_steps) result }
 {
     let mut p = at;
-    let mut left = n;
-    while 0 < left {
-        let r = read_elem(s, names, rows, k, p, room);
-        let Read::Next(q) = r else {
-            return r;
-        };
-        p = q;
-        left -= 1;
+    for _ in 0..n {
+        p = read_elem(section, p, room)?;
     }
-    Read::Next(p)
+    Ok(p)
 }
 
 // An element of a part, with its property.
 #[cycle(readers)]
-pub fn read_elem(s: &[u8], names: u32, rows: usize, k: usize, at: usize, room: u32) -> Read
-    requires { at ≤ length (words s.now) }
-    ensures { Reads (words s.now) at (bare (elem_one (tables (words s.now) names rows k) (reader (words s.now) names rows k room) (drop at (words s.now)))) result }
+fn read_elem(section: &Section, at: usize, room: u32) -> Result<usize, Refusal>
+    requires { at ≤ length (words_of section.now) }
+    ensures { Reads (words_of section.now) at (elem_one (tables_of section.now) (reader_of section.now room)) result }
 {
-    let ElemRead::Is(h, p) = read_elem_head(s, at) else {
-        return Read::Refused(5);
-    };
-    let variable = h.variable;
-    if may_bind(s, names, rows, k, variable) {
-        let n = h.property;
-        return read_kids(s, names, rows, k, p, room, n as usize);
+    let (elem, at) = section.read_elem(at)?;
+    if !section.may_bind(elem.variable) {
+        return Err(Refusal::Unbound);
     }
-    Read::Refused(7)
+    read_kids(section, at, room, elem.property as usize)
 }

@@ -1,5 +1,6 @@
 -- Reading and both walks in one is reading, and then the two walks over the tree (`apart`): the only place where trees are met. `acts` and
 -- its like are what both walks do with a row, an expression and a pattern; `step-two` and `move-two` are two steps as one.
+use Rattle.std.specs.Prelude.{Option, None, Some}
 use Prim.Native.Nat.{ℕ, zero, suc}
 use mathlib.Core.Path.{◌≡◌, refl, ap, sym, ◌∙◌}
 use mathlib.Core.Bool.{Bool, true, false, cond, ◌&&◌, and_assoc, and-true}
@@ -10,8 +11,6 @@ use Rattle.heads.specs.Form.{read_form, kids_of}
 use Rattle.heads.specs.Head.{Tables, allowed, read_part, read_elem, mark_low, mark_high, mark_kids}
 use Rattle.heads.specs.declared.Elem.{Elem}
 use Rattle.heads.specs.declared.Part.{Part}
-use Rattle.heads.specs.declared.Maybe.{Maybe}
-use Rattle.heads.specs.declared.Maybe.TheVariants as maybe
 use Rattle.heads.specs.declared.Form.{Form}
 use Rattle.heads.specs.declared.Form.TheVariants.{Leaf, Var, Unresolved, Prop, Two, Slice, Many, BinOp, UnaryOp, Case, IsNull, PatternPredicate, ListComprehension, PatternComprehension, ListPredicate, MapProjection}
 use Rattle.heads.proofs.Shapes.{bind-each}
@@ -93,9 +92,9 @@ pub each : {A B : Type 0} (g : Got A) (f h : A → B) → ((a : A) → f a ≡ h
 each {B = B} (ok a r) f h q = ap (λ (x : B). ok x r) (q a)
 each (no c) f h q = refl
 
-free-allowed : (t : Tables) → ((v : ℕ) → t.known v ≡ true) → (m : Maybe) → allowed t m ≡ true
-free-allowed t free (maybe.Var v) = free v
-free-allowed t free maybe.Nothing = refl
+free-allowed : (t : Tables) → ((v : ℕ) → t.known v ≡ true) → (m : Option ℕ) → allowed t m ≡ true
+free-allowed t free (Some v) = free v
+free-allowed t free None = refl
 
 -- the settings after n expressions of a row
 abbrev pair_after : ℕ → Pair → Pair

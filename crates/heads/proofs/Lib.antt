@@ -1,2 +1,4 @@
 pub mod Reading
 pub mod Bindings
+pub mod Shapes
+pub mod Rows

@@ -1,11 +1,10 @@
 -- Small statements, computed: `traps`, document 01's example and its traps; `sight`, what is visible where, and which names are bound twice;
 -- `keys`, what sort keys see; `stars` and `over_star`, what a WITH carries by a star or an alias; `both` and `sorted_kinds`, the findings of both
 -- walks. The definitions' edits are refused here.
-use Rattle.std.specs.Prelude.{◌≡◌, refl, true, false, List, [], ◌∷◌, map, ℕ, suc}
+use Rattle.std.specs.Prelude.{◌≡◌, refl, true, false, List, [], ◌∷◌, map, ℕ, suc, None, Some}
 use Rattle.std.proofs.Math.Option.{none, some}
 use Rattle.words.specs.Fnv.{use_id, fnv1_of, fnv_from, fnv_step}
 use Rattle.heads.specs.declared.Form.TheVariants.{Leaf, Prop, ListPredicate}
-use Rattle.heads.specs.declared.Maybe.TheVariants as maybe
 use Rattle.expr.specs.Tree.{Expr, var, unresolved, node, predicate, comprehension, done, more, Steps, end, part, elem}
 use Rattle.clauses.specs.Tree.{Clause, unsorted, sorted, Projection, projection, yield, match, opening, reading, where', with', return, unwind, call, arm}
 use Rattle.tables.specs.Row.{row}
@@ -30,14 +29,14 @@ small head other =
 
 -- (a) and (b), as patterns
 unfoldable pub node_a : Steps
-node_a = part maybe.Nothing (elem 1 0 0 (maybe.Var 1) done end)
+node_a = part None (elem 1 0 0 (Some 1) done end)
 
 unfoldable pub node_b : Steps
-node_b = part maybe.Nothing (elem 1 0 0 (maybe.Var 2) done end)
+node_b = part None (elem 1 0 0 (Some 2) done end)
 
 -- a path with the variable 1
 abbrev path : Steps → Steps
-path p = part (maybe.Var 1) p
+path p = part (Some 1) p
 
 -- the use of the name b, and of a
 unfoldable pub name_b : Expr

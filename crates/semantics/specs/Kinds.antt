@@ -1,10 +1,8 @@
 -- The kinds walk (document 01, "Walking kinds (001)"): the head's clauses to findings. The sentences in quotes are document 01's.
-use Rattle.std.specs.Prelude.{ℕ, suc, ◌+◌, Bool, cond, ◌&&◌, ◌||◌, List, [], ◌∷◌, ◌++◌, eqb, leb, get_or}
+use Rattle.std.specs.Prelude.{ℕ, suc, ◌+◌, Bool, cond, ◌&&◌, ◌||◌, List, [], ◌∷◌, ◌++◌, eqb, leb, get_or, Option, None, Some}
 use Rattle.std.proofs.Math.Option.{Option, none, some}
 use Rattle.heads.specs.declared.Form.{Form}
 use Rattle.heads.specs.declared.Form.TheVariants.{Leaf, Var, Unresolved, Prop, Two, Slice, Many, BinOp, UnaryOp, Case, IsNull, PatternPredicate, ListComprehension, PatternComprehension, ListPredicate, MapProjection}
-use Rattle.heads.specs.declared.Maybe.{Maybe}
-use Rattle.heads.specs.declared.Maybe.TheVariants as maybe
 use Rattle.expr.specs.Tree.{Expr, var, unresolved, node, predicate, comprehension, Exprs, done, more, mark, Steps, end, part, elem}
 use Rattle.clauses.specs.Tree.{Clause, opening, reading, with', return, unwind, call, exprs, keys_of}
 use Rattle.tables.specs.Row.{path_kind, value_kind, Row, row}
@@ -130,9 +128,9 @@ misplaced one want a b (some (row i x k c d)) = cond (eqb k want) [] (finding e2
 
 module _ (w : World) where
   -- the row of a binder
-  unfoldable pub row_for : Maybe → Option Row
-  row_for (maybe.Var v) = w.row v
-  row_for maybe.Nothing = none
+  unfoldable pub row_for : Option ℕ → Option Row
+  row_for (Some v) = w.row v
+  row_for None = none
 
   -- "An own-level finding precedes those of its parts, but E2011 follows the iterable's": the iterable is a part before it.
   unfoldable mutual

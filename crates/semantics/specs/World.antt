@@ -1,11 +1,9 @@
 -- What the walks know, and what the tables say of a variable and of a name. The sentences in quotes are document 01's.
-use Rattle.std.specs.Prelude.{ℕ, Bool, false, cond, ◌&&◌, List, [], ◌∷◌, eqb, get_or}
+use Rattle.std.specs.Prelude.{ℕ, Bool, false, cond, ◌&&◌, List, [], ◌∷◌, eqb, get_or, Option, None, Some}
 use Rattle.std.proofs.Math.Option.{Option, none, some}
 use Rattle.words.specs.Fnv.{use_id}
 use Rattle.heads.specs.Answer.{is_in}
 use Rattle.scope.specs.Graph.{match_scope, create_scope, merge_scope}
-use Rattle.heads.specs.declared.Maybe.{Maybe}
-use Rattle.heads.specs.declared.Maybe.TheVariants as maybe
 use Rattle.expr.specs.Tree.{Expr, var, unresolved, node, predicate, comprehension}
 use Rattle.clauses.specs.Tree.{Opening, match, create, merge}
 use Rattle.tables.specs.Row.{value_kind, Row, row}
@@ -67,9 +65,9 @@ world_of warns s =
     }
 
 -- the variable of a binder, if it has one
-unfoldable pub variable : Maybe → Option ℕ
-variable (maybe.Var v) = some v
-variable maybe.Nothing = none
+unfoldable pub variable : Option ℕ → Option ℕ
+variable (Some v) = some v
+variable None = none
 
 -- the scope that Match, Create and Merge open
 unfoldable pub opens : Opening → ℕ

@@ -1,5 +1,6 @@
 -- Laws of binders: a name that its scope binds already (`anew`, `anew-not`), a part's path (`path-steps`), an element (`elem-steps`, and
 -- `elem-none` where it has no variable): its row is noted, its name is bound, its kind is checked.
+use Rattle.std.specs.Prelude.{Option, None, Some}
 use Prim.Native.Nat.{ℕ, suc, ◌+◌}
 use native.Mathlib.Numerals.{add-one}
 use mathlib.Core.Path.{◌≡◌, refl, ◌∙◌}
@@ -7,8 +8,6 @@ use mathlib.Core.Bool.{Bool, true, false, ◌&&◌}
 use mathlib.Core.List.{List, [], ◌∷◌}
 use mathlib.Core.Option.{Option, none}
 use lib.ListN.{length}
-use Rattle.heads.specs.declared.Maybe.{Maybe}
-use Rattle.heads.specs.declared.Maybe.TheVariants as maybe
 use Rattle.expr.specs.Binders.{binder, all_known}
 use Rattle.tables.specs.Row.{Row}
 use Rattle.semantics.specs.Log.{Finding, finding}
@@ -50,13 +49,13 @@ is_name {o = o} h q = q ∙ rw h.same (name-as o)
 module _ {ws tab m vis found m1 m2 vis2 found2 m3 found3 : List ℕ} {r : Row'} {x : ℕ} (v mode : ℕ) (size : length m ≡ 64) (shows : shown_to (slots_in tab) ((world_at ws tab (λ x. x)).row v) r) (named : x ≡ name_in r)
     (y : Costs 0 0 ws tab m vis found m1 vis found (λ id. noting (world_at ws tab id) (v ∷ []))) where
   pub path-steps : Costs 2 3 ws tab m1 vis found m2 vis2 found2 (λ id. on_names (when (mode_of mode).resolves (bind_anew (world_at ws tab id) 0 0 x v 3))) →
-      TellsIf (misplaced_in (mode_of mode).checks 3 r) 2008 0 0 (suc (name_in r)) 1 (kind_in r) m2 found2 m3 found3 → Steps 3 ws tab m vis found m3 vis2 found3 (λ id. path_step (world_at ws tab id) (mode_of mode) (maybe.Var v))
+      TellsIf (misplaced_in (mode_of mode).checks 3 r) 2008 0 0 (suc (name_in r)) 1 (kind_in r) m2 found2 m3 found3 → Steps 3 ws tab m vis found m3 vis2 found3 (λ id. path_step (world_at ws tab id) (mode_of mode) (Some v))
   unfolding binder variable bind_path row_for name_of
   path-steps b t =
       as-steps _ (then-steps (then-steps y b) (tells-if (b.sized ∙ y.sized ∙ size) t))
       (λ id s. both-same _ (rw (is_name shows named)) (rw shows.same (misplaced-as (mode_of mode).checks ((world_at ws tab (λ x. x)).row v) 1 3 0 0 s.kinds)))
 
-  pub elem-steps : {va : Maybe} (kind start end : ℕ) → va ≡ maybe.Var v → Costs 1 3 ws tab m1 vis found m2 vis2 found2 (λ id. on_names (when (mode_of mode).resolves (λ y. bind_new (world_at ws tab id) (lookup x y.visible) x v kind y))) →
+  pub elem-steps : {va : Option ℕ} (kind start end : ℕ) → va ≡ Some v → Costs 1 3 ws tab m1 vis found m2 vis2 found2 (λ id. on_names (when (mode_of mode).resolves (λ y. bind_new (world_at ws tab id) (lookup x y.visible) x v kind y))) →
       TellsIf (misplaced_in (mode_of mode).checks kind r) 2008 start end (suc (name_in r)) (kind + 1) (kind_in r) m2 found2 m3 found3 →
       Costs 2 3 ws tab m vis found m3 vis2 found3 (λ id s. noting (world_at ws tab id) (binder va) (step (mode_of mode) (bind_elem (world_at ws tab id) kind (variable va)) (misplaced (suc kind) kind start end (row_for (world_at ws tab id) va)) s))
   unfolding binder variable bind_elem row_for name_of
@@ -74,7 +73,7 @@ when-same : {A : Type 0} (b : Bool) (f : A → A) (a : A) → f a ≡ a → when
 when-same true f a q = q
 when-same false f a q = refl
 
-pub elem-none : {ws tab m vis found : List ℕ} {e t : ℕ} {va : Maybe} (kind start end mode : ℕ) → va ≡ maybe.Nothing →
+pub elem-none : {ws tab m vis found : List ℕ} {e t : ℕ} {va : Option ℕ} (kind start end mode : ℕ) → va ≡ None →
     Costs e t ws tab m vis found m vis found (λ id s. noting (world_at ws tab id) (binder va) (step (mode_of mode) (bind_elem (world_at ws tab id) kind (variable va)) (misplaced (suc kind) kind start end (row_for (world_at ws tab id) va)) s))
 unfolding binder all_known variable bind_elem row_for misplaced told
 elem-none {ws} {tab} kind start end mode q =

@@ -1,8 +1,7 @@
 -- How both walks' state stands in the lent words, and what a step of the code does to it.
-use Rattle.std.specs.Prelude.{ℕ, suc, ◌+◌, ◌*◌, ◌/◌, ◌%◌, ◌<◌, ◌≤◌, ◌≡◌, Bool, true, false, not, ◌&&◌, List, [], ◌∷◌, eqb, length, get_or, set}
+use Rattle.std.specs.Prelude.{ℕ, suc, ◌+◌, ◌*◌, ◌/◌, ◌%◌, ◌<◌, ◌≤◌, ◌≡◌, Bool, true, false, not, ◌&&◌, List, [], ◌∷◌, eqb, length, get_or, set, Option}
 use Rattle.std.proofs.Math.Option.{Option, none, some}
 use Rattle.scope.specs.Graph.{comprehension_scope}
-use Rattle.heads.specs.declared.Maybe.{Maybe}
 use Rattle.heads.specs.declared.Form.{Form}
 use Rattle.heads.specs.declared.Form.TheVariants.{Leaf, Var, Unresolved, Prop, Two, Slice, Many, BinOp, UnaryOp, Case, IsNull, PatternPredicate, ListComprehension, PatternComprehension, ListPredicate, MapProjection}
 use Rattle.expr.specs.Binders.{binder}
@@ -244,7 +243,7 @@ abbrev pub Named : ℕ → Form → Type 0
 Named slots f = NamedIn slots (act_of f)
 
 -- a part's path: its own binder
-abbrev pub path_step : World → Mode → Maybe → Both → Both
+abbrev pub path_step : World → Mode → Option ℕ → Both → Both
 path_step w m p s = noting w (binder p) (step m (bind_path w (variable p)) (misplaced 1 path_kind 0 0 (row_for w p)) s)
 
 -- out of a scope: the names that are visible and the current scope are as they were

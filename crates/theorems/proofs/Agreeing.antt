@@ -1,5 +1,6 @@
 -- Two sheets that agree, `MATCH (a) WITH a RETURN b UNION RETURN a` and `MATCH (a) MATCH (a) WITH a RETURN b UNION RETURN a`, computed from
 -- their bytes: the premises of `apart-sheets` can be met where all later spans differ and the new Roots' numbers are 3 and 4.
+use Rattle.std.specs.Prelude.{None, Some}
 use Prim.Native.Nat.{ℕ}
 use mathlib.Core.Path.{◌≡◌, refl}
 use mathlib.Core.Bool.{true}
@@ -11,7 +12,6 @@ use Rattle.heads.specs.Got.{word_in, many, counted}
 use Rattle.heads.specs.Form.{shape_of, limit_of, form_none, form_one, case_rest, comp_rest, rest_of, read_form}
 use Rattle.heads.specs.Head.{read_maybe, read_part, read_elem, deep_cause}
 use Rattle.heads.specs.Answer.{is_in}
-use Rattle.heads.specs.declared.Maybe.TheVariants as maybe
 use Rattle.expr.specs.Tree.{var, unresolved, done, end, part, elem, tree}
 use Rattle.expr.specs.Read.{reading}
 use Rattle.expr.specs.Binders.{binder, binders_e, all_known}
@@ -34,7 +34,7 @@ use Rattle.theorems.specs.Sheets.{names_section, bindings_section, key_words, la
 
 -- a Match of a Node with the variable 1, and a Return of a name, with their spans
 abbrev matching : (start stop first : ℕ) → Clause
-matching a b c = opening (match 0) a b (part maybe.Nothing (elem 1 c b (maybe.Var 1) done end))
+matching a b c = opening (match 0) a b (part None (elem 1 c b (Some 1) done end))
 
 abbrev returning : (start stop name : ℕ) → Clause
 returning a b x = return a b (projection none (unresolved x) ∷ []) unsorted

@@ -2,6 +2,7 @@
 -- log and for each finding of the kinds walk, and sort keys pay by their own. `few-E`, `few-Es`, `few-S` say it of trees (the two walks may
 -- have Worlds of their own); `few-C` of one clause, from any state, so that what one clause writes has room in its words; `few-Cs` of
 -- clauses, `few-As` of arms (which get no kind check), `few` of a statement, `few_words` of an accepted sheet, and `fits` of three lists.
+use Rattle.std.specs.Prelude.{Option, None, Some}
 use Prim.Native.Nat.{ℕ, suc, ◌+◌, ◌-◌, ◌≤◌}
 use native.Mathlib.Omega.{arith}
 use mathlib.Core.Path.{◌≡◌, refl, ap}
@@ -13,8 +14,6 @@ use lib.ListN.{length, length-append, length-reverse, length-take, length-drop}
 use Rattle.words.specs.Words.{words}
 use Rattle.heads.specs.declared.Form.{Form}
 use Rattle.heads.specs.declared.Form.TheVariants.{Leaf, Var, Unresolved, Prop, Two, Slice, Many, BinOp, UnaryOp, Case, IsNull, PatternPredicate, ListComprehension, PatternComprehension, ListPredicate, MapProjection}
-use Rattle.heads.specs.declared.Maybe.{Maybe}
-use Rattle.heads.specs.declared.Maybe.TheVariants as maybe
 use Rattle.heads.specs.Form.{form_words}
 use Rattle.expr.specs.Tree.{Expr, var, unresolved, node, predicate, comprehension, Exprs, done, more, mark, Steps, end, part, elem}
 use Rattle.expr.specs.Write.{maybe_words, write_e, writes, write_s}
@@ -136,20 +135,20 @@ module _ (w : World) where
   unfolding bind_anew
   anew-few a b x v k s = omega (arith, bind-few x v k s, if-few (w.warns && binds s.cur x s.visible) (find (finding e1002 a b (suc x) 0 0)) (bind_name x v k s))
 
-  path-few : (p : Maybe) (s : State) → said (bind_path w (variable p) s) ≤ length (maybe_words p) + said s
+  path-few : (p : Option ℕ) (s : State) → said (bind_path w (variable p) s) ≤ length (maybe_words p) + said s
   unfolding bind_path variable maybe_words
-  path-few (maybe.Var v) s = omega (arith, anew-few 0 0 (name_of w v) v path_kind s)
-  path-few maybe.Nothing s = omega arith
+  path-few (Some v) s = omega (arith, anew-few 0 0 (name_of w v) v path_kind s)
+  path-few None s = omega arith
 
   new-few : (o : Option ℕ) (x v k : ℕ) (s : State) → said (bind_new w o x v k s) ≤ 1 + said s
   unfolding bind_new
   new-few none x v k s = omega (arith, bind-few x v k s)
   new-few (some u) x v k s = omega arith
 
-  elem-few : (k : ℕ) (p : Maybe) (s : State) → said (bind_elem w k (variable p) s) ≤ length (maybe_words p) + said s
+  elem-few : (k : ℕ) (p : Option ℕ) (s : State) → said (bind_elem w k (variable p) s) ≤ length (maybe_words p) + said s
   unfolding bind_elem variable maybe_words
-  elem-few k (maybe.Var v) s = omega (arith, new-few (lookup (name_of w v) s.visible) (name_of w v) v k s)
-  elem-few k maybe.Nothing s = omega arith
+  elem-few k (Some v) s = omega (arith, new-few (lookup (name_of w v) s.visible) (name_of w v) v k s)
+  elem-few k None s = omega arith
 
 key-few : (ks : Keys) → length (writes (keys_of ks)) ≤ length (write_keys ks)
 unfolding keys_of write_keys writes

@@ -1,5 +1,6 @@
 -- The kinds walk's findings are pushes that there are: a row is within the tables, a type is one of ten, a setting that wants a list is one
 -- of four, and an element is a node or a relationship.
+use Rattle.std.specs.Prelude.{Option, None, Some}
 use Prim.Native.Nat.{ℕ, zero, suc, ◌+◌, ◌-◌, ◌≤◌}
 use native.Mathlib.Omega.{arith}
 use mathlib.Core.Path.{◌≡◌, refl}
@@ -11,8 +12,6 @@ use lib.ListN.{length, get_or}
 use borrow.Author.Tests.{eqb-true, eqb-false, leb-true}
 use Rattle.heads.specs.declared.Form.{Form}
 use Rattle.heads.specs.declared.Form.TheVariants.{Leaf, Var, Unresolved, Prop, Two, Slice, Many, BinOp, UnaryOp, Case, IsNull, PatternPredicate, ListComprehension, PatternComprehension, ListPredicate, MapProjection}
-use Rattle.heads.specs.declared.Maybe.{Maybe}
-use Rattle.heads.specs.declared.Maybe.TheVariants as maybe
 use Rattle.expr.specs.Tree.{Expr, var, unresolved, node, predicate, comprehension, Exprs, done, more, mark, Steps, end, part, elem}
 use Rattle.expr.specs.Well.{WellE, Wells, WellS, WellPattern}
 use Rattle.clauses.specs.Tree.{Clause, opening, reading, with', return, unwind, call, exprs, keys_of}
@@ -153,10 +152,10 @@ module _ (warns : Bool) (st : Statement) (rows : Each (WellRow (length st.names)
   abbrev size : ℕ
   size = length st.names
 
-  row-for : (p : Maybe) → RowIn size (row_for w p)
+  row-for : (p : Option ℕ) → RowIn size (row_for w p)
   unfolding row_for world_of
-  row-for (maybe.Var v) = row_in size v st.bindings rows
-  row-for maybe.Nothing = tt
+  row-for (Some v) = row_in size v st.bindings rows
+  row-for None = tt
 
   mutual
     unfolding kinds_e WellE world_of

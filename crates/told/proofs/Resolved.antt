@@ -1,5 +1,6 @@
 -- The resolve walk's findings are pushes that there are: E1001 at an Unresolved, whose name is within the table; E1002 at a path, whose
 -- variable has a row, and at a yield. All else that the walk says is no finding, whichever names are hushed.
+use Rattle.std.specs.Prelude.{Option, None, Some}
 use Prim.Native.Nat.{ℕ, ◌-◌, ◌<◌}
 use mathlib.Core.Path.{◌≡◌, refl}
 use mathlib.Core.Bool.{Bool, true, false, not, ◌&&◌}
@@ -9,8 +10,6 @@ use lib.ListN.{length}
 use borrow.Author.Tests.{not-true}
 use Rattle.scope.specs.Graph.{comprehension_scope, return_scope, call_scope}
 use Rattle.heads.specs.Answer.{is_in}
-use Rattle.heads.specs.declared.Maybe.{Maybe}
-use Rattle.heads.specs.declared.Maybe.TheVariants as maybe
 use Rattle.expr.specs.Tree.{Expr, var, unresolved, node, predicate, comprehension, Exprs, done, more, mark, Steps, end, part, elem}
 use Rattle.expr.specs.Well.{WellE, Wells, WellS, WellPattern}
 use Rattle.expr.specs.Binders.{binder, binders_e, binders, binders_s}
@@ -96,20 +95,20 @@ module _ (warns : Bool) (st : Statement) where
     unfolding bind_anew
     fine-anew a b x v j s h k = fine-if (w'.warns && binds s.cur x s.visible) _ (bind_name x v j s) (λ e. pushed.shadows h) (cons tt k)
 
-    fine-path : (p : Maybe) (s : State) → Named (binder p) → Says s → Says (bind_path w' (variable p) s)
+    fine-path : (p : Option ℕ) (s : State) → Named (binder p) → Says s → Says (bind_path w' (variable p) s)
     unfolding bind_path variable binder name_of world_of
-    fine-path (maybe.Var v) s (cons h g) k = fine-anew 0 0 (name_of w' v) v path_kind s h k
-    fine-path maybe.Nothing s g k = k
+    fine-path (Some v) s (cons h g) k = fine-anew 0 0 (name_of w' v) v path_kind s h k
+    fine-path None s g k = k
 
     fine-new : (o : Option ℕ) (x v j : ℕ) (s : State) → Says s → Says (bind_new w' o x v j s)
     unfolding bind_new
     fine-new none x v j s k = cons tt k
     fine-new (some u) x v j s k = k
 
-    fine-elem : (j : ℕ) (p : Maybe) (s : State) → Says s → Says (bind_elem w' j (variable p) s)
+    fine-elem : (j : ℕ) (p : Option ℕ) (s : State) → Says s → Says (bind_elem w' j (variable p) s)
     unfolding bind_elem variable
-    fine-elem j (maybe.Var v) s k = fine-new (lookup (name_of w' v) s.visible) (name_of w' v) v j s k
-    fine-elem j maybe.Nothing s k = k
+    fine-elem j (Some v) s k = fine-new (lookup (name_of w' v) s.visible) (name_of w' v) v j s k
+    fine-elem j None s k = k
 
     mutual
       unfolding resolve WellE binders_e

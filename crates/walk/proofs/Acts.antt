@@ -1,5 +1,6 @@
 -- What a plain head does itself, as the functions of `steps` do it: a use of a variable (`var-act`), of a name (`name-act`, `name-idle`), the
 -- type that it shows (`type-act`, `type-idle`). A part without a path binds nothing (`path-none`).
+use Rattle.std.specs.Prelude.{Option, None}
 use Prim.Native.Nat.{ℕ, ◌/◌, ◌%◌, ◌<◌, ◌≤◌}
 use native.Mathlib.Omega.{arith}
 use mathlib.Core.Path.{◌≡◌, refl, sym}
@@ -7,8 +8,6 @@ use mathlib.Core.Bool.{Bool, true, false, ◌&&◌}
 use mathlib.Core.List.{List, []}
 use mathlib.Core.Option.{none}
 use Rattle.heads.specs.Form.{shape_of, form_one}
-use Rattle.heads.specs.declared.Maybe.{Maybe}
-use Rattle.heads.specs.declared.Maybe.TheVariants as maybe
 use Rattle.expr.specs.Binders.{binder, all_known}
 use Rattle.semantics.specs.World.{variable}
 use Rattle.semantics.specs.Resolve.{use_var, bind_path}
@@ -71,7 +70,7 @@ when-same : {A : Type 0} (b : Bool) (f : A → A) (a : A) → f a ≡ a → when
 when-same true f a q = q
 when-same false f a q = refl
 
-pub path-none : {ws tab m vis found : List ℕ} {j : ℕ} {x : Maybe} (mode : ℕ) → x ≡ maybe.Nothing → Steps j ws tab m vis found m vis found (λ id. path_step (world_at ws tab id) (mode_of mode) x)
+pub path-none : {ws tab m vis found : List ℕ} {j : ℕ} {x : Option ℕ} (mode : ℕ) → x ≡ None → Steps j ws tab m vis found m vis found (λ id. path_step (world_at ws tab id) (mode_of mode) x)
 unfolding binder all_known variable bind_path row_for misplaced told
 path-none {ws} {tab} mode q =
     rw q (idle-step _ (λ id s h. rw (and-true s.known, when-same (mode_of mode).resolves (bind_path (world_at ws tab id) none) s.names refl, when-same (mode_of mode).checks (told []) s.kinds refl) h))

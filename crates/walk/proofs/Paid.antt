@@ -1,5 +1,6 @@
 -- What is read pays for what is done: a head has as many words as its act costs and its name is in range (`form-paid`), a part as
 -- many as its path costs (`part-paid`), an element three (`elem-paid`); a mark counts few expressions (`mark-few`). A refusal for depth has a number (`deep-some`).
+use Rattle.std.specs.Prelude.{Option, None, Some}
 use Prim.Native.Nat.{ℕ, ◌+◌, ◌<◌, ◌≤◌}
 use native.Mathlib.Omega.{arith}
 use mathlib.Core.Bool.{Bool, true, false, cond}
@@ -13,8 +14,6 @@ use Rattle.heads.specs.Form.{read_form, form_words}
 use Rattle.heads.specs.Head.{read_part, read_elem, mark_low, mark_high, mark_kids, deep_cause}
 use Rattle.heads.specs.declared.Form.{Form}
 use Rattle.heads.specs.declared.Form.TheVariants.{Leaf, Var, Unresolved, Prop, Two, Slice, Many, BinOp, UnaryOp, Case, IsNull, PatternPredicate, ListComprehension, PatternComprehension, ListPredicate, MapProjection}
-use Rattle.heads.specs.declared.Maybe.{Maybe}
-use Rattle.heads.specs.declared.Maybe.TheVariants as maybe
 use Rattle.heads.specs.declared.Part.{Part}
 use Rattle.heads.specs.declared.Elem.{Elem}
 use Rattle.expr.specs.Well.{WellForm}
@@ -77,9 +76,9 @@ module _ (ws : List ℕ) (at p : ℕ) where
   unfolding maybe_words
   part-paid h a = path-paid h.path ((part_gives (drop at ws)).given h (drop p ws) a.same).0
     where
-      path-paid : (x : Maybe) → drop at ws ≡ maybe_words x ++ h.count ∷ drop p ws → (path_cost x + at ≤ p) × (at < p)
-      path-paid (maybe.Var v) g = let z = passed ws (1 ∷ v ∷ h.count ∷ []) at p g a.from a.within in (omega (arith, z), omega (arith, z))
-      path-paid maybe.Nothing g = let z = passed ws (0 ∷ h.count ∷ []) at p g a.from a.within in (omega (arith, z), omega (arith, z))
+      path-paid : (x : Option ℕ) → drop at ws ≡ maybe_words x ++ h.count ∷ drop p ws → (path_cost x + at ≤ p) × (at < p)
+      path-paid (Some v) g = let z = passed ws (1 ∷ v ∷ h.count ∷ []) at p g a.from a.within in (omega (arith, z), omega (arith, z))
+      path-paid None g = let z = passed ws (0 ∷ h.count ∷ []) at p g a.from a.within in (omega (arith, z), omega (arith, z))
 
   pub elem-paid : (h : Elem) → Ans ws at (read_elem (drop at ws)) (ok h (drop p ws)) p → (3 + at ≤ p) × (h.property < 2) × (h.kind < 4294967295)
   elem-paid h a =

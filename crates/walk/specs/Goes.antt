@@ -1,9 +1,7 @@
 -- What a walk over words asks and leaves: reading and both walks in one (`fused`), on the lent words of `steps`.
-use Rattle.std.specs.Prelude.{ℕ, zero, suc, ◌≤◌, ◌≡◌, List, length, drop}
+use Rattle.std.specs.Prelude.{ℕ, zero, suc, ◌≤◌, ◌≡◌, List, length, drop, Option, None, Some}
 use Rattle.heads.specs.Got.{Got, ok, no}
 use Rattle.heads.specs.declared.Form.{Form}
-use Rattle.heads.specs.declared.Maybe.{Maybe}
-use Rattle.heads.specs.declared.Maybe.TheVariants as maybe
 use Rattle.semantics.specs.Kinds.{Setting, both}
 use Rattle.fused.specs.Fused.{Both, Go, rounds, row_go, mark_go, elem_go, part_go, pattern_go, inner_go, rest_go, expr_go}
 use Rattle.steps.specs.Memory.{at_of, tables_in, world_at, mode_of, first_of, later_of}
@@ -38,9 +36,9 @@ pub record Walked (room : ℕ) (ws tab m vis found m' vis' found' : List ℕ) (G
   pub goes : Goes room ws tab m vis found m' vis' found' G r
 
 -- the words that pay for a part's path
-abbrev pub path_cost : Maybe → ℕ
-path_cost (maybe.Var v) = 3
-path_cost maybe.Nothing = 0
+abbrev pub path_cost : Option ℕ → ℕ
+path_cost (Some v) = 3
+path_cost None = 0
 
 -- What is walked, with room for so many levels, in a mode.
 module _ (ws tab : List ℕ) (room mode : ℕ) where

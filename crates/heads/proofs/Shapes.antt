@@ -1,0 +1,60 @@
+-- What `bare` keeps of a reader put together from others: that something is read and what follows, or the cause, and not what it is.
+use Prim.Native.Nat.{ℕ}
+use mathlib.Core.Path.{◌≡◌, refl}
+use mathlib.Core.Bool.{Bool, true, false, cond}
+use mathlib.Core.List.{List}
+use Rattle.heads.specs.Got.{Got, ok, no, bind, next, bare}
+
+-- how words are read on, where only what follows them matters
+abbrev pub Rest : Type 0
+Rest = List ℕ → Got (Unit {0})
+
+module _ {A B : Type 0} where
+  -- what follows goes by the words alone
+  pub bare-bind : (g : Got A) (k : A → List ℕ → Got B) (h : Rest) → ((a : A) (r : List ℕ) → bare (k a r) ≡ h r) → bare (bind g k) ≡ next (bare g) h
+  bare-bind (ok a r) k h e = e a r
+  bare-bind (no c) k h e = refl
+
+  -- what follows goes by what was read
+  pub bare-head : (g : Got A) (k : A → List ℕ → Got B) (h : A → Rest) → ((a : A) (r : List ℕ) → bare (k a r) ≡ h a r) → bare (bind g k) ≡ bind g h
+  bare-head (ok a r) k h e = e a r
+  bare-head (no c) k h e = refl
+
+  -- what follows goes by what was read for a while, and then by the words alone
+  pub bare-row : (g : Got A) (k : A → List ℕ → Got B) (one : A → Rest) (h : Rest) → ((a : A) (r : List ℕ) → bare (k a r) ≡ next (one a r) h) → bare (bind g k) ≡ next (bind g one) h
+  bare-row (ok a r) k one h e = e a r
+  bare-row (no c) k one h e = refl
+
+  -- nothing more is read
+  pub bare-map : (g : Got A) (f : A → B) → bare (bind g (λ a r. ok (f a) r)) ≡ bare g
+  bare-map (ok a r) f = refl
+  bare-map (no c) f = refl
+
+  -- what follows, put another way
+  pub bind-each : (g : Got A) (k l : A → List ℕ → Got B) → ((a : A) (r : List ℕ) → k a r ≡ l a r) → bind g k ≡ bind g l
+  bind-each (ok a r) k l e = e a r
+  bind-each (no c) k l e = refl
+
+  pub bind-bind : {C : Type 0} (g : Got A) (k : A → List ℕ → Got B) (l : B → List ℕ → Got C) → bind (bind g k) l ≡ bind g (λ a r. bind (k a r) l)
+  bind-bind (ok a r) k l = refl
+  bind-bind (no c) k l = refl
+
+-- `next` and `bare` are binds
+module _ {A : Type 0} where
+  pub next-bind : (g : Got A) (h : Rest) → next g h ≡ bind g (λ a r. h r)
+  next-bind (ok a r) h = refl
+  next-bind (no c) h = refl
+
+  pub bare-end : (g : Got A) → bare g ≡ bind g (λ a r. ok tt r)
+  bare-end (ok a r) = refl
+  bare-end (no c) = refl
+
+-- a test that refuses
+module _ {A : Type 0} (c : ℕ) where
+  pub bare-pick : (b : Bool) (g : Got A) (x : Got (Unit {0})) → bare g ≡ x → bare (cond b g (no c)) ≡ cond b x (no c)
+  bare-pick true g x e = e
+  bare-pick false g x e = refl
+
+  pub bare-pick-row : (b : Bool) (g : Got A) (x : Got (Unit {0})) (h : Rest) → bare g ≡ next x h → bare (cond b g (no c)) ≡ next (cond b x (no c)) h
+  bare-pick-row true g x h e = e
+  bare-pick-row false g x h e = refl
