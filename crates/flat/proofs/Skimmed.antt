@@ -1,27 +1,27 @@
 -- A row that is read flat: its loop's invariant, and the laws of its turns.
+use Rattle.std.specs.Prelude.{Result, Ok, Err, Option, Some, None}
+use Rattle.std.specs.Result.{IsErr, IsErrAnd}
+use Rattle.refusal.specs.Number.{number_of}
+use Rattle.refusal.specs.declared.Refusal.{Refusal}
+use Rattle.refusal.specs.declared.Refusal.TheVariants.{Size, Places, Names, Bindings, Word, Depth, Unbound, Entries, Asked, Page, Room}
 use Prim.Native.Nat.{ℕ, suc, ◌+◌, ◌-◌, ◌<◌, ◌≤◌}
 use native.Mathlib.Omega.{arith}
-use mathlib.Core.Path.{◌≡◌, refl, ap}
+use mathlib.Core.Path.{◌≡◌, refl, ap, ◌∙◌}
 use mathlib.Core.List.{List}
 use lib.ListN.{length, drop}
 use Rattle.heads.specs.Got.{Got, ok, no, bare}
 use Rattle.heads.specs.Form.{read_form, kids_of}
 use Rattle.heads.specs.Head.{Tables}
-use Rattle.heads.specs.Answer.{read_got, Reads}
+use Rattle.heads.specs.Answer.{Ans, read_got, read_end, Reads}
 use Rattle.heads.specs.declared.Form.{Form}
 use Rattle.heads.specs.declared.Form.TheVariants.{Leaf, Var, Unresolved, Prop, Two, Slice, Many, BinOp, UnaryOp, Case, IsNull, PatternPredicate, ListComprehension, PatternComprehension, ListPredicate, MapProjection}
-use Rattle.heads.specs.declared.Read.{Read}
-use Rattle.heads.specs.declared.Read.TheVariants as read
-use Rattle.heads.proofs.Later.{read_later}
-use Rattle.heads.proofs.Rows.{Row, row_next, row-stop, row_done}
+use Rattle.heads.proofs.Rows.{Row, row_begun, row_next, row_stop, row_done}
 use Rattle.expr.specs.Read.{no_more, times, read_expr}
 use Rattle.expr.specs.Well.{WellForm}
 use Rattle.expr.proofs.Rows.{kid_rows}
 use Rattle.expr.proofs.Heads.{form-gives}
 use Rattle.expr.proofs.Inverse.{never}
 use Rattle.flat.specs.Plain.{Simple, PlainAt}
-use Rattle.flat.specs.declared.PlainRead.{PlainRead}
-use Rattle.flat.specs.declared.PlainRead.TheVariants as plain-read
 use Rattle.flat.specs.Skim.{Skims}
 use Rattle.flat.proofs.Deeper.{Deep, same, deep}
 use Rattle.flat.proofs.Flat.{simple-kids, flat-deep, flat-none}
@@ -68,9 +68,8 @@ pub record Found (ws : List ℕ) (names p q k : ℕ) : Type 0 where
   pub within : q ≤ length ws
   pub few : k < 8589934600
 
-pub found : {ws : List ℕ} {names p q k : ℕ} {r : PlainRead} → r ≡ plain-read.Is q k → PlainAt ws names p r → Found ws names p q k
-found {ws} {names} {p} {q} {k} e x =
-    let y = rw e at x in
+pub found : {ws : List ℕ} {names p q k : ℕ} → PlainAt ws names p (Ok (Some (q, k))) → Found ws names p q k
+found {ws} {names} {p} {q} {k} y =
     record {
       head = y.0;
       simple = y.1.0;
@@ -82,7 +81,7 @@ found {ws} {names} {p} {q} {k} e x =
 
 -- an expression whose head is none, and the row of a plain head
 module _ (w : Tables) where
-  no-head : {d : ℕ} (c : ℕ) (r : List ℕ) → d ≡ suc c → read_form w.names r ≡ no 5 → read_expr w d r ≡ no 5
+  no-head : {d n : ℕ} (c : ℕ) (r : List ℕ) → d ≡ suc c → read_form w.names r ≡ no n → read_expr w d r ≡ no n
   unfolding read_expr
   no-head c r z e = rw (z, e)
 
@@ -103,35 +102,33 @@ pub skim-begin : (w : Tables) (ws : List ℕ) (at room n : ℕ) → at ≤ lengt
 skim-begin w ws at room n h = record { same = record { tells = λ x. refl }; from = omega arith; within = h }
 
 -- room ran out, or there are too many
-pub skim-deep : {ws : List ℕ} {at : ℕ} {g : Got (Unit {0})} → at ≤ length ws → Skims ws at g (read.Refused 6)
-skim-deep h = record { same = λ x. absurd (x refl); from = omega arith; within = h }
+pub skim-deep : {A : Type 0} {ws : List ℕ} {at : ℕ} {f : List ℕ → Got A} → at ≤ length ws → Skims ws at f (Err Depth)
+skim-deep h = record { same = λ x. absurd (x refl); from = h; within = omega arith }
 
 module _ {w : Tables} {ws : List ℕ} {at room n p left d : ℕ} (l : Skimmed w ws at room n p left d) where
   -- what the rest of the row gives
-  skim-ends : (r : Read) → Reads ws p (bare (times left (read_expr w d) no_more (drop p ws))) r → Skims ws at (bare (times n (read_expr w room) no_more (drop at ws))) r
-  skim-ends r y =
-      let z = read_later ws at p _ r l.from l.within y in
-      record { same = (under_same l.same z.same).tells; from = z.from; within = z.within }
+  skim-ends : (r : Result ℕ Refusal) → Ans ws p (bare (times left (read_expr w d) no_more (drop p ws))) (read_got ws r) (read_end ws r) → Skims ws at (times n (read_expr w room) no_more) r
+  skim-ends r y = record { same = (under_same l.same y.same).tells; from = omega arith; within = y.within }
 
-  row : Row (kid_rows (read_expr w d)) ws p left p left
-  row = record { same = refl; from = omega arith; within = l.within }
+  row : Row (kid_rows (read_expr w d)) ws p left 0 p
+  row = row_begun _ _ _ _ l.within
 
-  pub skim-done : left ≤ 0 → Skims ws at (bare (times n (read_expr w room) no_more (drop at ws))) (read.Next p)
-  skim-done h = skim-ends (read.Next p) (row_done row h)
+  pub skim-done : left ≤ 0 → Skims ws at (times n (read_expr w room) no_more) (Ok p)
+  skim-done h = skim-ends (Ok p) (row_done row h)
 
   module _ (h : 0 < left) where
-    pub skim-next : {r : Read} {q : ℕ} → r ≡ read.Next q → Reads ws p (bare (read_expr w d (drop p ws))) r → Skimmed w ws at room n q (left - 1) d
-    skim-next e x =
-        let y = row_next row h e x in
+    pub skim-next : {q : ℕ} → Ans ws p (bare (read_expr w d (drop p ws))) (ok tt (drop q ws)) q → Skimmed w ws at room n q (left - 1) d
+    skim-next x =
+        let y = row_next row h x in
         record { same = under_same l.same y.same; from = omega arith; within = y.within }
 
-    pub skim-stop : {r : Read} {c : ℕ} → r ≡ read.Refused c → Reads ws p (bare (read_expr w d (drop p ws))) r → Skims ws at (bare (times n (read_expr w room) no_more (drop at ws))) r
-    skim-stop {r} e x = skim-ends r (row-stop row h e x)
+    pub skim-stop : {q : ℕ} (e : Refusal) (r : Result ℕ Refusal) → Ans ws p (bare (read_expr w d (drop p ws))) (no (number_of e)) q → IsErr r × IsErrAnd r (λ y. y ≡ e) → Skims ws at (times n (read_expr w room) no_more) r
+    skim-stop e r x f = skim-ends r (row_stop row e r h x f)
 
     module _ (i : 0 < d) where
-      pub skim-no : {r : PlainRead} → r ≡ plain-read.No → PlainAt ws w.names p r → Skims ws at (bare (times n (read_expr w room) no_more (drop at ws))) (read.Refused 5)
-      skim-no e x =
-          skim-stop refl (record { same = ap bare (no-head w (d - 1) (drop p ws) (omega arith) (rw e at x)); from = omega arith; within = omega arith })
+      pub skim-no : (e : Refusal) (r : Result ℕ Refusal) → PlainAt ws w.names p (Err e) → IsErr r × IsErrAnd r (λ y. y ≡ e) → Skims ws at (times n (read_expr w room) no_more) r
+      skim-no e r x f =
+          skim-stop {q = p} e r (record { same = ap bare (no-head w (d - 1) (drop p ws) (omega arith) x); from = omega arith; within = omega arith }) f
 
       module _ {q k : ℕ} (f : Found ws w.names p q k) where
         pub skim-parts : Skimmed w ws at room n q (left - 1 + k) (d - 1)
@@ -140,13 +137,26 @@ module _ {w : Tables} {ws : List ℕ} {at room n p left d : ℕ} (l : Skimmed w 
         pub skim-none : k ≤ 0 → Skimmed w ws at room n q (left - 1 + k) d
         skim-none z = record { same = under_same l.same (plain-none w f (left - 1) (d - 1) (omega arith) (omega arith) (omega arith) (omega arith)); from = omega arith; within = f.within }
 
--- an answer that is not 6 is the definition's
-module _ {ws : List ℕ} {at : ℕ} {g : Got (Unit {0})} {r : Read} (x : Skims ws at g r) where
-  told : (read_got ws r ≡ no 6 → ⊥) → Reads ws at g r
-  told h = record { same = x.same h; from = x.from; within = x.within }
+-- an answer that is not Depth is the definition's
+depth-is-six : (e : Refusal) → number_of e ≡ 6 → e ≡ Depth
+depth-is-six Depth h = refl
+depth-is-six Size h = never (cc)
+depth-is-six Places h = never (cc)
+depth-is-six Names h = never (cc)
+depth-is-six Bindings h = never (cc)
+depth-is-six Word h = never (cc)
+depth-is-six Unbound h = never (cc)
+depth-is-six Entries h = never (cc)
+depth-is-six Asked h = never (cc)
+depth-is-six Page h = never (cc)
+depth-is-six Room h = never (cc)
 
-  pub told-next : {q : ℕ} → r ≡ read.Next q → Reads ws at g r
-  told-next e = told (λ y. never (let z = rw e at y in cc))
+pub told : {A : Type 0} {ws : List ℕ} {at : ℕ} {f : List ℕ → Got A} (r : Result ℕ Refusal) → Skims ws at f r → (r ≡ Err Depth → ⊥) → Reads ws at f r
+told (Ok p) x h = record { same = x.same (λ y. never (cc)); from = x.from; within = x.within }
+told (Err e) x h =
+    record { same = x.same (λ y. h (ap (λ (z : Refusal). Err z) (depth-is-six e (let z : number_of e ≡ 6 = cc in z)))); from = x.from; within = x.within }
 
-  pub told-stop : {c : ℕ} → r ≡ read.Refused c → (c ≡ 6 → ⊥) → Reads ws at g (read.Refused c)
-  told-stop e h = rw e at (told (λ y. h (let z = rw e at y in cc)))
+-- what a `?` answers where no head reads
+pub other_none : {ws : List ℕ} (names at : ℕ) (e : Refusal) {q : ℕ} (r : Result (Option (ℕ × ℕ)) Refusal) → Ans ws at (read_form names (drop at ws)) (no (number_of e)) q → IsErr r × IsErrAnd r (λ y. y ≡ e) → PlainAt ws names at r
+other_none names at e (Err y) a f = rw f.1 a.same
+other_none names at e (Ok y) a f = absurd f.1

@@ -1,16 +1,14 @@
 -- Plain heads: at most one word follows the code, and then so many expressions in a row and nothing else. What the code sees of a head
 -- without taking it apart.
-use Rattle.std.specs.Prelude.{ℕ, ◌+◌, ◌*◌, ◌/◌, ◌%◌, ◌^◌, ◌<◌, ◌≤◌, ◌≡◌, Bool, false, cond, ◌&&◌, ◌||◌, List, eqb, leb, ltb, length, get_or, drop}
+use Rattle.std.specs.Prelude.{ℕ, ◌+◌, ◌*◌, ◌/◌, ◌%◌, ◌^◌, ◌<◌, ◌≤◌, ◌≡◌, Bool, false, cond, ◌&&◌, ◌||◌, List, eqb, leb, ltb, length, get_or, drop, Option, None, Some, Result, Ok, Err}
 use Rattle.heads.specs.Got.{ok, no}
 use Rattle.heads.specs.Form.{read_form, kids_of, items_of, has_pattern}
 use Rattle.heads.specs.declared.Form.{Form}
 use Rattle.heads.specs.declared.Form.TheVariants.{Leaf, Var, Unresolved, Prop, Two, Many, BinOp, UnaryOp, IsNull, ListComprehension, ListPredicate}
+use Rattle.refusal.specs.Number.{number_of}
+use Rattle.refusal.specs.declared.Refusal.{Refusal}
 use Rattle.flat.specs.declared.Plain.{Plain}
 use Rattle.flat.specs.declared.Plain.TheVariants as plain
-use Rattle.flat.specs.declared.Quiet.{Quiet}
-use Rattle.flat.specs.declared.Quiet.TheVariants as quiet
-use Rattle.flat.specs.declared.PlainRead.{PlainRead}
-use Rattle.flat.specs.declared.PlainRead.TheVariants as plain-read
 
 -- Tables by code, a bit each, the bit of code 0 the lowest: the plain heads, the quiet ones, those that a word follows; those whose word
 -- is the number of the parts or adds to it, is a name, is below 2. And by two bits each, the parts without that word.
@@ -94,19 +92,19 @@ Sees ws at f r (plain.Name x) = (f ≡ Unresolved x) × Ends ws at (at + 2) r
 Sees ws at f r (plain.Parts p k) = Parts f k × Ends ws at p r
 Sees ws at f r plain.Rare = has plain_codes (get_or ws at 0) ≡ false
 
-abbrev pub Quiets : List ℕ → ℕ → Form → List ℕ → Quiet → Type 0
-Quiets ws at f r (quiet.Parts p k) = Calm f k × Ends ws at p r
-Quiets ws at f r quiet.No = has quiet_codes (get_or ws at 0) ≡ false
+abbrev pub Quiets : List ℕ → ℕ → Form → List ℕ → Option (ℕ × ℕ) → Type 0
+Quiets ws at f r (Some (p, k)) = Calm f k × Ends ws at p r
+Quiets ws at f r None = has quiet_codes (get_or ws at 0) ≡ false
 
 -- Where a head reads at `at`, v is what is seen of it.
 pub record Seen (ws : List ℕ) (at : ℕ) (v : Plain) : Type 0 where
   pub of : (names : ℕ) (f : Form) (r : List ℕ) → read_form names (drop at ws) ≡ ok f r → Sees ws at f r v
 
-pub record Calmed (ws : List ℕ) (at : ℕ) (v : Quiet) : Type 0 where
+pub record Calmed (ws : List ℕ) (at : ℕ) (v : Option (ℕ × ℕ)) : Type 0 where
   pub of : (names : ℕ) (f : Form) (r : List ℕ) → read_form names (drop at ws) ≡ ok f r → Quiets ws at f r v
 
--- such a head that reads, or none that does
-abbrev pub PlainAt : List ℕ → ℕ → ℕ → PlainRead → Type 0
-PlainAt ws names at (plain-read.Is p k) = (f : Form) × (Simple f k × ((read_form names (drop at ws) ≡ ok f (drop p ws)) × Ends ws at p (drop p ws)))
-PlainAt ws names at plain-read.Rare = Unit {0}
-PlainAt ws names at plain-read.No = read_form names (drop at ws) ≡ no 5
+-- such a head that reads, another one, or none that does
+abbrev pub PlainAt : List ℕ → ℕ → ℕ → Result (Option (ℕ × ℕ)) Refusal → Type 0
+PlainAt ws names at (Ok (Some (p, k))) = (f : Form) × (Simple f k × ((read_form names (drop at ws) ≡ ok f (drop p ws)) × Ends ws at p (drop p ws)))
+PlainAt ws names at (Ok None) = Unit {0}
+PlainAt ws names at (Err e) = read_form names (drop at ws) ≡ no (number_of e)

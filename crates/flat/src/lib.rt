@@ -4,13 +4,13 @@
 
 ghost use Rattle.std.specs.Prelude.{◌≡◌, ℕ, ◌<◌, ◌≤◌, length, drop};
 ghost use Rattle.words.specs.Words.{words};
-ghost use Rattle.heads.specs.Got.{bare};
-ghost use Rattle.heads.specs.Answer.{Reads};
-ghost use Rattle.expr.specs.Read.{reader, no_more, times};
+ghost use Rattle.heads.specs.Answer.{Reads, words_of};
+ghost use Rattle.expr.specs.Read.{reader_of, no_more, times};
 ghost use Rattle.flat.specs.Plain.{bit_of, has, counted, parts_of, is_out, Seen, Calmed, PlainAt};
 ghost use Rattle.flat.specs.Skim.{Skims};
 
-use heads::{FormRead, Read, has_pattern, items_of, kids_of, read_form};
+use heads::Section;
+use refusal::Refusal;
 use words::{count, word};
 
 // A plain head: a use of a variable or of a name, of two words, or parts, with where they begin and how many there are. Any other is rare.
@@ -20,22 +20,6 @@ pub enum Plain {
     Name(u32),
     Parts(usize, usize),
     Rare,
-}
-
-// A plain head whose parts stand in the general setting of the kinds walk.
-#[derive(Clone, Copy)]
-pub enum Quiet {
-    Parts(usize, usize),
-    No,
-}
-
-// A head that reads, after which expressions follow and nothing else, with where these begin and how many there are; none that reads;
-// or another head.
-#[derive(Clone, Copy)]
-pub enum PlainRead {
-    Is(usize, usize),
-    Rare,
-    No,
 }
 
 // By code, a bit each: whether a head is plain, whether it is a quiet one, whether a word follows, whether that word is the number of the
@@ -118,8 +102,9 @@ pub fn plain_at(s: &[u8], at: usize) -> Plain
     Plain::Rare
 }
 
-// Whether the head at `at`, where one reads, is a quiet one.
-pub fn quiet_at(s: &[u8], at: usize) -> Quiet
+// Where the parts of the head at `at` begin and how many there are, if one reads there, is plain, and its parts stand in the general
+// setting of the kinds walk.
+pub fn quiet_at(s: &[u8], at: usize) -> Option<(usize, usize)>
     requires { at ≤ length (words s.now) }
     ensures { Calmed (words s.now) at result }
 {
@@ -127,9 +112,9 @@ pub fn quiet_at(s: &[u8], at: usize) -> Quiet
     let p = at + 1;
     let a = word(s, p);
     if is_in(QUIET, code) {
-        return Quiet::Parts(p + bit(WORDS, code) as usize, parts_of(code, a));
+        return Some((p + bit(WORDS, code) as usize, parts_of(code, a)));
     }
-    Quiet::No
+    None
 }
 
 // Whether the word after a plain head's code is out of range: a name that the table has not, a flag above 1, no operator.
@@ -143,111 +128,88 @@ fn is_out(code: u32, names: u32, a: u32) -> bool
     n | (f | o)
 }
 
-// Any other head at `at` after which expressions follow and nothing else, read whole.
-fn read_other(s: &[u8], names: u32, at: usize) -> PlainRead
-    requires { at ≤ length (words s.now) }
-    ensures { PlainAt (words s.now) names at result }
+// Any other head at `at`, read whole: where expressions follow it and nothing else, where they begin and how many there are.
+fn read_other(section: &Section, at: usize) -> Result<Option<(usize, usize)>, Refusal>
+    requires { at ≤ length (words_of section.now) }
+    ensures { PlainAt (words_of section.now) section.now.names at result }
 {
-    let FormRead::Is(f, q) = read_form(s, names, at) else {
-        return PlainRead::No;
-    };
-    if has_pattern(f) {
-        return PlainRead::Rare;
+    let (form, at) = section.read_form(at)?;
+    if form.has_pattern() {
+        return Ok(None);
     }
-    if items_of(f) == 0 {
-        return PlainRead::Is(q, kids_of(f));
+    if form.items() == 0 {
+        return Ok(Some((at, form.kids())));
     }
-    PlainRead::Rare
+    Ok(None)
 }
 
-// A head at `at` after which expressions follow and nothing else, with the ranges of its words.
-fn read_plain(s: &[u8], names: u32, at: usize) -> PlainRead
-    requires { at ≤ length (words s.now) }
-    ensures { PlainAt (words s.now) names at result }
+// A head at `at` after which expressions follow and nothing else, with the ranges of its words: where they begin and how many there are.
+fn read_plain(section: &Section, at: usize) -> Result<Option<(usize, usize)>, Refusal>
+    requires { at ≤ length (words_of section.now) }
+    ensures { PlainAt (words_of section.now) section.now.names at result }
 {
-    let code = word(s, at);
+    let code = word(section.bytes, at);
     if is_in(PLAIN, code) {
         let p = at + 1;
-        let a = word(s, p);
+        let a = word(section.bytes, p);
         let q = p + bit(WORDS, code) as usize;
-        if count(s) < q {
-            return PlainRead::No;
+        if count(section.bytes) < q {
+            return Err(Refusal::Word);
         }
-        if is_out(code, names, a) {
-            return PlainRead::No;
+        if is_out(code, section.names, a) {
+            return Err(Refusal::Word);
         }
-        return PlainRead::Is(q, parts_of(code, a));
+        return Ok(Some((q, parts_of(code, a))));
     }
-    read_other(s, names, at)
+    read_other(section, at)
 }
 
 // n expressions in a row, with the parts of plain heads counted with them: room falls with each head that has parts, so that it is too
-// small rather than too large, and 6 says only that it ran out.
-fn skim(s: &[u8], names: u32, rows: usize, k: usize, at: usize, room: u32, n: usize) -> Read
-    requires { at ≤ length (words s.now) }
-    ensures { Skims (words s.now) at (bare (times n (reader (words s.now) names rows k room) no_more (drop at (words s.now)))) result }
+// small rather than too large, and Depth says only that it ran out.
+fn skim(section: &Section, at: usize, room: u32, n: usize) -> Result<usize, Refusal>
+    requires { at ≤ length (words_of section.now) }
+    ensures { Skims (words_of section.now) at (times n (reader_of section.now room) no_more) result }
 {
     let mut p = at;
     let mut left = n;
     let mut d = room;
     while 0 < left {
-        if d == 0 {
-            return Read::Refused(6);
+        if d == 0 || MAX_ROW < left {
+            return Err(Refusal::Depth);
         }
-        if MAX_ROW < left {
-            return Read::Refused(6);
-        }
-        match read_plain(s, names, p) {
-            PlainRead::Is(q, m) => {
+        match read_plain(section, p)? {
+            Some((q, m)) => {
                 p = q;
                 left = left - 1 + m;
                 if 0 < m {
                     d -= 1;
                 }
             }
-            PlainRead::No => {
-                return Read::Refused(5);
-            }
-            PlainRead::Rare => {
-                let r = expr::read_expr(s, names, rows, k, p, d);
-                let Read::Next(q) = r else {
-                    return r;
-                };
-                p = q;
+            None => {
+                p = expr::read_expr(section, p, d)?;
                 left -= 1;
             }
         }
     }
-    Read::Next(p)
+    Ok(p)
 }
 
 // n expressions in a row, as expr's: flat where that tells.
-pub fn read_kids(
-    s: &[u8],
-    names: u32,
-    rows: usize,
-    k: usize,
-    at: usize,
-    room: u32,
-    n: usize,
-) -> Read
-    requires { at ≤ length (words s.now) }
-    ensures { Reads (words s.now) at (bare (times n (reader (words s.now) names rows k room) no_more (drop at (words s.now)))) result }
+pub fn read_kids(section: &Section, at: usize, room: u32, n: usize) -> Result<usize, Refusal>
+    requires { at ≤ length (words_of section.now) }
+    ensures { Reads (words_of section.now) at (times n (reader_of section.now room) no_more) result }
 {
-    let r = skim(s, names, rows, k, at, room, n);
-    let Read::Refused(c) = r else {
-        return r;
-    };
-    if c == 6 {
-        return expr::read_kids(s, names, rows, k, at, room, n);
+    let told = skim(section, at, room, n);
+    if told == Err(Refusal::Depth) {
+        return expr::read_kids(section, at, room, n);
     }
-    r
+    told
 }
 
 // An expression, as expr's: a row of one.
-pub fn read_expr(s: &[u8], names: u32, rows: usize, k: usize, at: usize, room: u32) -> Read
-    requires { at ≤ length (words s.now) }
-    ensures { Reads (words s.now) at (bare (reader (words s.now) names rows k room (drop at (words s.now)))) result }
+pub fn read_expr(section: &Section, at: usize, room: u32) -> Result<usize, Refusal>
+    requires { at ≤ length (words_of section.now) }
+    ensures { Reads (words_of section.now) at (reader_of section.now room) result }
 {
-    read_kids(s, names, rows, k, at, room, 1)
+    read_kids(section, at, room, 1)
 }

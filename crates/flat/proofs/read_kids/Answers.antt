@@ -1,12 +1,6 @@
--- What the flat reading answers is right unless it is 6, and then the expressions are read one by one.
-use native.Mathlib.Omega.{arith}
-use Rattle.flat.proofs.Skimmed.{told-next, told-stop}
+-- What the flat reading answers is right unless it is Depth, and then the expressions are read one by one.
+use Rattle.flat.proofs.Skimmed.{told}
 use Rattle.flat.proofs.read_kids.Goals as goal
 
-pub returns-in_default : goal.returns-in_default
-returns-in_default c =
-    told-next c.skim-r.ensures c.in_default.is
-
 pub returns : goal.returns
-returns c =
-    told-stop c.skim-r.ensures c.in-Refused.is (λ e. omega arith)
+returns c = told c.skim-told.result c.skim-told.ensures (λ e. let z = rw e at c.if-eq.ensures in cc)

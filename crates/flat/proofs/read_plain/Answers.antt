@@ -8,7 +8,7 @@ use Rattle.flat.proofs.read_plain.Goals as goal
 
 pub overflow_add-p : goal.overflow_add-p
 overflow_add-p c =
-    omega (arith, length-words c.args.s.now)
+    omega (arith, length-words c.args.section.now.bytes.now)
 
 pub bit-requires : goal.bit-requires
 bit-requires c =
@@ -16,7 +16,7 @@ bit-requires c =
 
 pub overflow_add-q : goal.overflow_add-q
 overflow_add-q c =
-    omega (arith, c.bit.ensures, length-words c.args.s.now)
+    omega (arith, c.bit.ensures, length-words c.args.section.now.bytes.now)
 
 pub returns-then-count-q : goal.returns-then-count-q
 returns-then-count-q c =
