@@ -1,11 +1,11 @@
 -- What follows the kind and the span of a clause: which words it is does not go by the span, and of some kinds it is one reading.
 use Prim.Native.Nat.{ℕ}
-use mathlib.Core.Path.{◌≡◌, refl}
+use mathlib.Core.Path.{◌≡◌, refl, sym, ◌∙◌}
 use mathlib.Core.Bool.{Bool, true, false, cond}
 use mathlib.Core.List.{List}
 use Rattle.heads.specs.Got.{Got, ok, no, bind, bare, any_word, flag, counted}
 use Rattle.heads.specs.Head.{Tables}
-use Rattle.heads.proofs.Shapes.{bare-map}
+use Rattle.heads.proofs.Shapes.{bare-map, bare-end}
 use Rattle.expr.specs.Read.{no_more, times, pattern, maybe_pattern}
 use Rattle.clauses.specs.Tree.{Opening, Reading, where', delete, Keys, unsorted, sorted, opening, reading, with', return, unwind}
 use Rattle.clauses.specs.Read.{clause_expr, read_projection, read_yield, counted_exprs, counted_marks, no_keys, some_keys, read_match, read_opening, read_where, read_with, read_return, read_unwind, read_marked, read_delete, read_call, read_body}
@@ -77,21 +77,28 @@ module _ (w : Tables) (a b : ℕ) (ws : List ℕ) where
   unfolding read_call
   call-bare = bare-same (counted_exprs w ws) _ _ (λ es r. bare-same (counted (read_yield w) r) _ _ (λ ys r2. refl))
 
+row_after : {A B : Type 0} (g : Got A) (h : List ℕ → Got B) → bind g (λ c r. bind (h r) (λ x s. ok tt s)) ≡ bare (bind g (λ c r. h r))
+row_after (ok c r) h = sym (bare-end (h r))
+row_after (no c) h = refl
+
 -- A clause with sort keys is the clause without, and then a count of expressions.
 module _ (w : Tables) (ws : List ℕ) where
   abbrev key_row : List ℕ → Got (Unit {0})
   key_row r = bind (counted_exprs w r) (λ es r2. ok tt r2)
 
-  pub keyed-with : bare (read_with w 0 0 (some_keys w) ws) ≡ bind (read_with w 0 0 (no_keys w) ws) (λ c r. key_row r)
+  pub keyed-with : bare (read_with w 0 0 (some_keys w) ws) ≡ bare (bind (read_with w 0 0 (no_keys w) ws) (λ c r. counted_exprs w r))
   unfolding read_with no_keys some_keys
   keyed-with =
       bare-after (counted (read_projection w) ws) _ _ (λ c r. key_row r)
       (λ ps r. bare-after (flag r) _ _ (λ c r. key_row r)
       (λ g r2. bare-after (times g (clause_expr w) no_more r2) _ _ (λ c r. key_row r) (λ es r3. bare_twice (counted_exprs w r3) sorted (λ ks. with' 0 0 ps es ks))))
+      ∙ row_after (read_with w 0 0 (no_keys w) ws) (λ r. counted_exprs w r)
 
-  pub keyed-return : bare (read_return w 0 0 (some_keys w) ws) ≡ bind (counted (read_projection w) ws) (λ ps r. key_row r)
+  pub keyed-return : bare (read_return w 0 0 (some_keys w) ws) ≡ bare (bind (counted (read_projection w) ws) (λ ps r. counted_exprs w r))
   unfolding read_return some_keys
-  keyed-return = bare-last (counted (read_projection w) ws) _ _ (λ ps r. bare_twice (counted_exprs w r) sorted (λ ks. return 0 0 ps ks))
+  keyed-return =
+      bare-last (counted (read_projection w) ws) _ _ (λ ps r. bare_twice (counted_exprs w r) sorted (λ ks. return 0 0 ps ks))
+      ∙ row_after (counted (read_projection w) ws) (λ r. counted_exprs w r)
 
 pub body-bare : (w : Tables) (a b : ℕ) (ws : List ℕ) (kind : ℕ) → bare (read_body w a b kind ws) ≡ bare (read_body w 0 0 kind ws)
 unfolding read_body

@@ -1,299 +1,231 @@
-// Clauses and arms of a section, read in place. Each reader's answer is opened, and a refusal is handed up with its number.
+// Clauses and arms of a section, read in place.
 #![tactic(auto)]
 
 ghost use Rattle.std.specs.Prelude.{Bool, true, false, ℕ, ◌≤◌, length, drop};
-ghost use Rattle.words.specs.Words.{words};
-ghost use Rattle.heads.specs.Got.{bare, many, counted};
-ghost use Rattle.heads.specs.Answer.{Reads, tables};
+ghost use Rattle.heads.specs.Got.{many, counted};
+ghost use Rattle.heads.specs.Answer.{Reads, words_of, tables_of, kind_of};
 ghost use Rattle.clauses.specs.Read.{read_projection, read_yield, counted_exprs, counted_marks, no_keys, read_match, read_with, read_unwind, read_call, read_body, read_clause, read_arm};
 ghost use Rattle.clauses.specs.Sorted.{sorted_with, sorted_return};
 
 use expr::{read_marks, read_pattern};
 use flat::{read_expr, read_kids};
-use heads::{Read, Word, known, word_in};
+use heads::{MarkKind, Section};
+use refusal::Refusal;
 
 // The deepest expression that is read.
 pub const MAX_DEPTH: u32 = 48;
 
 // A projection: an alias or none, and an expression.
-pub fn read_projection(s: &[u8], names: u32, rows: usize, k: usize, at: usize) -> Read
-    requires { at ≤ length (words s.now) }
-    ensures { Reads (words s.now) at (bare (read_projection (tables (words s.now) names rows k) (drop at (words s.now)))) result }
+pub fn read_projection(section: &Section, at: usize) -> Result<usize, Refusal>
+    requires { at ≤ length (words_of section.now) }
+    ensures { Reads (words_of section.now) at (read_projection (tables_of section.now)) result }
 {
-    let Word::Is(_a) = word_in(s, at, 0, (names as u64) + 1) else {
-        return Read::Refused(5);
-    };
-    read_expr(s, names, rows, k, at + 1, MAX_DEPTH)
+    let (_, at) = section.word_in(at, 0, (section.names as u64) + 1)?;
+    read_expr(section, at, MAX_DEPTH)
 }
 
 // n projections.
-pub fn read_projections(s: &[u8], names: u32, rows: usize, k: usize, at: usize, n: u32) -> Read
-    requires { at ≤ length (words s.now) }
-    ensures { Reads (words s.now) at (bare (many (read_projection (tables (words s.now) names rows k)) n (drop at (words s.now)))) result }
+fn read_projections(section: &Section, at: usize, n: u32) -> Result<usize, Refusal>
+    requires { at ≤ length (words_of section.now) }
+    ensures { Reads (words_of section.now) at (many (read_projection (tables_of section.now)) n) result }
 {
     let mut p = at;
-    let mut left = n;
-    while 0 < left {
-        let r = read_projection(s, names, rows, k, p);
-        let Read::Next(q) = r else {
-            return r;
-        };
-        p = q;
-        left -= 1;
+    for _ in 0..n {
+        p = read_projection(section, p)?;
     }
-    Read::Next(p)
+    Ok(p)
 }
 
 // A count, and as many projections.
-pub fn counted_projections(s: &[u8], names: u32, rows: usize, k: usize, at: usize) -> Read
-    requires { at ≤ length (words s.now) }
-    ensures { Reads (words s.now) at (bare (counted (read_projection (tables (words s.now) names rows k)) (drop at (words s.now)))) result }
+pub fn counted_projections(section: &Section, at: usize) -> Result<usize, Refusal>
+    requires { at ≤ length (words_of section.now) }
+    ensures { Reads (words_of section.now) at (counted (read_projection (tables_of section.now))) result }
 {
-    let Word::Is(n) = word_in(s, at, 0, 4294967296) else {
-        return Read::Refused(5);
-    };
-    read_projections(s, names, rows, k, at + 1, n)
+    let (n, at) = section.any_word(at)?;
+    read_projections(section, at, n)
 }
 
 // A yield: a name, an alias or none, a variable.
-pub fn read_yield(s: &[u8], names: u32, rows: usize, k: usize, at: usize) -> Read
-    requires { at ≤ length (words s.now) }
-    ensures { Reads (words s.now) at (bare (read_yield (tables (words s.now) names rows k) (drop at (words s.now)))) result }
+fn read_yield(section: &Section, at: usize) -> Result<usize, Refusal>
+    requires { at ≤ length (words_of section.now) }
+    ensures { Reads (words_of section.now) at (read_yield (tables_of section.now)) result }
 {
-    let Word::Is(_x) = word_in(s, at, 0, names as u64) else {
-        return Read::Refused(5);
-    };
-    let p = at + 1;
-    let Word::Is(_a) = word_in(s, p, 0, (names as u64) + 1) else {
-        return Read::Refused(5);
-    };
-    let q = p + 1;
-    let Word::Is(_v) = word_in(s, q, 0, 4294967296) else {
-        return Read::Refused(5);
-    };
-    Read::Next(q + 1)
+    let (_, at) = section.word_in(at, 0, section.names as u64)?;
+    let (_, at) = section.word_in(at, 0, (section.names as u64) + 1)?;
+    let (_, at) = section.any_word(at)?;
+    Ok(at)
 }
 
 // n yields.
-pub fn read_yields(s: &[u8], names: u32, rows: usize, k: usize, at: usize, n: u32) -> Read
-    requires { at ≤ length (words s.now) }
-    ensures { Reads (words s.now) at (bare (many (read_yield (tables (words s.now) names rows k)) n (drop at (words s.now)))) result }
+fn read_yields(section: &Section, at: usize, n: u32) -> Result<usize, Refusal>
+    requires { at ≤ length (words_of section.now) }
+    ensures { Reads (words_of section.now) at (many (read_yield (tables_of section.now)) n) result }
 {
     let mut p = at;
-    let mut left = n;
-    while 0 < left {
-        let r = read_yield(s, names, rows, k, p);
-        let Read::Next(q) = r else {
-            return r;
-        };
-        p = q;
-        left -= 1;
+    for _ in 0..n {
+        p = read_yield(section, p)?;
     }
-    Read::Next(p)
+    Ok(p)
 }
 
 // A count, and as many yields.
-pub fn counted_yields(s: &[u8], names: u32, rows: usize, k: usize, at: usize) -> Read
-    requires { at ≤ length (words s.now) }
-    ensures { Reads (words s.now) at (bare (counted (read_yield (tables (words s.now) names rows k)) (drop at (words s.now)))) result }
+fn counted_yields(section: &Section, at: usize) -> Result<usize, Refusal>
+    requires { at ≤ length (words_of section.now) }
+    ensures { Reads (words_of section.now) at (counted (read_yield (tables_of section.now))) result }
 {
-    let Word::Is(n) = word_in(s, at, 0, 4294967296) else {
-        return Read::Refused(5);
-    };
-    read_yields(s, names, rows, k, at + 1, n)
+    let (n, at) = section.any_word(at)?;
+    read_yields(section, at, n)
 }
 
 // A count, and as many expressions.
-pub fn counted_exprs(s: &[u8], names: u32, rows: usize, k: usize, at: usize) -> Read
-    requires { at ≤ length (words s.now) }
-    ensures { Reads (words s.now) at (bare (counted_exprs (tables (words s.now) names rows k) (drop at (words s.now)))) result }
+fn counted_exprs(section: &Section, at: usize) -> Result<usize, Refusal>
+    requires { at ≤ length (words_of section.now) }
+    ensures { Reads (words_of section.now) at (counted_exprs (tables_of section.now)) result }
 {
-    let Word::Is(n) = word_in(s, at, 0, 4294967296) else {
-        return Read::Refused(5);
-    };
-    read_kids(s, names, rows, k, at + 1, MAX_DEPTH, n as usize)
+    let (n, at) = section.any_word(at)?;
+    read_kids(section, at, MAX_DEPTH, n as usize)
 }
 
 // A count, and as many marks of a kind with their expressions.
-pub fn counted_marks(s: &[u8], names: u32, rows: usize, k: usize, at: usize, kind: u32) -> Read
-    requires { at ≤ length (words s.now) }
-    ensures { Reads (words s.now) at (bare (counted_marks (tables (words s.now) names rows k) kind (drop at (words s.now)))) result }
+fn counted_marks(section: &Section, at: usize, kind: MarkKind) -> Result<usize, Refusal>
+    requires { at ≤ length (words_of section.now) }
+    ensures { Reads (words_of section.now) at (counted_marks (tables_of section.now) (kind_of kind)) result }
 {
-    let Word::Is(n) = word_in(s, at, 0, 4294967296) else {
-        return Read::Refused(5);
-    };
-    read_marks(s, names, rows, k, at + 1, MAX_DEPTH, kind, n)
+    let (n, at) = section.any_word(at)?;
+    read_marks(section, at, MAX_DEPTH, kind, n)
 }
 
 // Match: a flag, a pattern.
-pub fn read_match(s: &[u8], names: u32, rows: usize, k: usize, at: usize) -> Read
-    requires { at ≤ length (words s.now) }
-    ensures { Reads (words s.now) at (bare (read_match (tables (words s.now) names rows k) 0 0 (drop at (words s.now)))) result }
+fn read_match(section: &Section, at: usize) -> Result<usize, Refusal>
+    requires { at ≤ length (words_of section.now) }
+    ensures { Reads (words_of section.now) at (read_match (tables_of section.now) 0 0) result }
 {
-    let Word::Is(_o) = word_in(s, at, 0, 2) else {
-        return Read::Refused(5);
-    };
-    read_pattern(s, names, rows, k, at + 1, MAX_DEPTH, true)
+    let (_, at) = section.flag(at)?;
+    read_pattern(section, at, MAX_DEPTH, true)
 }
 
 // With: projections, a flag, a filter if it is 1.
-pub fn read_with(s: &[u8], names: u32, rows: usize, k: usize, at: usize) -> Read
-    requires { at ≤ length (words s.now) }
-    ensures { Reads (words s.now) at (bare (read_with (tables (words s.now) names rows k) 0 0 (no_keys (tables (words s.now) names rows k)) (drop at (words s.now)))) result }
+fn read_with(section: &Section, at: usize) -> Result<usize, Refusal>
+    requires { at ≤ length (words_of section.now) }
+    ensures { Reads (words_of section.now) at (read_with (tables_of section.now) 0 0 (no_keys (tables_of section.now))) result }
 {
-    let a = counted_projections(s, names, rows, k, at);
-    let Read::Next(p) = a else {
-        return a;
-    };
-    let Word::Is(g) = word_in(s, p, 0, 2) else {
-        return Read::Refused(5);
-    };
-    read_kids(s, names, rows, k, p + 1, MAX_DEPTH, g as usize)
+    let at = counted_projections(section, at)?;
+    let (filtered, at) = section.flag(at)?;
+    read_kids(section, at, MAX_DEPTH, filtered as usize)
 }
 
 // With, sorted: the same, a count, and as many sort keys.
-pub fn read_sorted_with(s: &[u8], names: u32, rows: usize, k: usize, at: usize) -> Read
-    requires { at ≤ length (words s.now) }
-    ensures { Reads (words s.now) at (bare (sorted_with (tables (words s.now) names rows k) (drop at (words s.now)))) result }
+fn read_sorted_with(section: &Section, at: usize) -> Result<usize, Refusal>
+    requires { at ≤ length (words_of section.now) }
+    ensures { Reads (words_of section.now) at (sorted_with (tables_of section.now)) result }
 {
-    let a = read_with(s, names, rows, k, at);
-    let Read::Next(p) = a else {
-        return a;
-    };
-    counted_exprs(s, names, rows, k, p)
+    let at = read_with(section, at)?;
+    counted_exprs(section, at)
 }
 
 // Return, sorted: projections, a count, and as many sort keys.
-pub fn read_sorted_return(s: &[u8], names: u32, rows: usize, k: usize, at: usize) -> Read
-    requires { at ≤ length (words s.now) }
-    ensures { Reads (words s.now) at (bare (sorted_return (tables (words s.now) names rows k) (drop at (words s.now)))) result }
+fn read_sorted_return(section: &Section, at: usize) -> Result<usize, Refusal>
+    requires { at ≤ length (words_of section.now) }
+    ensures { Reads (words_of section.now) at (sorted_return (tables_of section.now)) result }
 {
-    let a = counted_projections(s, names, rows, k, at);
-    let Read::Next(p) = a else {
-        return a;
-    };
-    counted_exprs(s, names, rows, k, p)
+    let at = counted_projections(section, at)?;
+    counted_exprs(section, at)
 }
 
 // Unwind: a variable that is bound, an expression.
-pub fn read_unwind(s: &[u8], names: u32, rows: usize, k: usize, at: usize) -> Read
-    requires { at ≤ length (words s.now) }
-    ensures { Reads (words s.now) at (bare (read_unwind (tables (words s.now) names rows k) 0 0 (drop at (words s.now)))) result }
+fn read_unwind(section: &Section, at: usize) -> Result<usize, Refusal>
+    requires { at ≤ length (words_of section.now) }
+    ensures { Reads (words_of section.now) at (read_unwind (tables_of section.now) 0 0) result }
 {
-    let Word::Is(v) = word_in(s, at, 0, 4294967296) else {
-        return Read::Refused(5);
-    };
-    if known(s, rows, k, v) {
-        return read_expr(s, names, rows, k, at + 1, MAX_DEPTH);
+    let (v, at) = section.any_word(at)?;
+    if !section.knows(v) {
+        return Err(Refusal::Unbound);
     }
-    Read::Refused(7)
+    read_expr(section, at, MAX_DEPTH)
 }
 
 // Call: arguments, yields.
-pub fn read_call(s: &[u8], names: u32, rows: usize, k: usize, at: usize) -> Read
-    requires { at ≤ length (words s.now) }
-    ensures { Reads (words s.now) at (bare (read_call (tables (words s.now) names rows k) 0 0 (drop at (words s.now)))) result }
+fn read_call(section: &Section, at: usize) -> Result<usize, Refusal>
+    requires { at ≤ length (words_of section.now) }
+    ensures { Reads (words_of section.now) at (read_call (tables_of section.now) 0 0) result }
 {
-    let a = counted_exprs(s, names, rows, k, at);
-    let Read::Next(p) = a else {
-        return a;
-    };
-    counted_yields(s, names, rows, k, p)
+    let at = counted_exprs(section, at)?;
+    counted_yields(section, at)
 }
 
 // What follows the kind and the span of a clause.
-pub fn read_body(s: &[u8], names: u32, rows: usize, k: usize, at: usize, kind: u32) -> Read
-    requires { at ≤ length (words s.now) }
-    ensures { Reads (words s.now) at (bare (read_body (tables (words s.now) names rows k) 0 0 kind (drop at (words s.now)))) result }
+fn read_body(section: &Section, at: usize, kind: u32) -> Result<usize, Refusal>
+    requires { at ≤ length (words_of section.now) }
+    ensures { Reads (words_of section.now) at (read_body (tables_of section.now) 0 0 kind) result }
 {
     match kind {
-        1 => read_match(s, names, rows, k, at),
-        2 => read_kids(s, names, rows, k, at, MAX_DEPTH, 1),
-        3 => read_with(s, names, rows, k, at),
-        4 => counted_projections(s, names, rows, k, at),
-        5 => read_unwind(s, names, rows, k, at),
-        6 => read_pattern(s, names, rows, k, at, MAX_DEPTH, true),
-        7 => read_pattern(s, names, rows, k, at, MAX_DEPTH, true),
-        8 => counted_marks(s, names, rows, k, at, 1),
-        9 => counted_marks(s, names, rows, k, at, 2),
-        10 => counted_exprs(s, names, rows, k, at),
-        11 => read_call(s, names, rows, k, at),
-        12 => read_sorted_with(s, names, rows, k, at),
-        13 => read_sorted_return(s, names, rows, k, at),
-        _ => Read::Refused(5),
+        1 => read_match(section, at),
+        2 => read_kids(section, at, MAX_DEPTH, 1),
+        3 => read_with(section, at),
+        4 => counted_projections(section, at),
+        5 => read_unwind(section, at),
+        6 => read_pattern(section, at, MAX_DEPTH, true),
+        7 => read_pattern(section, at, MAX_DEPTH, true),
+        8 => counted_marks(section, at, MarkKind::Set),
+        9 => counted_marks(section, at, MarkKind::Remove),
+        10 => counted_exprs(section, at),
+        11 => read_call(section, at),
+        12 => read_sorted_with(section, at),
+        13 => read_sorted_return(section, at),
+        _ => Err(Refusal::Word),
     }
 }
 
 // A clause: kind, span, and what follows.
-pub fn read_clause(s: &[u8], names: u32, rows: usize, k: usize, at: usize) -> Read
-    requires { at ≤ length (words s.now) }
-    ensures { Reads (words s.now) at (bare (read_clause (tables (words s.now) names rows k) (drop at (words s.now)))) result }
+pub fn read_clause(section: &Section, at: usize) -> Result<usize, Refusal>
+    requires { at ≤ length (words_of section.now) }
+    ensures { Reads (words_of section.now) at (read_clause (tables_of section.now)) result }
 {
-    let Word::Is(kind) = word_in(s, at, 0, 4294967296) else {
-        return Read::Refused(5);
-    };
-    let p = at + 1;
-    let Word::Is(a) = word_in(s, p, 0, 4294967296) else {
-        return Read::Refused(5);
-    };
-    let q = p + 1;
-    let Word::Is(_b) = word_in(s, q, a, 4294967296) else {
-        return Read::Refused(5);
-    };
-    read_body(s, names, rows, k, q + 1, kind)
+    let (kind, at) = section.any_word(at)?;
+    let (start, at) = section.any_word(at)?;
+    let (_, at) = section.word_in(at, start, 4294967296)?;
+    read_body(section, at, kind)
 }
 
 // n clauses.
-pub fn read_clauses(s: &[u8], names: u32, rows: usize, k: usize, at: usize, n: u32) -> Read
-    requires { at ≤ length (words s.now) }
-    ensures { Reads (words s.now) at (bare (many (read_clause (tables (words s.now) names rows k)) n (drop at (words s.now)))) result }
+pub fn read_clauses(section: &Section, at: usize, n: u32) -> Result<usize, Refusal>
+    requires { at ≤ length (words_of section.now) }
+    ensures { Reads (words_of section.now) at (many (read_clause (tables_of section.now)) n) result }
 {
     let mut p = at;
-    let mut left = n;
-    while 0 < left {
-        let r = read_clause(s, names, rows, k, p);
-        let Read::Next(q) = r else {
-            return r;
-        };
-        p = q;
-        left -= 1;
+    for _ in 0..n {
+        p = read_clause(section, p)?;
     }
-    Read::Next(p)
+    Ok(p)
+}
+
+// A count, and as many clauses.
+fn counted_clauses(section: &Section, at: usize) -> Result<usize, Refusal>
+    requires { at ≤ length (words_of section.now) }
+    ensures { Reads (words_of section.now) at (counted (read_clause (tables_of section.now))) result }
+{
+    let (n, at) = section.any_word(at)?;
+    read_clauses(section, at, n)
 }
 
 // An arm: span, a count, and as many clauses.
-pub fn read_arm(s: &[u8], names: u32, rows: usize, k: usize, at: usize) -> Read
-    requires { at ≤ length (words s.now) }
-    ensures { Reads (words s.now) at (bare (read_arm (tables (words s.now) names rows k) (drop at (words s.now)))) result }
+fn read_arm(section: &Section, at: usize) -> Result<usize, Refusal>
+    requires { at ≤ length (words_of section.now) }
+    ensures { Reads (words_of section.now) at (read_arm (tables_of section.now)) result }
 {
-    let Word::Is(a) = word_in(s, at, 0, 4294967296) else {
-        return Read::Refused(5);
-    };
-    let p = at + 1;
-    let Word::Is(_b) = word_in(s, p, a, 4294967296) else {
-        return Read::Refused(5);
-    };
-    let q = p + 1;
-    let Word::Is(n) = word_in(s, q, 0, 4294967296) else {
-        return Read::Refused(5);
-    };
-    read_clauses(s, names, rows, k, q + 1, n)
+    let (start, at) = section.any_word(at)?;
+    let (_, at) = section.word_in(at, start, 4294967296)?;
+    counted_clauses(section, at)
 }
 
 // n arms.
-pub fn read_arms(s: &[u8], names: u32, rows: usize, k: usize, at: usize, n: u32) -> Read
-    requires { at ≤ length (words s.now) }
-    ensures { Reads (words s.now) at (bare (many (read_arm (tables (words s.now) names rows k)) n (drop at (words s.now)))) result }
+pub fn read_arms(section: &Section, at: usize, n: u32) -> Result<usize, Refusal>
+    requires { at ≤ length (words_of section.now) }
+    ensures { Reads (words_of section.now) at (many (read_arm (tables_of section.now)) n) result }
 {
     let mut p = at;
-    let mut left = n;
-    while 0 < left {
-        let r = read_arm(s, names, rows, k, p);
-        let Read::Next(q) = r else {
-            return r;
-        };
-        p = q;
-        left -= 1;
+    for _ in 0..n {
+        p = read_arm(section, p)?;
     }
-    Read::Next(p)
+    Ok(p)
 }

@@ -1,49 +1,12 @@
--- The definition reads a count (`one` stands after it) and as many expressions, which the callee reads. A count that is not there is
--- its refusal.
-use mathlib.Core.Path.{refl}
-use Rattle.words.specs.Words.{words}
-use Rattle.heads.specs.Got.{any_word}
-use Rattle.heads.specs.Answer.{tables}
-use Rattle.heads.proofs.Chain.{step, last, begin-bare, fits}
-use Rattle.heads.proofs.Opened.{past_word, stop-word, last-read}
-use Rattle.expr.specs.Read.{times, no_more}
-use Rattle.clauses.specs.Read.{clause_expr, counted_exprs}
+use Rattle.std.proofs.Common.{rules}
+use Rattle.heads.proofs.Reading.{past, failed, beyond, stopped, ended, over, chosen, otherwise}
+use Rattle.clauses.specs.Read.{counted_exprs}
 use Rattle.clauses.proofs.counted_exprs.Goals as goal
 
-pub word_in-requires : goal.word_in-requires
+pub returns-in_err-n : goal.returns-in_err-n
 unfolding counted_exprs
-word_in-requires c =
-    let begun = let a = c.args in let w = tables (words a.s.now) a.names a.rows a.k in
-    begin-bare (counted_exprs w) (step any_word λ n. last (times n (clause_expr w) no_more)) (λ r. refl) a.s.now a.at c.requires c.well_formed.0.0 in
-    begun.within
-
-pub returns-in_default : goal.returns-in_default
-unfolding counted_exprs
-returns-in_default c =
-    let begun = let a = c.args in let w = tables (words a.s.now) a.names a.rows a.k in
-    begin-bare (counted_exprs w) (step any_word λ n. last (times n (clause_expr w) no_more)) (λ r. refl) a.s.now a.at c.requires c.well_formed.0.0 in
-    stop-word begun c.in_default.is c.word_in.ensures
-
-pub overflow_add-at : goal.overflow_add-at
-unfolding counted_exprs
-overflow_add-at c =
-    let begun = let a = c.args in let w = tables (words a.s.now) a.names a.rows a.k in
-    begin-bare (counted_exprs w) (step any_word λ n. last (times n (clause_expr w) no_more)) (λ r. refl) a.s.now a.at c.requires c.well_formed.0.0 in
-    let one = past_word begun c.in-Is.is c.word_in.ensures in
-    fits one
-
-pub read_kids-requires : goal.read_kids-requires
-unfolding counted_exprs
-read_kids-requires c =
-    let begun = let a = c.args in let w = tables (words a.s.now) a.names a.rows a.k in
-    begin-bare (counted_exprs w) (step any_word λ n. last (times n (clause_expr w) no_more)) (λ r. refl) a.s.now a.at c.requires c.well_formed.0.0 in
-    let one = past_word begun c.in-Is.is c.word_in.ensures in
-    one.within
+returns-in_err-n c = search (rules, past, failed, beyond, stopped, ended, over, chosen, otherwise)
 
 pub returns : goal.returns
 unfolding counted_exprs
-returns c =
-    let begun = let a = c.args in let w = tables (words a.s.now) a.names a.rows a.k in
-    begin-bare (counted_exprs w) (step any_word λ n. last (times n (clause_expr w) no_more)) (λ r. refl) a.s.now a.at c.requires c.well_formed.0.0 in
-    let one = past_word begun c.in-Is.is c.word_in.ensures in
-    last-read c.read_kids.result one c.read_kids.ensures
+returns c = search (rules, past, failed, beyond, stopped, ended, over, chosen, otherwise)

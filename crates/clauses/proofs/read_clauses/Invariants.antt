@@ -1,12 +1,7 @@
--- n clauses in a row: a loop over `many_rows`.
-use Rattle.words.specs.Words.{words}
-use Rattle.heads.specs.Answer.{tables}
-use Rattle.clauses.specs.Read.{read_clause}
+use Rattle.heads.specs.Answer.{words_of, tables_of}
 use Rattle.heads.proofs.Rows.{Row, many_rows}
+use Rattle.clauses.specs.Read.{read_clause}
 use Rattle.clauses.proofs.read_clauses.Given as goal
 
-abbrev pub invariant-loop-left : goal.invariant-loop-left
-invariant-loop-left l = Row (many_rows (read_clause (tables (words l.s) l.names l.rows l.k))) (words l.s) l.at l.n l.p l.left
-
-abbrev pub decreases-loop-left : goal.decreases-loop-left
-decreases-loop-left l = l.left
+abbrev pub invariant-loop : goal.invariant-loop
+invariant-loop l = Row (many_rows (read_clause (tables_of l.section))) (words_of l.section) l.at l.n l.counter l.p
