@@ -9,8 +9,10 @@ use lib.Seq.{append_snoc, take-suc-set}
 use Rattle.words.specs.Fnv.{use_id}
 use Rattle.heads.specs.Got.{Got, ok, no, bind, many}
 use Rattle.heads.specs.Answer.{Ans, read_end}
-use Rattle.heads.specs.declared.Read.{Read}
-use Rattle.heads.specs.declared.Read.TheVariants as read
+use Rattle.refusal.specs.Number.{number_of}
+use Rattle.refusal.specs.declared.Refusal.{Refusal}
+use Rattle.std.specs.Prelude.{Result, Ok, Err}
+use Rattle.std.specs.Result.{IsErr, IsErrAnd}
 use Rattle.tables.specs.Name.{read_name, name_at, name_words, places_from}
 use Rattle.tables.specs.Answer.{name_got, name_ends, names_in, Scanned}
 
@@ -40,8 +42,8 @@ pub record Scan (s : List ℕ) (n : ℕ) (tab ids : List ℕ) (p i left : ℕ) :
   pub ends : p ≡ end_from 0 (names_in s i tab)
 
 -- what one name's reading says
-abbrev pub Named : List ℕ → ℕ → Read → Type 0
-Named s p r = name_ends s p r × Ans s p (read_name (drop p s)) (name_got s p r) (read_end p r)
+abbrev pub Named : List ℕ → ℕ → Result ℕ Refusal → Type 0
+Named s p r = name_ends s p r × Ans s p (read_name (drop p s)) (name_got s p r) (read_end s r)
 
 none_yet : (g : Got (List (List ℕ))) → g ≡ bind g (λ xs r. ok ([] ++ xs) r)
 none_yet (ok xs r) = refl
@@ -61,15 +63,14 @@ names_more s tab i p h = rw (add-one i, take-suc-set tab i p h, map-append)
 
 module _ {s tab ids : List ℕ} {n p i : ℕ} where
   -- a name takes a word at least, so there are as many words as names before it and one more
-  pub room : {left q : ℕ} {r : Read} → Scan s n tab ids p i left → r ≡ read.Next q → Named s p r → i < length s / 4
+  pub room : {left q : ℕ} → Scan s n tab ids p i left → Named s p (Ok q) → i < length s / 4
   unfolding name_words
-  room {left} {q} x e a = let b : Named s p (read.Next q) = rw e at a in omega arith
+  room {left} {q} x b = omega arith
 
-  pub turn : (left : ℕ) {q id : ℕ} {r : Read} → Scan s n tab ids p i left → r ≡ read.Next q → Named s p r → 0 < left → i < length tab → i < length ids → id ≡ use_id (name_at s p) → Scan s n (set tab i p) (set ids i id) q (i + 1) (left - 1)
+  pub turn : (left : ℕ) {q id : ℕ} → Scan s n tab ids p i left → Named s p (Ok q) → 0 < left → i < length tab → i < length ids → id ≡ use_id (name_at s p) → Scan s n (set tab i p) (set ids i id) q (i + 1) (left - 1)
   unfolding many name_words
-  turn zero x e a h t u f = absurd (omega arith)
-  turn (suc k) {q} {id} x e a h t u f =
-      let b : Named s p (read.Next q) = rw e at a in
+  turn zero x b h t u f = absurd (omega arith)
+  turn (suc k) {q} {id} x b h t u f =
       let less : suc k - 1 ≡ k = omega arith in
       record {
         count = omega arith;
@@ -81,14 +82,13 @@ module _ {s tab ids : List ℕ} {n p i : ℕ} where
         ends = rw (names_more s tab i p t, end_more, ← x.ends) b.0;
       }
 
-  pub refused : (left : ℕ) {k : ℕ} {r : Read} → Scan s n tab ids p i left → r ≡ read.Refused k → Named s p r → 0 < left → Scanned s n tab ids r
+  pub refused : (left : ℕ) (k : Refusal) (r : Result ℕ Refusal) → Scan s n tab ids p i left → Named s p (Err k) → 0 < left → IsErr r × IsErrAnd r (λ y. y ≡ k) → Scanned s n tab ids r
   unfolding many
-  refused zero x e a h = absurd (omega arith)
-  refused (suc m) {k} x e a h =
-      let b : Named s p (read.Refused k) = rw e at a in
-      rw e (record { same = x.same ∙ rw b.1.same; fit = tt; placed = tt; ends = tt })
+  refused zero k r x b h f = absurd (omega arith)
+  refused (suc m) k (Err y) x b h f = record { same = x.same ∙ rw (b.1.same, f.1); fit = tt; placed = tt; ends = tt }
+  refused (suc m) k (Ok y) x b h f = absurd f.1
 
-  pub done : (left : ℕ) → Scan s n tab ids p i left → left ≤ 0 → Scanned s n tab ids (read.Next p)
+  pub done : (left : ℕ) → Scan s n tab ids p i left → left ≤ 0 → Scanned s n tab ids (Ok p)
   unfolding many
   done (suc k) x h = absurd (omega arith)
   done zero x h =

@@ -11,14 +11,15 @@ use Rattle.words.specs.Utf8.{is_utf8}
 use Rattle.words.proofs.Words.{drop-word}
 use Rattle.heads.specs.Got.{Got, ok, no}
 use Rattle.heads.specs.Answer.{Ans, read_end}
-use Rattle.heads.specs.declared.Read.{Read}
-use Rattle.heads.specs.declared.Read.TheVariants as read
+use Rattle.refusal.specs.Number.{number_of}
+use Rattle.refusal.specs.declared.Refusal.{Refusal}
+use Rattle.std.specs.Prelude.{Result, Ok, Err}
 use Rattle.tables.specs.Name.{padded, all_zero, name_body, read_name, text_at, length_at, name_at, zero_padded, name_words}
 use Rattle.tables.specs.Answer.{body_ends, text_got, name_ends, name_got}
 
 -- a refusal ends where it began
-pub refuse : {s : List ℕ} {at : ℕ} {g : Got (List ℕ)} → at ≤ length s → g ≡ no 3 → Ans s at g (no 3) at
-refuse h e = record { same = e; from = omega arith; within = h }
+pub refuse : {s : List ℕ} {at : ℕ} {g : Got (List ℕ)} → at ≤ length s → g ≡ no 3 → Ans s at g (no 3) (length s)
+refuse h e = record { same = e; from = h; within = omega arith }
 
 -- the text at p, where it ends within s, and where it doesn't
 pub text-whole : (s : List ℕ) (p n : ℕ) → n ≡ length_at s p → p + 4 + n ≤ length s → take (p + 4 + n - (p + 4)) (drop (p + 4) s) ≡ name_at s p
@@ -76,12 +77,12 @@ padded-length (a ∷ (b ∷ (c ∷ []))) = refl
 padded-length (a ∷ (b ∷ (c ∷ (d ∷ s)))) = omega (arith, padded-length s)
 
 -- what is read after the length is the name, and ends with the name's words
-pub named : (s : List ℕ) (at n : ℕ) (r : Read) → n ≡ length_at s at → at + 4 ≤ length s → body_ends s (at + 4) n r → Ans s (at + 4) (name_body n (drop (at + 4) s)) (text_got s (at + 4) n r) (read_end (at + 4) r) → name_ends s at r × Ans s at (read_name (drop at s)) (name_got s at r) (read_end at r)
+pub named : (s : List ℕ) (at n : ℕ) (r : Result ℕ Refusal) → n ≡ length_at s at → at + 4 ≤ length s → body_ends s (at + 4) n r → Ans s (at + 4) (name_body n (drop (at + 4) s)) (text_got s (at + 4) n r) (read_end s r) → name_ends s at r × Ans s at (read_name (drop at s)) (name_got s at r) (read_end s r)
 unfolding name_at name_words text_at
-named s at n (read.Next p) e h b a =
+named s at n (Ok p) e h b a =
     let text = take n (drop (at + 4) s) in
     let long : length text ≡ n = length-take-le n (drop (at + 4) s) (omega (arith, length-drop (at + 4) s)) in
     let ends : p ≡ at + suc (length (zero_padded text)) * 4 = omega (arith, padded-length text) in
     (rw (← e, le-leb (at + 4 + n) (length s) b.1) ends, record { same = rw (name_body_lem s at h, ← e, a.same); from = omega arith; within = a.within })
-named s at n (read.Refused k) e h b a =
+named s at n (Err k) e h b a =
     (tt, record { same = rw (name_body_lem s at h, ← e, a.same); from = omega arith; within = omega arith })

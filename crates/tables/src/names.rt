@@ -7,7 +7,7 @@ ghost use Rattle.tables.specs.Index.{index_of};
 ghost use Rattle.tables.specs.Name.{all_zero, length_at, name_body, read_name, name_at};
 ghost use Rattle.tables.specs.Answer.{body_ends, text_got, name_ends, name_got, names_in, Roomy, Scanned};
 
-use heads::Read;
+use refusal::Refusal;
 use words::{is_utf8, join, use_id};
 
 // The longest name.
@@ -28,28 +28,28 @@ fn all_zero(s: &[u8]) -> bool
 }
 
 // The n bytes of a name from at on, then its padding.
-fn read_body(s: &[u8], at: usize, n: u32) -> Read
+fn read_body(s: &[u8], at: usize, n: u32) -> Result<usize, Refusal>
     requires { at ≤ length s.now }
     ensures ends { body_ends s.now at n result }
-    ensures ans { Ans s.now at (name_body n (drop at s.now)) (text_got s.now at n result) (read_end at result) }
+    ensures ans { Ans s.now at (name_body n (drop at s.now)) (text_got s.now at n result) (read_end s.now result) }
 {
     if MAX_NAME < n {
-        return Read::Refused(3);
+        return Err(Refusal::Names);
     }
     let len = n as usize;
     let p = (len + 3) / 4 * 4;
     if s.len() - at < p {
-        return Read::Refused(3);
+        return Err(Refusal::Names);
     }
     let e = at + len;
     let q = at + p;
     if !all_zero(&s[e..q]) {
-        return Read::Refused(3);
+        return Err(Refusal::Names);
     }
     if is_utf8(&s[at..e]) {
-        return Read::Next(q);
+        return Ok(q);
     }
-    Read::Refused(3)
+    Err(Refusal::Names)
 }
 
 // The length of the name that stands at the byte p.
@@ -61,13 +61,13 @@ fn length_at(s: &[u8], p: usize) -> u32
 }
 
 // The name whose length stands at the byte at.
-pub fn read_name(s: &[u8], at: usize) -> Read
+pub fn read_name(s: &[u8], at: usize) -> Result<usize, Refusal>
     requires { at ≤ length s.now }
     ensures ends { name_ends s.now at result }
-    ensures ans { Ans s.now at (read_name (drop at s.now)) (name_got s.now at result) (read_end at result) }
+    ensures ans { Ans s.now at (read_name (drop at s.now)) (name_got s.now at result) (read_end s.now result) }
 {
     if s.len() - at < 4 {
-        return Read::Refused(3);
+        return Err(Refusal::Names);
     }
     read_body(s, at + 4, length_at(s, at))
 }
@@ -91,7 +91,7 @@ pub fn name_at(s: &[u8], p: usize) -> &[u8]
 }
 
 // Reads n names from the front of s: tab gets the byte where each stands, ids its use id.
-pub fn scan_names(s: &[u8], n: u32, tab: &mut [u32], ids: &mut [u32]) -> Read
+pub fn scan_names(s: &[u8], n: u32, tab: &mut [u32], ids: &mut [u32]) -> Result<usize, Refusal>
     requires { Roomy s.now tab.old ids.old }
     ensures { Scanned s.now n tab.new ids.new result }
 {
@@ -99,17 +99,14 @@ pub fn scan_names(s: &[u8], n: u32, tab: &mut [u32], ids: &mut [u32]) -> Read
     let mut i = 0;
     let mut left = n;
     while 0 < left {
-        let r = read_name(s, p);
-        let Read::Next(q) = r else {
-            return r;
-        };
+        let q = read_name(s, p)?;
         tab[i] = p as u32;
         ids[i] = use_id(name_at(s, p));
         p = q;
         i += 1;
         left -= 1;
     }
-    Read::Next(p)
+    Ok(p)
 }
 
 // Whether two byte strings are the same.

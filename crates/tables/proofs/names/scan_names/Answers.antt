@@ -12,39 +12,39 @@ pub loop-left-init : goal.loop-left-init
 loop-left-init c =
     (begin, refl, refl)
 
-pub shape_of-tab-in_default : goal.shape_of-tab-in_default
-shape_of-tab-in_default c =
+pub shape_of-tab-in_err-q : goal.shape_of-tab-in_err-q
+shape_of-tab-in_err-q c =
     c.loop-left.invariant.1
 
-pub shape_of-ids-in_default : goal.shape_of-ids-in_default
-shape_of-ids-in_default c =
+pub shape_of-ids-in_err-q : goal.shape_of-ids-in_err-q
+shape_of-ids-in_err-q c =
     c.loop-left.invariant.2
 
-pub returns-in_default : goal.returns-in_default
-returns-in_default c =
+pub returns-in_err-q : goal.returns-in_err-q
+returns-in_err-q c =
     let l = c.loop-left in
-    refused l.left l.invariant.0 c.in_default.is (c.read_name-r.ensures.ends, c.read_name-r.ensures.ans) c.loop-left-test.true
+    refused l.left _ _ l.invariant.0 (c.in_err-q.ensures.ends, c.in_err-q.ensures.ans) c.loop-left-test.true c.from_residual.ensures
 
 pub bounds-tab-i : goal.bounds-tab-i
 bounds-tab-i c =
     let place : c.loop-left.i < length c.args.s.now / 4 = let l = c.loop-left in
-    room l.invariant.0 c.in-Next.is (c.read_name-r.ensures.ends, c.read_name-r.ensures.ans) in
+    room l.invariant.0 (c.in_ok-q.ensures.ends, c.in_ok-q.ensures.ans) in
     omega (arith, place)
 
 pub bounds-ids-i : goal.bounds-ids-i
 bounds-ids-i c =
     let place : c.loop-left.i < length c.args.s.now / 4 = let l = c.loop-left in
-    room l.invariant.0 c.in-Next.is (c.read_name-r.ensures.ends, c.read_name-r.ensures.ans) in
+    room l.invariant.0 (c.in_ok-q.ensures.ends, c.in_ok-q.ensures.ans) in
     omega (arith, place)
 
 pub loop-left-preserved : goal.loop-left-preserved
 loop-left-preserved c =
     let place : c.loop-left.i < length c.args.s.now / 4 = let l = c.loop-left in
-    room l.invariant.0 c.in-Next.is (c.read_name-r.ensures.ends, c.read_name-r.ensures.ans) in
+    room l.invariant.0 (c.in_ok-q.ensures.ends, c.in_ok-q.ensures.ans) in
     let l = c.loop-left in
     let here = place in
     simp length-set
-    (turn l.left l.invariant.0 c.in-Next.is (c.read_name-r.ensures.ends, c.read_name-r.ensures.ans) (omega arith) (omega arith) (omega arith) (c.use_id.ensures ∙ ap use_id c.name_at.ensures), l.invariant.1, l.invariant.2)
+    (turn l.left l.invariant.0 (c.in_ok-q.ensures.ends, c.in_ok-q.ensures.ans) (omega arith) (omega arith) (omega arith) (c.use_id.ensures ∙ ap use_id c.name_at.ensures), l.invariant.1, l.invariant.2)
 
 pub shape_of-tab : goal.shape_of-tab
 shape_of-tab c =

@@ -20,18 +20,18 @@ pub loop-i-init : goal.loop-i-init
 unfolding distinct fresh_after row_ids
 loop-i-init c =
     let n : c.args.n - 0 ≡ c.args.n = omega arith in
-    let p : c.args.rows + 0 * 5 ≡ c.args.rows = omega arith in
+    let p : c.args.section.now.rows + 0 * 5 ≡ c.args.section.now.rows = omega arith in
     record { most = omega arith; same = rw (n, p) }
 
 pub overflow_mul-i : goal.overflow_mul-i
 unfolding distinct fresh_after row_ids
 overflow_mul-i c =
-    omega (arith, length-words c.args.s.now)
+    omega (arith, length-words c.args.section.now.bytes.now)
 
-pub overflow_add-rows : goal.overflow_add-rows
+pub overflow_add-section : goal.overflow_add-section
 unfolding distinct fresh_after row_ids
-overflow_add-rows c =
-    omega (arith, length-words c.args.s.now)
+overflow_add-section c =
+    omega (arith, length-words c.args.section.now.bytes.now)
 
 pub returns-then-has_row : goal.returns-then-has_row
 unfolding distinct fresh_after row_ids

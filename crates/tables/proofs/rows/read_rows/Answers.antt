@@ -1,21 +1,15 @@
--- The loop's invariant: of the n bindings those before p are read, and `left` are left.
-use native.Mathlib.Omega.{arith}
-use mathlib.Core.Path.{refl}
-use Rattle.heads.proofs.Rows.{row_next, row-stop, row_done}
+use Rattle.std.proofs.Common.{arith}
+use Rattle.heads.proofs.Rows.{row_begun, row_next, row_stop, row_done}
 use Rattle.tables.proofs.rows.read_rows.Goals as goal
 
-pub loop-left-init : goal.loop-left-init
-loop-left-init c =
-    record { same = refl; from = omega arith; within = omega arith }
+pub loop-init : goal.loop-init
+loop-init c = row_begun _ _ _ _ c.requires
 
-pub returns-in_default : goal.returns-in_default
-returns-in_default c =
-    row-stop c.loop-left.invariant (omega arith) c.in_default.is c.read_row-r.ensures
+pub returns-in_err-p : goal.returns-in_err-p
+returns-in_err-p c = row_stop c.loop.invariant _ _ (omega arith) c.in_err-p.ensures c.from_residual.ensures
 
-pub loop-left-preserved : goal.loop-left-preserved
-loop-left-preserved c =
-    row_next c.loop-left.invariant (omega arith) c.in-Next.is c.read_row-r.ensures
+pub loop-preserved : goal.loop-preserved
+loop-preserved c = row_next c.loop.invariant (omega arith) c.in_ok-p.ensures
 
 pub returns : goal.returns
-returns c =
-    row_done c.loop-left.invariant (omega arith)
+returns c = row_done c.loop.invariant (omega arith)
