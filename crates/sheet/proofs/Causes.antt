@@ -1,6 +1,5 @@
 -- From answers to verdicts: a section's, two sections' one after the other, and cause 7 by reading strictly first.
 use Prim.Native.Nat.{ℕ, suc, ◌+◌, ◌-◌, ◌*◌, ◌≤◌}
-use native.Mathlib.Numerals.{add-one}
 use native.Mathlib.Omega.{arith}
 use mathlib.Core.Path.{◌≡◌, refl, sym, ap, ◌∙◌}
 use mathlib.Core.Bool.{Bool, true, false, ◌&&◌, and_assoc, and-false, cond}
@@ -12,59 +11,64 @@ use Rattle.words.specs.Words.{words}
 use Rattle.words.proofs.Words.{length-words, drop-word, drop-none}
 use Rattle.heads.specs.Got.{Got, ok, no, bare, many}
 use Rattle.heads.specs.Head.{Tables}
-use Rattle.heads.specs.Answer.{Reads, tables, known_at, row_ids, is_in}
-use Rattle.heads.specs.declared.Read.{Read}
-use Rattle.heads.specs.declared.Read.TheVariants as read
+use Rattle.heads.specs.Answer.{Ans, tables, known_at, row_ids, is_in}
+use Rattle.std.specs.Prelude.{Option, None, Some, Result, Ok, Err, not}
+use Rattle.std.specs.Result.{IsErr, IsErrAnd}
+use Rattle.refusal.specs.Number.{number_of}
+use Rattle.refusal.specs.declared.Refusal.{Refusal}
+use Rattle.refusal.specs.declared.Refusal.TheVariants as refusals
+use Rattle.refusal.specs.contracts.RefusalPartialEq.TheImpl.{eq-value}
+use Rattle.std.specs.Result.{result_eq}
 use Rattle.expr.specs.Binders.{all_known}
 use Rattle.expr.proofs.Strict.{Strict, same, refused, unknown, earlier}
 use Rattle.clauses.specs.Binders.{binders_c, binders_a}
 use Rattle.clauses.proofs.StrictClause.{strict-many, strict-clause, strict-arm}
 use Rattle.sheet.specs.Read.{Sheet, accepted, then', unless, used_up, read_clauses}
 use Rattle.sheet.specs.Read as sheets
-use Rattle.sheet.specs.Answer.{InPlaces, verdict, end_verdict, tables_to, section_of, sections_of}
+use Rattle.sheet.specs.Answer.{InPlaces, sheet_of, judged, reached, tables_to, section_of, sections_of}
 use Rattle.sheet.specs.declared.trailer.Places.{Places}
-use Rattle.sheet.specs.declared.sections.Verdict.{Verdict}
-use Rattle.sheet.specs.declared.sections.Verdict.TheVariants.{Accepted, Refused}
-use Rattle.sheet.proofs.Cutting.{words_take, ids-take}
+use Rattle.sheet.proofs.Cutting.{words-front, ids-take}
 
 -- ---- a section
-
-by_shape : {A : Type 0} (g : Got A) → verdict (used_up g) ≡ verdict (used_up (bare g))
+by_shape : {A : Type 0} (g : Got A) → judged (used_up g) ≡ judged (used_up (bare g))
 by_shape (ok a []) = refl
 by_shape (ok a (w ∷ ws)) = refl
 by_shape (no c) = refl
 
-ends : (p : ℕ) (ws : List ℕ) (b : Bool) → ltb p (length ws) ≡ b → cond b (Refused 5) Accepted ≡ verdict (used_up {A = Unit {0}} (ok tt (drop p ws)))
+ends : (p : ℕ) (ws : List ℕ) (b : Bool) → ltb p (length ws) ≡ b → unless 5 (not b) (accepted tt) ≡ judged (used_up {A = Unit {0}} (ok tt (drop p ws)))
 ends p ws true e = rw (drop-word ws p (ltb-true p (length ws) e))
 ends p ws false e = rw (drop-none ws p (ltb-false p (length ws) e))
 
-pub section-verdict : {A : Type 0} (ws : List ℕ) (at : ℕ) (g : Got A) (r : Read) → Reads ws at (bare g) r → end_verdict r (length ws) ≡ verdict (used_up g)
-section-verdict ws at g (read.Next p) x = ends p ws (ltb p (length ws)) refl ∙ sym (by_shape g ∙ rw x.same)
-section-verdict ws at g (read.Refused c) x = sym (by_shape g ∙ rw x.same)
+-- what a `?` answers
+pub refusal_told : {A : Type 0} (e : Refusal) (r : Result A Refusal) → IsErr r × IsErrAnd r (λ y. y ≡ e) → sheet_of r ≡ sheets.refused (number_of e)
+refusal_told e (Err y) f = rw f.1
+refusal_told e (Ok y) f = absurd f.1
 
--- the same of a part of the sheet
-pub part-verdict : {A : Type 0} (one : Tables → List ℕ → Got A) (s : List ℕ) (p : Places) (k n from to : ℕ) (r : Read) {v : Verdict} {end : ℕ} →
-    Reads (words (take (to * 4 - 0) s)) from (bare (many (one (tables (words (take (to * 4 - 0) s)) p.names p.rows k)) n (drop from (words (take (to * 4 - 0) s))))) r →
-    end ≡ length (words (take (to * 4 - 0) s)) →
-    v ≡ end_verdict r end →
-    v ≡ verdict (section_of one s p k n from to)
-part-verdict one s p k n from to r x e f =
-    let ws = words (take (to * 4 - 0) s) in
-    f
-    ∙ ap (end_verdict r) e
-    ∙ section-verdict ws from (many (one (tables ws p.names p.rows k)) n (drop from ws)) r x
-    ∙ ap (λ (l : List ℕ). verdict (used_up (many (one (tables l p.names p.rows k)) n (drop from l)))) (words_take to s)
+-- a section of the sheet, read in the bytes up to where it ends
+module _ {A : Type 0} (one : Tables → List ℕ → Got A) (s : List ℕ) (p : Places) (bound : Option ℕ) (n from to : ℕ) where
+  abbrev section_got : List ℕ → Got (List A)
+  section_got ws = many (one (tables ws p.names p.rows bound)) n (drop from ws)
+
+  of_words : (x : Sheet (Unit {0})) → x ≡ judged (used_up (section_got (words (take (to * 4) s)))) → x ≡ judged (section_of one s p bound n from to)
+  of_words x e = e ∙ ap (λ (l : List ℕ). judged (used_up (section_got l))) (words-front to s)
+
+  pub part_refused : {q : ℕ} (e : Refusal) (r : Result (Unit {0}) Refusal) → Ans (words (take (to * 4) s)) from (bare (section_got (words (take (to * 4) s)))) (no (number_of e)) q → IsErr r × IsErrAnd r (λ y. y ≡ e) → sheet_of r ≡ judged (section_of one s p bound n from to)
+  part_refused e r x f = of_words _ (refusal_told e r f ∙ sym (by_shape (section_got (words (take (to * 4) s))) ∙ rw x.same))
+
+  pub part_read : {q end : ℕ} (r : Result (Unit {0}) Refusal) → Ans (words (take (to * 4) s)) from (bare (section_got (words (take (to * 4) s)))) (ok tt (drop q (words (take (to * 4) s)))) q → end ≡ length (words (take (to * 4) s)) → sheet_of r ≡ reached q end → sheet_of r ≡ judged (section_of one s p bound n from to)
+  part_read {q} r x e f =
+      of_words _
+      (f ∙ ap (reached q) e ∙ ends q (words (take (to * 4) s)) _ refl ∙ sym (by_shape (section_got (words (take (to * 4) s))) ∙ rw x.same))
 
 -- ---- one after the other
-
 module _ {A B : Type 0} (y : Sheet B) where
-  pub then-refused : (x : Sheet A) {v : Verdict} {c : ℕ} → v ≡ verdict x → v ≡ Refused c → v ≡ verdict (then' x (λ a. y))
-  then-refused (accepted a) e f = let z : ◌≡◌ {A = ℕ} 0 1 = cc in absurd (omega arith)
-  then-refused (sheets.refused d) e f = e
+  pub then-refused : (x : Sheet A) {c : ℕ} → sheets.refused c ≡ judged x → sheets.refused c ≡ judged (then' x (λ a. y))
+  then-refused (accepted a) e = cc
+  then-refused (sheets.refused d) e = e
 
-  pub then-accepted : (x : Sheet A) {u v : Verdict} → v ≡ verdict x → v ≡ Accepted → u ≡ verdict y → u ≡ verdict (then' x (λ a. y))
-  then-accepted (accepted a) e f g = g
-  then-accepted (sheets.refused d) e f g = let z : ◌≡◌ {A = ℕ} 0 1 = cc in absurd (omega arith)
+  pub then-accepted : (x : Sheet A) {u : Sheet (Unit {0})} → accepted tt ≡ judged x → u ≡ judged y → u ≡ judged (then' x (λ a. y))
+  then-accepted (accepted a) f g = g
+  then-accepted (sheets.refused d) f g = cc
 
 -- ---- cause 7
 
@@ -115,31 +119,55 @@ module _ {A B : Type 0} (bs : A → List ℕ) (cs : B → List ℕ) (w u : Table
   both (unknown {a = a} {r = x ∷ r} q) t = late
   both earlier t = late
 
--- what the code answers by the two readings: v strictly, u loosely
-module _ {B C : Type 0} {v : Verdict} where
-  pub both-accepted : {x y : Sheet B} {z : Sheet C} → Both x y z → v ≡ verdict x → v ≡ Accepted → v ≡ verdict z
-  both-accepted fine e f = e
-  both-accepted alike e f = e
-  both-accepted late e f = let n : ◌≡◌ {A = ℕ} 0 1 = cc in absurd (omega arith)
-  both-accepted unbound e f = e
+-- what the code answers by the two readings: first strictly, and only where that gives 7 loosely
+module _ {B C : Type 0} where
+  pub both-first : {x y : Sheet B} {z : Sheet C} {v : Sheet (Unit {0})} → Both x y z → v ≡ judged x → (v ≡ sheets.refused 7 → ⊥) → v ≡ judged z
+  both-first fine e f = e
+  both-first alike e f = e
+  both-first late e f = absurd (f e)
+  both-first unbound e f = e
 
-  pub both-other : {x y : Sheet B} {z : Sheet C} {c : ℕ} → Both x y z → v ≡ verdict x → v ≡ Refused c → (c ≡ 7 → ⊥) → v ≡ verdict z
-  both-other fine e f g = e
-  both-other alike e f g = e
-  both-other {c = c} late e f g = let n : c ≡ 7 = cc in absurd (g n)
-  both-other unbound e f g = e
+  pub both-again : {x y : Sheet B} {z : Sheet C} {c : ℕ} → Both x y z → sheets.refused 7 ≡ judged x → sheets.refused c ≡ judged y → sheets.refused c ≡ judged z
+  both-again fine e g = g
+  both-again alike e g = g
+  both-again late e g = g
+  both-again unbound e g = cc
 
-  pub both-again : {x y : Sheet B} {z : Sheet C} {u : Verdict} {c d : ℕ} → Both x y z → v ≡ verdict x → v ≡ Refused c → u ≡ verdict y → u ≡ Refused d → u ≡ verdict z
-  both-again fine e f g h = g
-  both-again alike e f g h = g
-  both-again late e f g h = g
-  both-again unbound e f g h = let n : ◌≡◌ {A = ℕ} 0 1 = cc in absurd (omega arith)
+  pub both-unbound : {x y : Sheet B} {z : Sheet C} → Both x y z → sheets.refused 7 ≡ judged x → accepted tt ≡ judged y → sheets.refused 7 ≡ judged z
+  both-unbound fine e g = cc
+  both-unbound alike e g = cc
+  both-unbound late e g = cc
+  both-unbound unbound e g = refl
 
-  pub both-unbound : {x y : Sheet B} {z : Sheet C} {u : Verdict} {c : ℕ} → Both x y z → v ≡ verdict x → v ≡ Refused c → c ≡ 7 → u ≡ verdict y → u ≡ Accepted → Refused 7 ≡ verdict z
-  both-unbound fine e f s g h = let n : ◌≡◌ {A = ℕ} 0 1 = cc in absurd (omega arith)
-  both-unbound alike e f s g h = let n : ◌≡◌ {A = ℕ} 0 1 = cc in absurd (omega arith)
-  both-unbound late e f s g h = let n : ◌≡◌ {A = ℕ} 0 1 = cc in absurd (omega arith)
-  both-unbound unbound e f s g h = refl
+-- an answer told apart from 7
+module _ (f : Unit {0} → Unit {0} → Bool) where
+  pub is_unbound : (r : Result (Unit {0}) Refusal) → true ≡ result_eq f eq-value.it r (Err refusals.Unbound) → r ≡ Err refusals.Unbound
+  is_unbound (Ok u) h = cc
+  is_unbound (Err refusals.Unbound) h = refl
+  is_unbound (Err refusals.Size) h = cc
+  is_unbound (Err refusals.Places) h = cc
+  is_unbound (Err refusals.Names) h = cc
+  is_unbound (Err refusals.Bindings) h = cc
+  is_unbound (Err refusals.Word) h = cc
+  is_unbound (Err refusals.Depth) h = cc
+  is_unbound (Err refusals.Entries) h = cc
+  is_unbound (Err refusals.Asked) h = cc
+  is_unbound (Err refusals.Page) h = cc
+  is_unbound (Err refusals.Room) h = cc
+
+  pub not_unbound : (r : Result (Unit {0}) Refusal) → false ≡ result_eq f eq-value.it r (Err refusals.Unbound) → sheet_of r ≡ sheets.refused 7 → ⊥
+  not_unbound (Ok u) h e = cc
+  not_unbound (Err refusals.Unbound) h e = cc
+  not_unbound (Err refusals.Size) h e = cc
+  not_unbound (Err refusals.Places) h e = cc
+  not_unbound (Err refusals.Names) h e = cc
+  not_unbound (Err refusals.Bindings) h e = cc
+  not_unbound (Err refusals.Word) h e = cc
+  not_unbound (Err refusals.Depth) h e = cc
+  not_unbound (Err refusals.Entries) h e = cc
+  not_unbound (Err refusals.Asked) h e = cc
+  not_unbound (Err refusals.Page) h e = cc
+  not_unbound (Err refusals.Room) h e = cc
 
 -- the two readings of a sheet's head and arms
 known_same : (f g : ℕ → Bool) → ((v : ℕ) → f v ≡ g v) → (xs : List ℕ) → all_known f xs ≡ all_known g xs
@@ -147,13 +175,12 @@ unfolding all_known
 known_same f g e [] = refl
 known_same f g e (v ∷ xs) = rw (e v, known_same f g e xs)
 
-pub clauses-both : (s : List ℕ) (p : Places) → InPlaces s p → p.rows + p.bindings * 5 ≤ p.head → Both (sections_of s p (p.bindings + 1)) (sections_of s p 0) (read_clauses (words s) p (row_ids p.bindings (drop p.rows (words s))))
+pub clauses-both : (s : List ℕ) (p : Places) → InPlaces s p → p.rows + p.bindings * 5 ≤ p.head → Both (sections_of s p (Some p.bindings)) (sections_of s p None) (read_clauses (words s) p (row_ids p.bindings (drop p.rows (words s))))
 unfolding known_at read_clauses
 clauses-both s p h q =
-    rw (add-one p.bindings)
-    (both (flat_map binders_c) (flat_map binders_a) (tables_to s p (suc p.bindings) p.tail) (tables_to s p (suc p.bindings) p.trailer)
+    both (flat_map binders_c) (flat_map binders_a) (tables_to s p (Some p.bindings) p.tail) (tables_to s p (Some p.bindings) p.trailer)
     (λ v. is_in v (row_ids p.bindings (drop p.rows (words s))))
     (known_same _ _ (λ v. rw (ids-take p.bindings p.rows p.tail (words s) (omega arith) (omega (arith, length-words s)))))
     (known_same _ _ (λ v. rw (ids-take p.bindings p.rows p.trailer (words s) (omega arith) (omega (arith, length-words s)))))
-    (strict-many (strict-clause (tables_to s p (suc p.bindings) p.tail)) p.clauses _)
-    (strict-many (strict-arm (tables_to s p (suc p.bindings) p.trailer)) p.arms _))
+    (strict-many (strict-clause (tables_to s p (Some p.bindings) p.tail)) p.clauses _)
+    (strict-many (strict-arm (tables_to s p (Some p.bindings) p.trailer)) p.arms _)

@@ -12,10 +12,10 @@ use Rattle.words.specs.Words.{words}
 use Rattle.words.proofs.Words.{length-words}
 use Rattle.sheet.specs.Trailer.{max_bytes, sized, trailer_at, trailer, in_place, places_of}
 use Rattle.sheet.specs.Read.{Sheet, accepted, refused, unless, locate}
-use Rattle.sheet.specs.Answer.{located, InPlaces}
+use Rattle.sheet.specs.Answer.{sheet_of, InPlaces}
 use Rattle.sheet.specs.declared.trailer.Places.{Places}
-use Rattle.sheet.specs.declared.trailer.Opened.{Opened}
-use Rattle.sheet.specs.declared.trailer.Opened.TheVariants as opened
+use Rattle.refusal.specs.declared.Refusal.{Refusal}
+use Rattle.std.specs.Prelude.{Result, Ok, Err}
 
 pub both : (a b : Bool) → a && b ≡ true → (a ≡ true) × (b ≡ true)
 both true b e = (refl, e)
@@ -96,16 +96,5 @@ unfolding locate
 places-of s p e = sym (passed (sized s) (in_place (words s)) (places_of (words s)) p e).2
 
 -- the same of an answer
-located-at : (x : Sheet Places) (p : Places) → located x ≡ opened.At p → x ≡ accepted p
-located-at (accepted q) p e = cc
-located-at (refused c) p e = cc
-
-pub opened-at : (s : List ℕ) {r : Opened} {p : Places} → r ≡ located (locate s) → r ≡ opened.At p → (locate s ≡ accepted p) × InPlaces s p
-opened-at s {r} {p} e f = let h = located-at (locate s) p (cc) in (h, in-places s p h)
-
-located-no : (x : Sheet Places) (c : ℕ) → located x ≡ opened.Refused c → x ≡ refused c
-located-no (accepted q) c e = cc
-located-no (refused d) c e = cc
-
-pub opened-no : (s : List ℕ) {r : Opened} {c : ℕ} → r ≡ located (locate s) → r ≡ opened.Refused c → locate s ≡ refused c
-opened-no s {r} {c} e f = located-no (locate s) c (cc)
+pub placed_at : (s : List ℕ) {p : Places} → sheet_of (Ok p) ≡ locate s → (locate s ≡ accepted p) × InPlaces s p
+placed_at s {p} e = let h : locate s ≡ accepted p = cc in (h, in-places s p h)

@@ -12,10 +12,9 @@ use Rattle.expr.proofs.Inverse.{never, Gives, gave, after, word-gives}
 use Rattle.clauses.proofs.WrittenClause.{Is, many-gives}
 use Rattle.tables.specs.Distinct.{distinct}
 use Rattle.tables.specs.Row.{Row, row, row_id, row_words, read_row}
-use Rattle.sheet.specs.Read.{accepted, then', unless, entire, read_rows}
-use Rattle.sheet.specs.Answer.{verdict}
+use Rattle.sheet.specs.Read.{accepted, refused, then', unless, entire, read_rows}
+use Rattle.sheet.specs.Answer.{judged}
 use Rattle.sheet.specs.Write.{WellRow}
-use Rattle.sheet.specs.declared.sections.Verdict.TheVariants.{Accepted, Refused}
 
 pub row_gives : (names : ℕ) (ws : List ℕ) → Gives (read_row names ws) (Is row_words (WellRow names) ws)
 unfolding read_row row_words WellRow
@@ -42,27 +41,27 @@ rows-read names n ws rs e =
     (rw (← h.2, h.0) (ids-written rs []), rw (h.0, append-nil) (omega (arith, words-written rs)))
 
 module _ (names n : ℕ) (ws : List ℕ) where
-  rows-stop : (g : Got (List Row)) {c : ℕ} → bare g ≡ no c → Refused 4 ≡ verdict (then' (entire 4 g) (λ rs. unless 4 (distinct is_in (map row_id rs)) (accepted rs)))
+  rows-stop : (g : Got (List Row)) {c : ℕ} → bare g ≡ no c → refused 4 ≡ judged (then' (entire 4 g) (λ rs. unless 4 (distinct is_in (map row_id rs)) (accepted rs)))
   rows-stop (ok rs r) e = never (cc)
   rows-stop (no c) e = refl
 
-  pub rows-refused : {c : ℕ} → bare (many (read_row names) n ws) ≡ no c → Refused 4 ≡ verdict (read_rows names n ws)
+  pub rows-refused : {c : ℕ} → bare (many (read_row names) n ws) ≡ no c → refused 4 ≡ judged (read_rows names n ws)
   unfolding read_rows
   rows-refused e = rows-stop (many (read_row names) n ws) e
 
-  rows_more : (g : Got (List Row)) {x : ℕ} {l : List ℕ} → bare g ≡ ok tt (x ∷ l) → Refused 4 ≡ verdict (then' (entire 4 g) (λ rs. unless 4 (distinct is_in (map row_id rs)) (accepted rs)))
+  rows_more : (g : Got (List Row)) {x : ℕ} {l : List ℕ} → bare g ≡ ok tt (x ∷ l) → refused 4 ≡ judged (then' (entire 4 g) (λ rs. unless 4 (distinct is_in (map row_id rs)) (accepted rs)))
   rows_more (ok rs []) e = never (cc)
   rows_more (ok rs (w ∷ r)) e = refl
   rows_more (no c) e = refl
 
-  pub rows_left : {p : ℕ} (l : List ℕ) → bare (many (read_row names) n ws) ≡ ok tt (drop p l) → p < length l → Refused 4 ≡ verdict (read_rows names n ws)
+  pub rows_left : {p : ℕ} (l : List ℕ) → bare (many (read_row names) n ws) ≡ ok tt (drop p l) → p < length l → refused 4 ≡ judged (read_rows names n ws)
   unfolding read_rows
   rows_left {p} l e h = rows_more (many (read_row names) n ws) (rw (drop-word l p h) at e)
 
-  rows_all : (g : Got (List Row)) {b : Bool} → many (read_row names) n ws ≡ g → bare g ≡ ok tt [] → b ≡ distinct is_in (row_ids n ws) → (length ws ≡ n * 5) × (cond b Accepted (Refused 4) ≡ verdict (then' (entire 4 g) (λ rs. unless 4 (distinct is_in (map row_id rs)) (accepted rs))))
+  rows_all : (g : Got (List Row)) {b : Bool} → many (read_row names) n ws ≡ g → bare g ≡ ok tt [] → b ≡ distinct is_in (row_ids n ws) → (length ws ≡ n * 5) × (unless 4 b (accepted tt) ≡ judged (then' (entire 4 g) (λ rs. unless 4 (distinct is_in (map row_id rs)) (accepted rs))))
   rows_all (ok rs []) {b} e f d = let h = rows-read names n ws rs e in (h.1, rw (h.0, ← d) (decided b rs))
     where
-      decided : (b : Bool) (rs : List Row) → cond b Accepted (Refused 4) ≡ verdict (unless 4 b (accepted rs))
+      decided : (b : Bool) (rs : List Row) → unless 4 b (accepted tt) ≡ judged (unless 4 b (accepted rs))
       decided true rs = refl
       decided false rs = refl
   rows_all (ok rs (w ∷ r)) e f d = never (cc)
@@ -72,6 +71,6 @@ module _ (names n : ℕ) (ws : List ℕ) where
     pub rows_long : length ws ≡ n * 5
     rows_long = (rows_all (many (read_row names) n ws) refl (rw (drop-none l p h) at e) refl).0
 
-    pub rows-done : {b : Bool} → b ≡ distinct is_in (row_ids n ws) → cond b Accepted (Refused 4) ≡ verdict (read_rows names n ws)
+    pub rows-done : {b : Bool} → b ≡ distinct is_in (row_ids n ws) → unless 4 b (accepted tt) ≡ judged (read_rows names n ws)
     unfolding read_rows
     rows-done d = (rows_all (many (read_row names) n ws) refl (rw (drop-none l p h) at e) d).1

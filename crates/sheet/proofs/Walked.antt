@@ -1,5 +1,6 @@
 -- What an accepted sheet gives the walks: its sections stand in order, its names and bindings are the statement's, and so are its head and
 -- arms as the walks read them, where every variable may be bound.
+use Rattle.std.specs.Prelude.{None}
 use Prim.Native.Nat.{ℕ, ◌+◌, ◌*◌, ◌≤◌}
 use native.Mathlib.Omega.{arith}
 use mathlib.Core.Path.{◌≡◌, ◌∙◌}
@@ -39,8 +40,8 @@ pub record WalkedSheet (s : List ℕ) (p : Places) (st : Statement) : Type 0 whe
   pub rows : section (words s) p.rows p.head ≡ flat_map row_words st.bindings
   pub rows_well : Each (WellRow p.names) st.bindings
   -- the head and the arms
-  pub head_read : many (read_clause (tables_to s p 0 p.tail)) p.clauses (section (words s) p.head p.tail) ≡ ok st.head []
-  pub arms_read : many (read_arm (tables_to s p 0 p.trailer)) p.arms (section (words s) p.tail p.trailer) ≡ ok st.arms []
+  pub head_read : many (read_clause (tables_to s p None p.tail)) p.clauses (section (words s) p.head p.tail) ≡ ok st.head []
+  pub arms_read : many (read_arm (tables_to s p None p.trailer)) p.arms (section (words s) p.tail p.trailer) ≡ ok st.arms []
 
 module _ (s : List ℕ) (p : Places) (st : Statement) where
   -- the bindings are their section's words, so they fill it

@@ -17,11 +17,8 @@ use Rattle.tables.specs.Row.{Row, row_id}
 use Rattle.sheet.specs.Trailer.{places_of, section}
 use Rattle.sheet.specs.Statement.{Statement}
 use Rattle.sheet.specs.Read.{Sheet, accepted, refused, then', read_names, read_rows, read_clauses, locate, read_sections, read_sheet}
-use Rattle.sheet.specs.Answer.{InPlaces, opened_as, Tabled, Names, verdict, tables_of}
+use Rattle.sheet.specs.Answer.{InPlaces, with_value, opened_as, Tabled, Names, judged, tables_of}
 use Rattle.sheet.specs.declared.trailer.Places.{Places}
-use Rattle.sheet.specs.declared.trailer.Opened.{Opened}
-use Rattle.sheet.specs.declared.trailer.Opened.TheVariants as opened
-use Rattle.sheet.specs.declared.sections.Verdict.TheVariants.{Accepted, Refused}
 use Rattle.sheet.proofs.Placing.{places-of}
 use Rattle.sheet.proofs.Cutting.{ids-take}
 use Rattle.sheet.proofs.Reading.{rows-read}
@@ -29,9 +26,9 @@ use Rattle.sheet.proofs.Accepted.{names-hold, rows-hold, accepted-words}
 
 -- ---- the places
 
-pub places-refused : (s : List ℕ) {a : Opened} {c : ℕ} → a ≡ opened.Refused c → locate s ≡ refused c → a ≡ opened_as (read_sheet s) s
+pub places-refused : (s : List ℕ) {c : ℕ} → refused c ≡ locate s → refused c ≡ opened_as s
 unfolding read_sheet
-places-refused s e f = e ∙ rw f
+places-refused s e = rw (← e)
 
 -- ---- the tables
 
@@ -59,24 +56,24 @@ rows-sized : (names n : ℕ) (ws : List ℕ) (rs : List Row) → read_rows names
 rows-sized names n ws rs e = rows-read names n ws rs ((rows-hold names n ws).held rs e).0
 
 module _ (s : List ℕ) (p : Places) where
-  tables-read : verdict (tables_of s p) ≡ Accepted → TablesRead s p
+  tables-read : judged (tables_of s p) ≡ accepted tt → TablesRead s p
   tables-read e = go _ refl _ refl e
     where
-      go : (x : Sheet (List (List ℕ))) → names_of s p ≡ x → (y : Sheet (List Row)) → rows_of s p ≡ y → verdict (then' x (λ ns. y)) ≡ Accepted → TablesRead s p
+      go : (x : Sheet (List (List ℕ))) → names_of s p ≡ x → (y : Sheet (List Row)) → rows_of s p ≡ y → judged (then' x (λ ns. y)) ≡ accepted tt → TablesRead s p
       go (accepted ns) f (accepted rs) g e = record { names = ns; rows = rs; named = f; rowed = g }
       go (accepted ns) f (refused c) g e = never (cc)
       go (refused c) f y g e = never (cc)
 
-  tables-stop : (k : List (List ℕ) → List Row → Sheet Statement) (x : Sheet (List (List ℕ))) (y : Sheet (List Row)) {c : ℕ} → Refused c ≡ verdict (then' x (λ ns. y)) → opened.Refused c ≡ opened_as (then' x (λ ns. then' y (λ rs. k ns rs))) s
+  tables-stop : (k : List (List ℕ) → List Row → Sheet Statement) (x : Sheet (List (List ℕ))) (y : Sheet (List Row)) {c : ℕ} → refused c ≡ judged (then' x (λ ns. y)) → refused c ≡ with_value (places_of (words s)) (then' x (λ ns. then' y (λ rs. k ns rs)))
   tables-stop k (accepted ns) (accepted rs) e = never (cc)
   tables-stop k (accepted ns) (refused d) e = cc
   tables-stop k (refused d) y e = cc
 
-  clauses-stop : (k : List Clause × List Arm → Statement) (x : Sheet (List Clause × List Arm)) {c : ℕ} → Refused c ≡ verdict x → opened.Refused c ≡ opened_as (then' x (λ h. accepted (k h))) s
+  clauses-stop : (k : List Clause × List Arm → Statement) (x : Sheet (List Clause × List Arm)) {c : ℕ} → refused c ≡ judged x → refused c ≡ with_value (places_of (words s)) (then' x (λ h. accepted (k h)))
   clauses-stop k (accepted h) e = never (cc)
   clauses-stop k (refused d) e = cc
 
-  clauses-done : (k : List Clause × List Arm → Statement) (x : Sheet (List Clause × List Arm)) → Accepted ≡ verdict x → opened.At (places_of (words s)) ≡ opened_as (then' x (λ h. accepted (k h))) s
+  clauses-done : (k : List Clause × List Arm → Statement) (x : Sheet (List Clause × List Arm)) → accepted tt ≡ judged x → accepted (places_of (words s)) ≡ with_value (places_of (words s)) (then' x (λ h. accepted (k h)))
   clauses-done k (accepted h) e = refl
   clauses-done k (refused d) e = never (cc)
 
@@ -85,11 +82,11 @@ module _ (s : List ℕ) (p : Places) where
     unfolding read_sheet
     at_places = rw placed
 
-    pub tables-refused : {c : ℕ} → Refused c ≡ verdict (tables_of s p) → opened.Refused c ≡ opened_as (read_sheet s) s
+    pub tables-refused : {c : ℕ} → refused c ≡ judged (tables_of s p) → refused c ≡ opened_as s
     unfolding read_sections
     tables-refused g = rw at_places (tables-stop (λ ns rs. then' (read_clauses (words s) p (map row_id rs)) (λ x. accepted (statement_of p ns rs x))) (names_of s p) (rows_of s p) g)
 
-    module _ (h : InPlaces s p) (t : Accepted ≡ verdict (tables_of s p)) where
+    module _ (h : InPlaces s p) (t : accepted tt ≡ judged (tables_of s p)) where
       pub rows_fit : p.rows + p.bindings * 5 ≤ p.head
       rows_fit =
           let r = tables-read (sym t) in
@@ -106,19 +103,19 @@ module _ (s : List ℕ) (p : Places) where
           let ids = (rows-sized _ _ _ _ r.rowed).0 ∙ ids-take p.bindings p.rows p.head (words s) rows_fit (omega (arith, length-words s)) in
           at_places ∙ rw (r.named, r.rowed, ids)
 
-      pub clauses-refused : {c : ℕ} → Refused c ≡ verdict (clauses_of s p) → opened.Refused c ≡ opened_as (read_sheet s) s
+      pub clauses-refused : {c : ℕ} → refused c ≡ judged (clauses_of s p) → refused c ≡ opened_as s
       clauses-refused g = rw sections-read (clauses-stop (statement_of p tables.names tables.rows) (clauses_of s p) g)
 
-      pub whole-accepted : Accepted ≡ verdict (clauses_of s p) → opened.At p ≡ opened_as (read_sheet s) s
-      whole-accepted g = rw sections-read (ap opened.At (places-of s p placed) ∙ clauses-done (statement_of p tables.names tables.rows) (clauses_of s p) g)
+      pub whole-accepted : accepted tt ≡ judged (clauses_of s p) → accepted p ≡ opened_as s
+      whole-accepted g = rw sections-read (ap (λ (q : Places). accepted q) (places-of s p placed) ∙ clauses-done (statement_of p tables.names tables.rows) (clauses_of s p) g)
 
 -- ---- the lent tables
 
 -- a sheet that is refused says nothing of them
-pub no_names : (s tab ids : List ℕ) {a : Opened} {c : ℕ} → a ≡ opened.Refused c → a ≡ opened_as (read_sheet s) s → (a ≡ opened_as (read_sheet s) s) × Names (read_sheet s) s tab ids
-no_names s tab ids {a} {c} e f = (f, none (read_sheet s) f)
+pub no_names : (s tab ids : List ℕ) {c : ℕ} → refused c ≡ opened_as s → Names (read_sheet s) s tab ids
+no_names s tab ids {c} e = none (read_sheet s) e
   where
-    none : (x : Sheet Statement) → a ≡ opened_as x s → Names x s tab ids
+    none : (x : Sheet Statement) → refused c ≡ with_value (places_of (words s)) x → Names x s tab ids
     none (accepted st) f = never (cc)
     none (refused d) f = tt
 

@@ -1,5 +1,5 @@
 -- The answers of the public calls, by document 01's numbers.
-use Rattle.std.specs.Prelude.{ℕ, ◌+◌, ◌*◌, ◌/◌, ◌≤◌, ◌≡◌, Bool, true, false, cond, List, [], map, ltb, length, take, get_or}
+use Rattle.std.specs.Prelude.{ℕ, ◌+◌, ◌*◌, ◌/◌, ◌≤◌, ◌≡◌, Bool, true, false, cond, not, List, [], map, ltb, length, take, get_or, Option, Result, Ok, Err}
 use Rattle.words.specs.Words.{words}
 use Rattle.words.specs.Fnv.{use_id}
 use Rattle.heads.specs.Got.{Got, many}
@@ -12,30 +12,28 @@ use Rattle.tables.specs.Name.{name_at, places_from}
 use Rattle.tables.specs.Row.{Row}
 use Rattle.sheet.specs.Trailer.{places_of, section}
 use Rattle.sheet.specs.Statement.{Statement}
-use Rattle.sheet.specs.Read.{Sheet, accepted, refused, then', unless, used_up, read_names, read_rows, locate, read_text}
-use Rattle.heads.specs.declared.Read.{Read}
-use Rattle.heads.specs.declared.Read.TheVariants as read
-use Rattle.sheet.specs.declared.sections.Verdict.{Verdict}
-use Rattle.sheet.specs.declared.sections.Verdict.TheVariants as verdicts
-use Rattle.sheet.specs.declared.names.Found.{Found}
-use Rattle.sheet.specs.declared.names.Found.TheVariants as found_at
+use Rattle.sheet.specs.Read.{Sheet, accepted, refused, then', unless, used_up, read_names, read_rows, locate, read_sheet, read_text}
 use Rattle.sheet.specs.declared.trailer.Places.{Places}
-use Rattle.sheet.specs.declared.trailer.Opened.{Opened}
-use Rattle.sheet.specs.declared.trailer.Opened.TheVariants as opened
+use Rattle.refusal.specs.Number.{number_of}
+use Rattle.refusal.specs.declared.Refusal.{Refusal}
 
--- 0, or the refusal's number
-abbrev pub cause_of : {A : Type 0} → Sheet A → ℕ
-cause_of (accepted a) = 0
-cause_of (refused c) = c
+-- an answer as the definition puts it
+abbrev pub sheet_of : {A : Type 0} → Result A Refusal → Sheet A
+sheet_of (Ok a) = accepted a
+sheet_of (Err e) = refused (number_of e)
 
--- where the sections stand, or the refusal's number
-abbrev pub located : Sheet Places → Opened
-located (accepted p) = opened.At p
-located (refused c) = opened.Refused c
+-- accepted, and no more of it; and accepted with another value
+abbrev pub judged : {A : Type 0} → Sheet A → Sheet (Unit {0})
+judged (accepted a) = accepted tt
+judged (refused c) = refused c
 
-abbrev pub opened_as : Sheet Statement → List ℕ → Opened
-opened_as (accepted st) s = opened.At (places_of (words s))
-opened_as (refused c) s = opened.Refused c
+abbrev pub with_value : {A B : Type 0} → B → Sheet A → Sheet B
+with_value b (accepted a) = accepted b
+with_value b (refused c) = refused c
+
+-- where the sections of an accepted sheet stand
+abbrev pub opened_as : List ℕ → Sheet Places
+opened_as s = with_value (places_of (words s)) (read_sheet s)
 
 abbrev pub text_of : Sheet (List ℕ) → List ℕ
 text_of (accepted text) = text
@@ -73,70 +71,64 @@ pub record InPlaces (s : List ℕ) (p : Places) : Type 0 where
   pub tail : p.tail ≤ p.trailer
   pub trailer : p.trailer * 4 + 40 ≡ length s
 
--- accepted, or the refusal's number
-abbrev pub verdict : {A : Type 0} → Sheet A → Verdict
-verdict (accepted a) = verdicts.Accepted
-verdict (refused c) = verdicts.Refused c
-
 -- causes 3 and 4
 abbrev pub tables_of : List ℕ → Places → Sheet (List Row)
 tables_of s p = then' (read_names p.names (take (p.rows * 4) s)) (λ ns. read_rows p.names p.bindings (section (words s) p.rows p.head))
 
 -- the two tables were judged; where they are accepted, the lent ones hold the names
-pub record Settled (s : List ℕ) (p : Places) (tab ids : List ℕ) (r : Verdict) : Type 0 where
-  pub same : r ≡ verdict (tables_of s p)
-  pub names : r ≡ verdicts.Accepted → Tabled p.names (take (p.rows * 4) s) tab ids true
+pub record Settled (s : List ℕ) (p : Places) (tab ids : List ℕ) (r : Result (Unit {0}) Refusal) : Type 0 where
+  pub same : sheet_of r ≡ judged (tables_of s p)
+  pub names : r ≡ Ok tt → Tabled p.names (take (p.rows * 4) s) tab ids true
 
--- what an answer says of a section that ends at `end`
-abbrev pub end_verdict : Read → ℕ → Verdict
-end_verdict (read.Next p) end = cond (ltb p end) (verdicts.Refused 5) verdicts.Accepted
-end_verdict (read.Refused c) end = verdicts.Refused c
+-- what was read up to `at` ends at `end`, or a word is left over
+abbrev pub reached : ℕ → ℕ → Sheet (Unit {0})
+reached at end = unless 5 (not (ltb at end)) (accepted tt)
 
--- the tables of a section that ends at the word `to`: binders are sought among the k - 1 bindings, or not at all where k is 0
-abbrev pub tables_to : List ℕ → Places → ℕ → ℕ → Tables
-tables_to s p k to = tables (take to (words s)) p.names p.rows k
+-- the tables of a section that ends at the word `to`: binders are sought among so many bindings, or not at all
+abbrev pub tables_to : List ℕ → Places → Option ℕ → ℕ → Tables
+tables_to s p bound to = tables (take to (words s)) p.names p.rows bound
 
 -- n of a kind in the section between two words
-abbrev pub section_of : {A : Type 0} → (Tables → List ℕ → Got A) → List ℕ → Places → ℕ → ℕ → ℕ → ℕ → Sheet (List A)
-section_of one s p k n from to = used_up (many (one (tables_to s p k to)) n (section (words s) from to))
+abbrev pub section_of : {A : Type 0} → (Tables → List ℕ → Got A) → List ℕ → Places → Option ℕ → ℕ → ℕ → ℕ → Sheet (List A)
+section_of one s p bound n from to = used_up (many (one (tables_to s p bound to)) n (section (words s) from to))
 
 -- the head, then the arms
-abbrev pub sections_of : List ℕ → Places → ℕ → Sheet (List Arm)
-sections_of s p k =
-    then' (section_of read_clause s p k p.clauses p.head p.tail) (λ head. section_of read_arm s p k p.arms p.tail p.trailer)
+abbrev pub sections_of : List ℕ → Places → Option ℕ → Sheet (List Arm)
+sections_of s p bound =
+    then' (section_of read_clause s p bound p.clauses p.head p.tail) (λ head. section_of read_arm s p bound p.arms p.tail p.trailer)
 
 -- a name found: the byte where its length stands, and the end of the names section; an index past the table is cause 5
-abbrev pub found_as : Sheet (List (List ℕ)) → (end i : ℕ) → Found
-found_as (accepted ns) end i = cond (ltb i (length ns)) (found_at.At (get_or (places_from 0 ns) i 0) end) (found_at.Refused 5)
-found_as (refused c) end i = found_at.Refused c
+abbrev pub found_as : Sheet (List (List ℕ)) → (end i : ℕ) → Sheet (ℕ × ℕ)
+found_as (accepted ns) end i = unless 5 (ltb i (length ns)) (accepted (get_or (places_from 0 ns) i 0, end))
+found_as (refused c) end i = refused c
 
 -- the text that was found
-abbrev pub found : List ℕ → Found → Sheet (List ℕ)
-found s (found_at.At p e) = accepted (name_at (take e s) p)
-found s (found_at.Refused c) = refused c
+abbrev pub found : List ℕ → Result (ℕ × ℕ) Refusal → Sheet (List ℕ)
+found s (Ok x) = accepted (name_at (take x.1 s) x.0)
+found s (Err e) = refused (number_of e)
 
-abbrev pub found_end : Found → ℕ
-found_end (found_at.At p e) = e
-found_end (found_at.Refused c) = 0
+abbrev pub found_end : Result (ℕ × ℕ) Refusal → ℕ
+found_end (Ok x) = x.1
+found_end (Err e) = 0
 
 -- the name with the index i, of n names in the bytes of their section
 abbrev pub text_in : ℕ → List ℕ → ℕ → Sheet (List ℕ)
 text_in n s i = then' (read_names n s) (λ ns. unless 5 (ltb i n) (accepted (get_or ns i [])))
 
 -- a name of a sheet, whose names section ends where the bindings begin
-abbrev pub found_in : Sheet Places → List ℕ → ℕ → Found
+abbrev pub found_in : Sheet Places → List ℕ → ℕ → Sheet (ℕ × ℕ)
 found_in (accepted p) s i = found_as (read_names p.names (take (p.rows * 4) s)) (p.rows * 4) i
-found_in (refused c) s i = found_at.Refused c
+found_in (refused c) s i = refused c
 
 -- the answer r is what is to be found, and so is the text that it leads to in s
-pub record Finds (answer : Found) (s : List ℕ) (text : Sheet (List ℕ)) (r : Found) : Type 0 where
-  pub same : r ≡ answer
+pub record Finds (answer : Sheet (ℕ × ℕ)) (s : List ℕ) (text : Sheet (List ℕ)) (r : Result (ℕ × ℕ) Refusal) : Type 0 where
+  pub same : sheet_of r ≡ answer
   pub reads : found s r ≡ text
   pub within : found_end r ≤ length s
 
 -- of n names in the bytes of their section, and of a sheet
-abbrev pub FindsIn : (n i : ℕ) → List ℕ → Found → Type 0
+abbrev pub FindsIn : (n i : ℕ) → List ℕ → Result (ℕ × ℕ) Refusal → Type 0
 FindsIn n i s = Finds (found_as (read_names n s) (length s) i) s (text_in n s i)
 
-abbrev pub FindsName : (i : ℕ) → List ℕ → Found → Type 0
+abbrev pub FindsName : (i : ℕ) → List ℕ → Result (ℕ × ℕ) Refusal → Type 0
 FindsName i s = Finds (found_in (locate s) s i) s (read_text s i)

@@ -3,8 +3,9 @@ ghost use Rattle.std.specs.Prelude.{◌≡◌, Bool, true, ℕ, ◌+◌, length}
 ghost use Rattle.words.specs.Words.{words};
 ghost use Rattle.sheet.specs.Trailer.{sized, in_place, places_of};
 ghost use Rattle.sheet.specs.Read.{locate};
-ghost use Rattle.sheet.specs.Answer.{located};
+ghost use Rattle.sheet.specs.Answer.{sheet_of};
 
+use refusal::Refusal;
 use words::{count, word};
 
 // Where the sections of a sheet stand: how many names, bindings, clauses and arms there are; the first word of the bindings, the head,
@@ -21,13 +22,6 @@ pub struct Places {
     pub trailer: usize,
     pub start: u32,
     pub end: u32,
-}
-
-// Where the sections stand, or the refusal's number.
-#[derive(Clone, Copy)]
-pub enum Opened {
-    At(Places),
-    Refused(u32),
 }
 
 const MIN_BYTES: usize = 40;
@@ -74,15 +68,15 @@ fn read_places(s: &[u8], t: usize) -> Places
 }
 
 // Where the sections stand, by the trailer alone.
-pub fn find_places(s: &[u8]) -> Opened
-    ensures { result ≡ located (locate s.now) }
+pub fn find_places(s: &[u8]) -> Result<Places, Refusal>
+    ensures { sheet_of result ≡ locate s.now }
 {
     if !is_sized(s) {
-        return Opened::Refused(1);
+        return Err(Refusal::Size);
     }
     let t = count(s) - 10;
     if !is_in_place(s, t) {
-        return Opened::Refused(2);
+        return Err(Refusal::Places);
     }
-    Opened::At(read_places(s, t))
+    Ok(read_places(s, t))
 }

@@ -4,21 +4,20 @@ use Rattle.sheet.proofs.Section.{names-refused, names-left, names-whole}
 use Rattle.sheet.proofs.names.are_names.Goals as goal
 
 pub returns-in_default : goal.returns-in_default
-returns-in_default c =
-    names-refused (rw c.in_default.is at c.scan_names.ensures)
+returns-in_default c = names-refused _ c.in_default.not-Ok c.scan_names.ensures
 
 pub returns-then-p-s : goal.returns-then-p-s
 returns-then-p-s c =
-    let scanned = rw c.in-Next.is at c.scan_names.ensures in
+    let scanned = c.in-Ok.ensures in
     names-left scanned c.if-p-s.true
 
 pub distinct_names-requires : goal.distinct_names-requires
 distinct_names-requires c =
-    let scanned = rw c.in-Next.is at c.scan_names.ensures in
+    let scanned = c.in-Ok.ensures in
     let x = scanned in
     (omega (arith, x.ends), x.fit)
 
 pub returns : goal.returns
 returns c =
-    let scanned = rw c.in-Next.is at c.scan_names.ensures in
+    let scanned = c.in-Ok.ensures in
     names-whole scanned c.if-p-s.false c.distinct_names.ensures

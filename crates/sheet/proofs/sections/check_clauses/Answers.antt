@@ -1,24 +1,24 @@
 -- Read strictly, and again only where that gives 7: each answer is the definition's, by how the two readings differ.
-use mathlib.Core.Path.{sym, ◌∙◌}
-use Rattle.sheet.proofs.Causes.{clauses-both, both-accepted, both-other, both-again, both-unbound}
+use Rattle.std.proofs.Common.{◌≡◌, ◌∙◌, ap, sym, Result, Err}
+use Rattle.refusal.specs.declared.Refusal.{Refusal}
+use Rattle.refusal.specs.declared.Refusal.TheVariants.{Unbound}
+use Rattle.sheet.specs.Answer.{sheet_of}
+use Rattle.sheet.proofs.Causes.{clauses-both, both-first, both-again, both-unbound, is_unbound, not_unbound, refusal_told}
 use Rattle.sheet.proofs.sections.check_clauses.Goals as goal
 
-pub returns-in_default : goal.returns-in_default
-returns-in_default c =
+pub returns-else-eq : goal.returns-else-eq
+returns-else-eq c =
     let two = clauses-both c.args.s.now c.args.p c.requires.0 c.requires.1 in
-    both-accepted two c.check_both-v.ensures c.in_default.is
+    both-first two c.check_both-strict.ensures (not_unbound _ _ c.if-eq.ensures)
 
-pub returns-then-c-ne7 : goal.returns-then-c-ne7
-returns-then-c-ne7 c =
+pub returns-in_ok-check_both : goal.returns-in_ok-check_both
+returns-in_ok-check_both c =
     let two = clauses-both c.args.s.now c.args.p c.requires.0 c.requires.1 in
-    sym c.in-Refused.is ∙ both-other two c.check_both-v.ensures c.in-Refused.is c.if-c-ne7.true
+    let seven : c.check_both-strict.result ≡ Err Unbound = is_unbound _ _ c.if-eq.ensures in
+    rw seven (both-unbound two (rw seven at c.check_both-strict.ensures) c.in_ok-check_both.ensures)
 
-pub returns-in_default-w : goal.returns-in_default-w
-returns-in_default-w c =
+pub returns-in_err-check_both : goal.returns-in_err-check_both
+returns-in_err-check_both c =
     let two = clauses-both c.args.s.now c.args.p c.requires.0 c.requires.1 in
-    both-again two c.check_both-v.ensures c.in-Refused.is c.check_both-w.ensures c.in_default-w.is
-
-pub returns : goal.returns
-returns c =
-    let two = clauses-both c.args.s.now c.args.p c.requires.0 c.requires.1 in
-    both-unbound two c.check_both-v.ensures c.in-Refused.is c.if-c-ne7.false c.check_both-w.ensures c.in-Accepted.is
+    let seven : c.check_both-strict.result ≡ Err Unbound = is_unbound _ _ c.if-eq.ensures in
+    refusal_told _ _ c.from_residual.ensures ∙ both-again two (rw seven at c.check_both-strict.ensures) c.in_err-check_both.ensures

@@ -9,31 +9,31 @@ use Rattle.sheet.proofs.sections.check_rows.Goals as goal
 
 pub returns-in_default : goal.returns-in_default
 returns-in_default c =
-    let x = rw c.in_default.is at c.read_rows.ensures in
+    let x = c.in_default.ensures in
     rows-refused _ _ _ x.same
 
 pub returns-then-p-count : goal.returns-then-p-count
 returns-then-p-count c =
-    let read = rw c.in-Next.is at c.read_rows.ensures in
+    let read = c.in-Ok.ensures in
     let x = read in
-    rows_left _ _ _ {p = c.in-Next.p} (words c.args.s.now) x.same (omega (arith, c.count.ensures))
+    rows_left _ _ _ {p = c.in-Ok.p} (words c.args.section.now.bytes.now) x.same (omega (arith, c.count.ensures))
 
 pub distinct_ids-requires : goal.distinct_ids-requires
 distinct_ids-requires c =
-    let read = rw c.in-Next.is at c.read_rows.ensures in
+    let read = c.in-Ok.ensures in
     let a = c.args in
     let x = read in
-    let long = rows_long a.names a.n (drop a.rows (words a.s.now)) {p = c.in-Next.p} (words a.s.now) x.same (omega (arith, c.count.ensures)) in
-    omega (arith, long, length-drop a.rows (words a.s.now))
+    let long = rows_long a.section.now.names a.n (drop a.section.now.rows (words a.section.now.bytes.now)) {p = c.in-Ok.p} (words a.section.now.bytes.now) x.same (omega (arith, c.count.ensures)) in
+    omega (arith, long, length-drop a.section.now.rows (words a.section.now.bytes.now))
 
 pub returns-then-distinct_ids : goal.returns-then-distinct_ids
 returns-then-distinct_ids c =
-    let read = rw c.in-Next.is at c.read_rows.ensures in
+    let read = c.in-Ok.ensures in
     let x = read in
-    rows-done _ _ _ {p = c.in-Next.p} (words c.args.s.now) x.same (omega (arith, c.count.ensures)) {b = true} (sym c.if-distinct_ids.true ∙ c.distinct_ids.ensures)
+    rows-done _ _ _ {p = c.in-Ok.p} (words c.args.section.now.bytes.now) x.same (omega (arith, c.count.ensures)) {b = true} (sym c.if-distinct_ids.true ∙ c.distinct_ids.ensures)
 
 pub returns : goal.returns
 returns c =
-    let read = rw c.in-Next.is at c.read_rows.ensures in
+    let read = c.in-Ok.ensures in
     let x = read in
-    rows-done _ _ _ {p = c.in-Next.p} (words c.args.s.now) x.same (omega (arith, c.count.ensures)) {b = false} (sym c.if-distinct_ids.false ∙ c.distinct_ids.ensures)
+    rows-done _ _ _ {p = c.in-Ok.p} (words c.args.section.now.bytes.now) x.same (omega (arith, c.count.ensures)) {b = false} (sym c.if-distinct_ids.false ∙ c.distinct_ids.ensures)

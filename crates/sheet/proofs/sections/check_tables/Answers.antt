@@ -6,27 +6,23 @@ use lib.ListN.{length-take}
 use Rattle.words.specs.Words.{words}
 use Rattle.words.proofs.Words.{length-words}
 use Rattle.expr.proofs.Inverse.{never}
-use Rattle.sheet.proofs.Cutting.{words_take}
+use Rattle.sheet.proofs.Cutting.{words-front}
 use Rattle.sheet.proofs.sections.check_tables.Goals as goal
 
 pub returns-then-not-are_names : goal.returns-then-not-are_names
 returns-then-not-are_names c =
-    let named = let a = c.args in
-    let z : a.p.rows * 4 - 0 ≡ a.p.rows * 4 = omega arith in
-    rw z at c.are_names.ensures in
+    let named = c.are_names.ensures in
     let x = rw (c.if-not-are_names.true) at named in
     record { same = rw x.same; names = λ e. never (cc) }
 
 pub check_rows-requires : goal.check_rows-requires
 check_rows-requires c =
     let a = c.args in
-    rw (words_take a.p.head a.s.now) (omega (arith, length-take a.p.head (words a.s.now), length-words a.s.now))
+    rw (words-front a.p.head a.s.now) (omega (arith, length-take a.p.head (words a.s.now), length-words a.s.now))
 
 pub returns : goal.returns
 returns c =
-    let named = let a = c.args in
-    let z : a.p.rows * 4 - 0 ≡ a.p.rows * 4 = omega arith in
-    rw z at c.are_names.ensures in
+    let named = c.are_names.ensures in
     let a = c.args in
     let x = rw (c.if-not-are_names.false) at named in
-    record { same = rw (words_take a.p.head a.s.now) at c.check_rows.ensures ∙ rw x.same; names = λ e. x }
+    record { same = rw (words-front a.p.head a.s.now) at c.check_rows.ensures ∙ rw x.same; names = λ e. x }
