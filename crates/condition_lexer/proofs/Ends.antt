@@ -12,14 +12,16 @@ use lib.Dec.{eqb, ltb}
 use lib.ListN.{length, get_or, take, length-take}
 use lib.Seq.{take-suc, take-length}
 use borrow.Author.Tests.{eq-eqb}
-use Rattle.std.specs.Prelude.{Option as Answer, Some, None}
+use Rattle.std.specs.Prelude.{Option as Answer, Some, None, IfSome}
 use Rattle.std.specs.Option.{MatchOption}
-use Rattle.std.proofs.lemmas.List.{reverse-append, reverse-reverse, get_or-take}
+use Rattle.std.proofs.lemmas.List.{length-reverse, reverse-append, reverse-reverse, get_or-take}
 use Rattle.condition.specs.Tokens.{pick, or_else, found, nothing, open', close', number, bin, strip, first_sign, after_operand, is_end, is_digit, sign_last, number_end, number_last, last}
 use Rattle.condition.specs.Cond.{binary_sign}
 use Rattle.words.specs.Decimal.{width}
-use Rattle.condition.proofs.Lexing.{stripped}
-use Rattle.condition_lexer.specs.Seen.{before_of}
+use Rattle.condition.proofs.Lexing.{stripped, last_found}
+use Rattle.condition.proofs.Sound.{WellTok}
+use Rattle.condition_lexer.specs.declared.Token.{Token}
+use Rattle.condition_lexer.specs.Seen.{before_of, tok_of, last_of}
 
 -- the last byte
 pub reverse_none : (s : List ℕ) → length s < 1 → reverse s ≡ []
@@ -103,3 +105,12 @@ module _ (v scale k : ℕ) (s : List ℕ) where
   pub digits_stop : 4 ≤ k → number_last (4 - k) v scale k (reverse s) ≡ number_end v k (reverse s)
   unfolding number_last
   digits_stop h = let e : 4 - k ≡ 0 = omega arith in rw e
+
+-- a token that was found
+pub shorter : (s : List ℕ) (r : Answer (Token × Bor (List ℕ))) → last (reverse s) ≡ last_of r → IfSome r (λ l. length l.1.now < length s)
+shorter s None e = _
+shorter s (Some l) e = omega (arith, (last_found (reverse s) (tok_of l.0) (reverse l.1.now) e).shorter, length-reverse s, length-reverse l.1.now)
+
+pub known : (s : List ℕ) (r : Answer (Token × Bor (List ℕ))) → last (reverse s) ≡ last_of r → IfSome r (λ l. WellTok (tok_of l.0))
+known s None e = _
+known s (Some l) e = (last_found (reverse s) (tok_of l.0) (reverse l.1.now) e).well

@@ -1,10 +1,11 @@
 // The last token of a text. Signs have their blanks with them, so that tokens stand one after the other.
 #![tactic(auto)]
 
-ghost use Rattle.std.specs.Prelude.{◌≡◌, reverse};
+ghost use Rattle.std.specs.Prelude.{◌≡◌, ◌<◌, length, reverse, IfSome};
 ghost use Rattle.condition.specs.Cond.{unary_sign};
 ghost use Rattle.condition.specs.Tokens.{is_end, is_digit, after_operand, first_sign, minus, strip, sign_last, number_end, number_last, last};
-ghost use Rattle.condition_lexer.specs.Seen.{before_of, last_of};
+ghost use Rattle.condition_lexer.specs.Seen.{before_of, tok_of, last_of};
+ghost use Rattle.condition.proofs.Sound.{WellTok};
 
 use condition::{binary_sign, unary_sign};
 use words::decimal_width;
@@ -107,10 +108,12 @@ fn last_atom(text: &[u8]) -> Option<(Token, &[u8])>
     number_end(rest, value, 4)
 }
 
-// The last token and what stands before it.
+// The last token and what stands before it, which is shorter. None is an empty text's, or where no token ends the text.
 #[tactic(auto, using(crate::proofs::Ends::last_none, crate::proofs::Ends::last_one))]
 pub fn last_token(text: &[u8]) -> Option<(Token, &[u8])>
-    ensures { last (reverse text.now) ≡ last_of result }
+    ensures found { last (reverse text.now) ≡ last_of result }
+    ensures shorter { IfSome result (λ l. length l.1.now < length text.now) }
+    ensures known { IfSome result (λ l. WellTok (tok_of l.0)) }
 {
     let [rest @ .., byte] = text else {
         return None;
