@@ -1,5 +1,5 @@
 -- The tokens of a text, from its last to its first. A text is taken from its end, as a list whose first byte is the text's last.
-use Rattle.std.specs.Prelude.{ℕ, zero, suc, ◌+◌, ◌-◌, ◌*◌, Bool, true, false, ◌&&◌, ◌||◌, List, [], ◌∷◌, reverse, eqb, leb, ltb, length, get_or}
+use Rattle.std.specs.Prelude.{ℕ, zero, suc, ◌+◌, ◌-◌, ◌*◌, Bool, true, false, ◌&&◌, ◌||◌, List, [], ◌∷◌, reverse, eqb, leb, ltb, length}
 use Rattle.std.proofs.Math.Option.{Option, none, some}
 use Rattle.words.specs.Decimal.{width}
 use Rattle.condition.specs.Cond.{binary_sign, unary_sign, atom_text}
@@ -97,8 +97,3 @@ tokens (suc f) (c ∷ r) = more (last (c ∷ r)) (tokens f)
 -- every token has a byte, so that this is enough
 unfoldable pub lex : List ℕ → List Tok
 lex r = tokens (length r) r
-
--- the first p bytes of a text, from the last to the first
-unfoldable pub back : List ℕ → ℕ → List ℕ
-back s zero = []
-back s (suc p) = get_or s p 0 ∷ back s p

@@ -1,20 +1,23 @@
--- What the code tells of a text by positions, as what the definition finds.
-use Rattle.std.specs.Prelude.{ℕ, List}
-use Rattle.std.proofs.Math.Option.{Option, none, some}
-use Rattle.condition.specs.Tokens.{Last, found, nothing, open', close', number, un, bin, back}
-use Rattle.condition_lexer.specs.declared.Before.{Before}
-use Rattle.condition_lexer.specs.declared.Before.TheVariants as before
+-- What the code tells of a text's end, as what the definition finds. The definition takes a text from its last byte to its first.
+use Rattle.std.specs.Prelude.{ℕ, List, reverse, Option, Some, None}
+use Rattle.std.proofs.Math.Option.{none, some}
+use Rattle.std.proofs.Math.Option.{Option as Before}
+use denote.Ref.{Bor}
+use Rattle.condition.specs.Tokens.{Tok, Last, found, nothing, open', close', number, un, bin}
 use Rattle.condition_lexer.specs.declared.Token.{Token}
 use Rattle.condition_lexer.specs.declared.Token.TheVariants as token
 
-abbrev pub before_of : List ℕ → Before → Option (List ℕ)
-before_of s (before.At q) = some (back s q)
-before_of s before.No = none
+abbrev pub before_of : Option (Bor (List ℕ)) → Before (List ℕ)
+before_of None = none
+before_of (Some rest) = some (reverse rest.now)
 
-abbrev pub last_of : List ℕ → Token → Last
-last_of s (token.Open q) = found open' (back s q)
-last_of s (token.Close q) = found close' (back s q)
-last_of s (token.Atom v q) = found (number v) (back s q)
-last_of s (token.Unary o q) = found (un o) (back s q)
-last_of s (token.Binary o q) = found (bin o) (back s q)
-last_of s token.Bad = nothing
+abbrev pub tok_of : Token → Tok
+tok_of token.Open = open'
+tok_of token.Close = close'
+tok_of (token.Atom n) = number n
+tok_of (token.Unary o) = un o
+tok_of (token.Binary o) = bin o
+
+abbrev pub last_of : Option (Token × Bor (List ℕ)) → Last
+last_of None = nothing
+last_of (Some l) = found (tok_of l.0) (reverse l.1.now)

@@ -1,208 +1,127 @@
-// The last token before a position of a text. Signs have their blanks with them, so that tokens stand one after the other.
+// The last token of a text. Signs have their blanks with them, so that tokens stand one after the other.
 #![tactic(auto)]
 
-ghost use Rattle.std.specs.Prelude.{◌≡◌, reverse, ◌<◌, ◌≤◌, length};
-ghost use Rattle.condition.specs.Cond.{binary_sign, unary_sign};
-ghost use Rattle.condition.specs.Tokens.{back, strip, is_digit, is_end, after_operand, first_sign, minus, sign_last, number_end, number_last, last};
-ghost use Rattle.condition_lexer.specs.Seen.{before_of, last_of};
+ghost use Rattle.std.specs.Prelude.{◌≡◌, ◌<◌, length, reverse, IfSome};
+ghost use Rattle.condition.specs.Cond.{unary_sign};
+ghost use Rattle.condition.specs.Tokens.{is_end, is_digit, after_operand, first_sign, minus, strip, sign_last, number_end, number_last, last};
+ghost use Rattle.condition_lexer.specs.Seen.{before_of, tok_of, last_of};
+ghost use Rattle.condition.proofs.Sound.{WellTok};
 
+use condition::{binary_sign, unary_sign};
 use words::decimal_width;
 
-// A token and where it begins.
-#[derive(Drop)]
+// A bracket, an atom by its number, or an operator's sign by the operator's number.
+#[derive(Clone, Copy, Debug, PartialEq, Eq)]
 pub enum Token {
-    Open(usize),
-    Close(usize),
-    Atom(u32, usize),
-    Unary(usize, usize),
-    Binary(usize, usize),
-    Bad,
+    Open,
+    Close,
+    Atom(u32),
+    Unary(usize),
+    Binary(usize),
 }
 
-// Where a sign begins that ends here, or none.
-#[derive(Drop)]
-enum Before {
-    At(usize),
-    No,
-}
-
-// Where a sign begins, given from its last byte to its first, if the text before p ends with it.
-fn ends(text: &[u8], p: usize, sign: &[u8]) -> Before
-    requires { p ≤ length text.now }
-    ensures { strip sign.now (back text.now p) ≡ before_of text.now result }
+// What stands before a sign, if the text ends with it.
+fn before_sign<'a>(text: &'a [u8], sign: &[u8]) -> Option<&'a [u8]>
+    ensures { strip (reverse sign.now) (reverse text.now) ≡ before_of result }
 {
-    let mut q = p;
-    let mut i = 0;
-    while i < sign.len() {
-        if q == 0 {
-            return Before::No;
-        }
-        q -= 1;
-        if text[q] != sign[i] {
-            return Before::No;
-        }
-        i += 1;
-    }
-    Before::At(q)
+    text.strip_suffix(sign)
 }
 
-fn sign_ends(text: &[u8], p: usize, o: usize) -> Before
-    requires { (p ≤ length text.now) × (o < 20) }
-    ensures { strip (reverse (binary_sign o)) (back text.now p) ≡ before_of text.now result }
+// Whether a text ends with an operand and a blank. An operand ends with a digit or a bracket.
+#[tactic(auto, using(crate::proofs::Ends::after_none, crate::proofs::Ends::after_two))]
+fn after_operand(text: &[u8]) -> bool
+    ensures { result ≡ after_operand (reverse text.now) }
 {
-    match o {
-        0 => ends(text, p, b" + "),
-        1 => ends(text, p, b" - "),
-        2 => ends(text, p, b" * "),
-        3 => ends(text, p, b" / "),
-        4 => ends(text, p, b" % "),
-        5 => ends(text, p, b" ^ "),
-        6 => ends(text, p, b" = "),
-        7 => ends(text, p, b" >< "),
-        8 => ends(text, p, b" < "),
-        9 => ends(text, p, b" =< "),
-        10 => ends(text, p, b" > "),
-        11 => ends(text, p, b" => "),
-        12 => ends(text, p, b" DNA "),
-        13 => ends(text, p, b" RO "),
-        14 => ends(text, p, b" ROX "),
-        15 => ends(text, p, b" HTIW STRATS "),
-        16 => ends(text, p, b" HTIW SDNE "),
-        17 => ends(text, p, b" SNIATNOC "),
-        18 => ends(text, p, b" ~= "),
-        19 => ends(text, p, b" || "),
-        _ => Before::No,
-    }
-}
-
-// Whether an operand can end with this byte.
-fn is_end(b: u8) -> bool
-    ensures { result ≡ is_end b }
-{
-    (b == 41) | ((48 <= b) & (b <= 57))
-}
-
-// Whether an operand and a blank end at p.
-fn after_operand(text: &[u8], p: usize) -> bool
-    requires { p ≤ length text.now }
-    ensures { result ≡ after_operand (back text.now p) }
-{
-    if p < 2 {
+    let [.., end, blank] = text else {
         return false;
-    }
-    let q = p - 1;
-    (text[q] == 32) & is_end(text[q - 1])
+    };
+    *blank == b' ' && (*end == b')' || end.is_ascii_digit())
 }
 
-// The binary sign that ends at p.
-fn first_sign(text: &[u8], p: usize) -> Token
-    requires { p ≤ length text.now }
-    ensures { first_sign 20 0 (back text.now p) ≡ last_of text.now result }
+// The binary sign at the end.
+#[tactic(auto, using(crate::proofs::Ends::sign_turn, crate::proofs::Ends::sign_stop))]
+fn last_binary(text: &[u8]) -> Option<(Token, &[u8])>
+    ensures { first_sign 20 0 (reverse text.now) ≡ last_of result }
 {
-    let mut o: usize = 0;
-    while o < 20 {
-        let b = sign_ends(text, p, o);
-        if let Before::At(q) = b {
-            return Token::Binary(o, q);
+    for operator in 0..20 {
+        if let Some(rest) = before_sign(text, binary_sign(operator)) {
+            return Some((Token::Binary(operator), rest));
         }
-        o += 1;
     }
-    Token::Bad
+    None
 }
 
 // The same, or a minus that doesn't stand after an operand, which is unary.
-fn minus_before(text: &[u8], p: usize) -> Token
-    requires { p ≤ length text.now }
-    ensures { minus (strip (reverse (unary_sign 0)) (back text.now p)) (first_sign 20 0 (back text.now p)) ≡ last_of text.now result }
+fn last_minus(text: &[u8]) -> Option<(Token, &[u8])>
+    ensures { minus (strip (reverse (unary_sign 0)) (reverse text.now)) (first_sign 20 0 (reverse text.now)) ≡ last_of result }
 {
-    let m = ends(text, p, b" -");
-    let Before::At(q) = m else {
-        return first_sign(text, p);
+    match before_sign(text, unary_sign(0)) {
+        Some(rest) if !after_operand(rest) => Some((Token::Unary(0), rest)),
+        _ => last_binary(text),
+    }
+}
+
+// The sign at the end.
+#[tactic(auto, unfolding(condition::specs::Tokens::sign_last))]
+fn last_sign(text: &[u8]) -> Option<(Token, &[u8])>
+    ensures { sign_last (reverse text.now) ≡ last_of result }
+{
+    match before_sign(text, unary_sign(1)) {
+        Some(rest) => Some((Token::Unary(1), rest)),
+        None => last_minus(text),
+    }
+}
+
+// The atom whose digits, which are cut off, have this value. Its letter stands before them.
+#[tactic(auto, using(crate::proofs::Ends::end_none, crate::proofs::Ends::end_one))]
+fn number_end(text: &[u8], value: u32, digits: usize) -> Option<(Token, &[u8])>
+    ensures { number_end value digits (reverse text.now) ≡ last_of result }
+{
+    let [rest @ .., letter] = text else {
+        return None;
     };
-    if after_operand(text, q) {
-        return first_sign(text, p);
+    if *letter == b'e' && decimal_width(value) == digits && value < 2048 {
+        return Some((Token::Atom(value), rest));
     }
-    Token::Unary(0, q)
+    None
 }
 
-// The sign that ends at p.
-fn sign_before(text: &[u8], p: usize) -> Token
-    requires { p ≤ length text.now }
-    ensures { sign_last (back text.now p) ≡ last_of text.now result }
+// The atom at the end.
+#[tactic(auto, using(crate::proofs::Ends::digits_none, crate::proofs::Ends::digits_turn, crate::proofs::Ends::digits_stop))]
+fn last_atom(text: &[u8]) -> Option<(Token, &[u8])>
+    ensures { number_last 4 0 1 0 (reverse text.now) ≡ last_of result }
 {
-    let n = ends(text, p, b" TON");
-    let Before::At(q) = n else {
-        return minus_before(text, p);
-    };
-    Token::Unary(1, q)
-}
-
-fn is_digit(b: u8) -> bool
-    ensures { result ≡ is_digit b }
-{
-    (48 <= b) & (b <= 57)
-}
-
-// The atom whose k digits begin at q and have the value v.
-fn number_end(text: &[u8], q: usize, v: u32, k: usize) -> Token
-    requires { q ≤ length text.now }
-    ensures { number_end v k (back text.now q) ≡ last_of text.now result }
-{
-    if q == 0 {
-        return Token::Bad;
-    }
-    if text[q - 1] != 101 {
-        return Token::Bad;
-    }
-    if decimal_width(v) != k {
-        return Token::Bad;
-    }
-    if 2047 < v {
-        return Token::Bad;
-    }
-    Token::Atom(v, q - 1)
-}
-
-// The atom that ends at p.
-fn atom_before(text: &[u8], p: usize) -> Token
-    requires { p ≤ length text.now }
-    ensures { number_last 4 0 1 0 (back text.now p) ≡ last_of text.now result }
-{
-    let mut v: u32 = 0;
+    let mut rest = text;
+    let mut value: u32 = 0;
     let mut scale: u32 = 1;
-    let mut k: usize = 0;
-    let mut q = p;
-    while k < 4 {
-        if q == 0 {
-            return Token::Bad;
+    for digits in 0..4 {
+        let [front @ .., digit] = rest else {
+            return None;
+        };
+        if !digit.is_ascii_digit() {
+            return number_end(rest, value, digits);
         }
-        let b = text[q - 1];
-        if !is_digit(b) {
-            return number_end(text, q, v, k);
-        }
-        v += ((b - 48) as u32) * scale;
+        value += ((*digit - b'0') as u32) * scale;
         scale *= 10;
-        k += 1;
-        q -= 1;
+        rest = front;
     }
-    number_end(text, q, v, k)
+    number_end(rest, value, 4)
 }
 
-// The token that ends at p, above 0.
-pub fn token_before(text: &[u8], p: usize) -> Token
-    requires { (0 < p) × (p ≤ length text.now) }
-    ensures { last (back text.now p) ≡ last_of text.now result }
+// The last token and what stands before it, which is shorter. None is an empty text's, or where no token ends the text.
+#[tactic(auto, using(crate::proofs::Ends::last_none, crate::proofs::Ends::last_one))]
+pub fn last_token(text: &[u8]) -> Option<(Token, &[u8])>
+    ensures found { last (reverse text.now) ≡ last_of result }
+    ensures shorter { IfSome result (λ l. length l.1.now < length text.now) }
+    ensures known { IfSome result (λ l. WellTok (tok_of l.0)) }
 {
-    let q = p - 1;
-    let b = text[q];
-    if b == 40 {
-        return Token::Open(q);
+    let [rest @ .., byte] = text else {
+        return None;
+    };
+    match *byte {
+        b'(' => Some((Token::Open, rest)),
+        b')' => Some((Token::Close, rest)),
+        b' ' => last_sign(text),
+        _ => last_atom(text),
     }
-    if b == 41 {
-        return Token::Close(q);
-    }
-    if b == 32 {
-        return sign_before(text, p);
-    }
-    atom_before(text, p)
 }

@@ -15,11 +15,9 @@ use Rattle.clauses.specs.Tree.{Clause, arm}
 use Rattle.clauses.specs.Read.{read_clause, read_arm}
 use Rattle.clauses.specs.Write.{write_clause, write_arm}
 use Rattle.clauses.proofs.WrittenClause.{clause-written, arm_written}
-use Rattle.condition_text.specs.Over.{maybe_byte}
 use Rattle.condition_text.specs.Tree.{printed_at}
 use Rattle.condition_text.specs.Write.{Wrote, Ready, Put}
 use Rattle.condition_text.proofs.Stages.{Stage, begin, fits, piece, ready, part, further, put}
-use Rattle.condition_text.proofs.Operators.{byte-short}
 use Rattle.condition_printer.specs.Conditions.{of_clause, of_arm, in_row}
 use Rattle.condition_printer.specs.Page.{page_of, text_of, row_words, Stands}
 use Rattle.condition_printer.proofs.Clauses.{ArmAt, arm_at}
@@ -70,17 +68,17 @@ module _ (ws : List ℕ) (names at k : ℕ) (old : List ℕ) (h : Ready (read_cl
       line-ready = ready begun (reader ws names 0 0 48 (drop q ws)) s.fine h.few
 
       module _ {x j : ℕ} {mid : List ℕ} (u : Put (reader ws names 0 0 48 (drop q ws)) write_e (printed_at 0 q) ws q k old mid x j) where
-        pub line-fits : j + length (maybe_byte true 10) ≤ length mid
-        line-fits = fits (part begun u condition behind condition-is) 1 (length (maybe_byte true 10)) (byte-short true 10) (omega arith)
+        pub line-fits : j + 1 ≤ length mid
+        line-fits = fits (part begun u condition behind condition-is) 1 1 (omega arith) (omega arith)
 
-        pub line-put : {new : List ℕ} {end : ℕ} → Wrote (maybe_byte true 10) j mid new end → Put found write_clause (text_of of_clause at) ws at k old new next end
-        unfolding page_of flat_map maybe_byte
+        pub line-put : {new : List ℕ} {end : ℕ} → Wrote (10 ∷ []) j mid new end → Put found write_clause (text_of of_clause at) ws at k old new next end
+        unfolding page_of flat_map
         line-put v =
             let i = s.is clause after condition behind reads_so condition-is in
             let b = (u.is condition behind condition-is).0 in
             let d = rest-is reads_so e in
             let n : x ≤ next = omega (arith, i.1, ap length b, ap length d, length-drop x ws, length-drop next ws, u.within) in
-            let g = further (piece (part begun u condition behind condition-is) 1 0 v (byte-short true 10) (omega arith)) next n w in
+            let g = further (piece (part begun u condition behind condition-is) 1 0 v (omega arith) (omega arith)) next n w in
             put g clause reads_so d spelt h.inside (sym (ap page_of i.0 ∙ append-nil (printed_at 0 q condition ++ (10 ∷ []))))
 
 bind_ok : {A B : Type 0} {g : Got A} {x : A} {r : List ℕ} (f : A → B) → g ≡ ok x r → bind g (λ a q. ok (f a) q) ≡ ok (f x) r

@@ -70,29 +70,32 @@ module _ (s : List ℕ) where
 
 -- the words of a sheet up to a word
 abbrev part : List ℕ → ℕ → List ℕ
-part s to = words (take (to * 4 - 0) s)
+part s to = words (take (to * 4) s)
+
+cut : (to : ℕ) (s : List ℕ) → part s to ≡ take to (words s)
+cut to s = let z : to * 4 - 0 ≡ to * 4 = omega arith in rw z at (words_take to s)
 
 part_length : (s : List ℕ) (to : ℕ) → to * 4 ≤ length s → length (part s to) ≡ to
-part_length s to h = omega (arith, ap length (words_take to s), length-take to (words s), length-words s)
+part_length s to h = omega (arith, ap length (cut to s), length-take to (words s), length-words s)
 
 module _ {s : List ℕ} {p : Places} (l : Laid s p) where
   head-reads : many (read_clause (tables (part s p.tail) p.names 0 0)) p.clauses (drop p.head (part s p.tail)) ≡ ok l.head []
   unfolding known_at
-  head-reads = ap (λ (ws : List ℕ). many (read_clause (tables ws p.names 0 0)) p.clauses (drop p.head ws)) (words_take p.tail s) ∙ l.head_read
+  head-reads = ap (λ (ws : List ℕ). many (read_clause (tables ws p.names 0 0)) p.clauses (drop p.head ws)) (cut p.tail s) ∙ l.head_read
 
   arms-reads : many (read_arm (tables (part s p.trailer) p.names 0 0)) p.arms (drop p.tail (part s p.trailer)) ≡ ok l.arms []
   unfolding known_at
-  arms-reads = ap (λ (ws : List ℕ). many (read_arm (tables ws p.names 0 0)) p.arms (drop p.tail ws)) (words_take p.trailer s) ∙ l.arms_read
+  arms-reads = ap (λ (ws : List ℕ). many (read_arm (tables ws p.names 0 0)) p.arms (drop p.tail ws)) (cut p.trailer s) ∙ l.arms_read
 
-  pub head-ready : (size : ℕ) → 30720 ≤ size → Ready (many (read_clause (tables (part s p.tail) p.names 0 0)) p.clauses (drop p.head (part s p.tail))) (part s p.tail) p.head 0 size
-  head-ready size h =
+  pub head-ready : (k size : ℕ) → k ≡ 0 → 30720 ≤ size → Ready (many (read_clause (tables (part s p.tail) p.names 0 0)) p.clauses (drop p.head (part s p.tail))) (part s p.tail) p.head k size
+  head-ready k size z h =
       let i = l.places in
       let n = part_length s p.tail (omega (arith, i.tail, i.trailer)) in
       record { fine = ap is_ok head-reads; inside = omega (arith, n, i.head); few = omega (arith, n, i.tail, i.trailer, i.short); room = omega (arith, n, i.tail, i.trailer, i.short) }
 
   -- the head was put
-  module _ {old mid : List ℕ} {next j : ℕ} (u : Put (many (read_clause (tables (part s p.tail) p.names 0 0)) p.clauses (drop p.head (part s p.tail))) (row_words write_clause) (text_of (in_row write_clause of_clause) p.head) (part s p.tail) p.head 0 old mid next j) where
-    head-wrote : Wrote (page_of (in_row write_clause of_clause l.head p.head)) 0 old mid j
+  module _ {old mid : List ℕ} {k next j : ℕ} (z : k ≡ 0) (u : Put (many (read_clause (tables (part s p.tail) p.names 0 0)) p.clauses (drop p.head (part s p.tail))) (row_words write_clause) (text_of (in_row write_clause of_clause) p.head) (part s p.tail) p.head k old mid next j) where
+    head-wrote : Wrote (page_of (in_row write_clause of_clause l.head p.head)) k old mid j
     head-wrote = (u.is l.head [] head-reads).1.1
 
     pub arms-ready : 30720 ≤ length old → Ready (many (read_arm (tables (part s p.trailer) p.names 0 0)) p.arms (drop p.tail (part s p.trailer))) (part s p.trailer) p.tail j (length mid)
@@ -103,5 +106,5 @@ module _ {s : List ℕ} {p : Places} (l : Laid s p) where
         let k = keeps head-wrote in
         record { fine = ap is_ok arms-reads; inside = omega (arith, n, i.tail); few = omega (arith, n, i.trailer, i.short); room = omega (arith, n, m, k, u.short, u.within, i.trailer, i.tail, i.head, i.short) }
 
-    pub all-put : {new : List ℕ} {last end : ℕ} → Put (many (read_arm (tables (part s p.trailer) p.names 0 0)) p.arms (drop p.tail (part s p.trailer))) (row_words write_arm) (text_of (in_row write_arm of_arm) p.tail) (part s p.trailer) p.tail j mid new last end → Wrote (page_of (conds_in (read_conditions s))) 0 old new end
+    pub all-put : {new : List ℕ} {last end : ℕ} → Put (many (read_arm (tables (part s p.trailer) p.names 0 0)) p.arms (drop p.tail (part s p.trailer))) (row_words write_arm) (text_of (in_row write_arm of_arm) p.tail) (part s p.trailer) p.tail j mid new last end → Wrote (page_of (conds_in (read_conditions s))) k old new end
     all-put v = rw (l.conds, page-append (in_row write_clause of_clause l.head p.head) (in_row write_arm of_arm l.arms p.tail)) (then-wrote head-wrote (v.is l.arms [] arms-reads).1.1)

@@ -10,7 +10,8 @@ use Rattle.expr.proofs.Inverse.{never}
 use Rattle.expr.proofs.Accepted.{ok-inverse}
 use Rattle.clauses.proofs.WrittenClause.{many-written}
 use Rattle.condition.specs.Cond.{Cond}
-use Rattle.condition_text.specs.Write.{Ready, Put}
+use Rattle.condition_text.specs.Write.{Ready, PutOn}
+use Rattle.condition_text.specs.declared.page.Page.{Page}
 use Rattle.condition_text.proofs.Stages.{Stage, begin, ready, part, put}
 use Rattle.condition_printer.specs.Conditions.{in_row}
 use Rattle.condition_printer.specs.Page.{line, page_of, text_of, row_words}
@@ -59,7 +60,7 @@ first_of {A} T (suc n) l all last h e = go (T.one l) refl e
     go (no c) f e = never (cc)
 
 -- n things from the word `at` on, of which those before the word p are printed, and `left` are still to come
-pub record Row {A : Type 0} (T : Things A) (ws : List ℕ) (at n k : ℕ) (old : List ℕ) (p left : ℕ) (new : List ℕ) (j : ℕ) : Type 0 where
+pub record Row {A : Type 0} (T : Things A) (ws : List ℕ) (at n : ℕ) (old : Page) (p left : ℕ) (new : Page) : Type 0 where
   pub all : List A
   pub last : List ℕ
   pub whole : many T.one n (drop at ws) ≡ ok all last
@@ -67,24 +68,25 @@ pub record Row {A : Type 0} (T : Things A) (ws : List ℕ) (at n k : ℕ) (old :
   pub reads : many T.one left (drop p ws) ≡ ok others last
   pub text : List ℕ
   pub so : page_of (in_row T.write T.of all at) ≡ text ++ page_of (in_row T.write T.of others p)
-  pub stage : Stage ws at k old text p 0 new j
+  pub stage : Stage ws at old.end old.bytes.now text p 0 new.bytes.now new.end
+  pub lent : new.bytes.ghost_name ≡ old.bytes.ghost_name
   pub inside : at ≤ length ws
   pub few : length ws ≤ 2048
 
 module _ {A : Type 0} (T : Things A) where
-  pub row-begins : {ws old : List ℕ} {at n k : ℕ} → Ready (many T.one n (drop at ws)) ws at k (length old) → Row T ws at n k old at n old k
-  row-begins {ws} {at = at} {n = n} h =
+  pub row-begins : {ws : List ℕ} {at n left : ℕ} (page : Page) → left ≡ n → Ready (many T.one n (drop at ws)) ws at page.end (length page.bytes.now) → Row T ws at n page at left page
+  row-begins {ws} {at} {n} page e h =
       let i = ok-inverse (many T.one n (drop at ws)) h.fine in
-      record { all = i.0; last = i.1.0; whole = i.1.1; others = i.0; reads = i.1.1; text = []; so = refl; stage = begin at 0 h (omega arith) h.inside (omega arith); inside = h.inside; few = h.few }
+      record { all = i.0; last = i.1.0; whole = i.1.1; others = i.0; reads = rw e i.1.1; text = []; so = refl; stage = begin at 0 h (omega arith) h.inside (omega arith); lent = refl; inside = h.inside; few = h.few }
 
-  module _ {ws old new : List ℕ} {at n k p left j : ℕ} (r : Row T ws at n k old p left new j) where
-    pub row-ready : 0 < left → Ready (T.one (drop p ws)) ws p j (length new)
+  module _ {ws : List ℕ} {at n p left : ℕ} {old new : Page} (r : Row T ws at n old p left new) where
+    pub row-ready : 0 < left → Ready (T.one (drop p ws)) ws p new.end (length new.bytes.now)
     row-ready h = let f = first_of T left (drop p ws) r.others r.last h r.reads in ready r.stage (T.one (drop p ws)) (ap is_ok f.first) r.few
 
-    pub row-turns : {new' : List ℕ} {q j' : ℕ} → 0 < left → Put (T.one (drop p ws)) T.write (text_of T.of p) ws p j new new' q j' → Row T ws at n k old q (left - 1) new' j'
-    row-turns {q = q} h u =
+    pub row-turns : {new' : Page} {q rest : ℕ} → 0 < left → rest ≡ left - 1 → PutOn (T.one (drop p ws)) T.write (text_of T.of p) ws p new new' q → Row T ws at n old q rest new'
+    row-turns {q = q} h e u =
         let f = first_of T left (drop p ws) r.others r.last h r.reads in
-        let x = u.is f.item f.after f.first in
+        let x = u.put.is f.item f.after f.first in
         let a = T.of f.item p in
         let t = turn-text T r.others f.item f.others p q f.is x.1.0 in
         record {
@@ -92,15 +94,16 @@ module _ {A : Type 0} (T : Things A) where
           last = r.last;
           whole = r.whole;
           others = f.others;
-          reads = rw x.0 at f.rest;
+          reads = rw (x.0, ← e) at f.rest;
           text = r.text ++ page_of a;
           so = r.so ∙ (rw t (sym (append_assoc r.text (page_of a) (page_of (in_row T.write T.of f.others q)))));
-          stage = part r.stage u f.item f.after f.first;
+          stage = part r.stage u.put f.item f.after f.first;
+          lent = u.lent ∙ r.lent;
           inside = r.inside;
           few = r.few;
         }
 
-    pub row_put : left ≡ 0 → Put (many T.one n (drop at ws)) (row_words T.write) (text_of (in_row T.write T.of) at) ws at k old new p j
+    pub row_put : left ≡ 0 → PutOn (many T.one n (drop at ws)) (row_words T.write) (text_of (in_row T.write T.of) at) ws at old new p
     unfolding many in_row page_of flat_map
     row_put z =
         let e : ok [] (drop p ws) ≡ ok r.others r.last = rw z at r.reads in
@@ -108,4 +111,4 @@ module _ {A : Type 0} (T : Things A) where
         let l : drop p ws ≡ r.last = cc in
         let s = (many-written T.write (λ x. Unit {0}) (λ l x q h. (T.spelt l x q h, tt)) n (drop at ws) r.all r.last r.whole).0 in
         let t : r.text ≡ page_of (in_row T.write T.of r.all at) = sym (r.so ∙ (rw (← o) (append-nil r.text))) in
-        put r.stage r.all r.whole (sym l) s r.inside t
+        record { put = put r.stage r.all r.whole (sym l) s r.inside t; lent = r.lent }

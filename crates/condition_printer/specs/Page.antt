@@ -1,5 +1,5 @@
 -- The conditions on a page, "printed one a line", each line ended by a line feed; 12 where the page is too short.
-use Rattle.std.specs.Prelude.{ℕ, ◌<◌, ◌≤◌, ◌≡◌, true, cond, ◌⊎◌, leb, length, drop}
+use Rattle.std.specs.Prelude.{ℕ, ◌<◌, ◌≤◌, ◌≡◌, true, cond, ◌⊎◌, leb, length, drop, Option, Some, None, Result, Ok, Err}
 use mathlib.Core.List.{List, [], ◌∷◌, ◌++◌, flat_map}
 use Rattle.words.specs.Words.{words}
 use Rattle.words.specs.Front.{put_front}
@@ -17,12 +17,9 @@ use Rattle.sheet.specs.declared.trailer.Opened.TheVariants as opened
 use Rattle.condition.specs.Cond.{Cond}
 use Rattle.condition.specs.Printed.{printed}
 use Rattle.condition_text.specs.Tree.{cond_e}
-use Rattle.condition_text.specs.Write.{Put}
+use Rattle.condition_text.specs.Write.{PutOn}
+use Rattle.condition_text.specs.declared.page.Page.{Page}
 use Rattle.condition_printer.specs.Conditions.{of_clause, of_arm, in_row}
-use Rattle.condition_printer.specs.declared.Shown.{Shown}
-use Rattle.condition_printer.specs.declared.Shown.TheVariants as answer
-use Rattle.condition_printer.specs.declared.lines.Place.{Place}
-use Rattle.condition_printer.specs.declared.lines.Place.TheVariants as place
 
 -- a line
 abbrev pub line : Cond → List ℕ
@@ -33,9 +30,9 @@ unfoldable pub page_of : List Cond → List ℕ
 page_of cs = flat_map line cs
 
 -- the length of the text, or the refusal's number
-unfoldable pub conditions_as : Sheet (List Cond) → ℕ → Shown
-conditions_as (accepted cs) room = cond (leb (length (page_of cs)) room) (answer.Bytes (length (page_of cs))) (answer.Refused 12)
-conditions_as (refused c) room = answer.Refused c
+unfoldable pub conditions_as : Sheet (List Cond) → ℕ → Result ℕ ℕ
+conditions_as (accepted cs) room = cond (leb (length (page_of cs)) room) (Ok (length (page_of cs))) (Err 12)
+conditions_as (refused c) room = Err c
 
 -- what is left of the page: the text at its front, where it fits
 unfoldable pub page_as : Sheet (List Cond) → List ℕ → List ℕ
@@ -60,19 +57,19 @@ text_of of at x = page_of (of x at)
 abbrev pub row_words : {A : Type 0} → (A → List ℕ) → List A → List ℕ
 row_words write xs = flat_map write xs
 
--- the lines of the clause, or of the n clauses, at a word stand from byte k on
-abbrev pub PutClause : List ℕ → ℕ → ℕ → ℕ → List ℕ → List ℕ → ℕ → ℕ → Type 0
-PutClause ws names at k old new next end = Put (read_clause (tables ws names 0 0) (drop at ws)) write_clause (text_of of_clause at) ws at k old new next end
+-- the lines of the clause, or of the n clauses, at a word were added to a page
+abbrev pub PutClause : List ℕ → ℕ → ℕ → Page → Page → ℕ → Type 0
+PutClause ws names at old new next = PutOn (read_clause (tables ws names 0 0) (drop at ws)) write_clause (text_of of_clause at) ws at old new next
 
-abbrev pub PutClauses : List ℕ → ℕ → ℕ → ℕ → ℕ → List ℕ → List ℕ → ℕ → ℕ → Type 0
-PutClauses ws names n at k old new next end = Put (many (read_clause (tables ws names 0 0)) n (drop at ws)) (row_words write_clause) (text_of (in_row write_clause of_clause) at) ws at k old new next end
+abbrev pub PutClauses : List ℕ → ℕ → ℕ → ℕ → Page → Page → ℕ → Type 0
+PutClauses ws names n at old new next = PutOn (many (read_clause (tables ws names 0 0)) n (drop at ws)) (row_words write_clause) (text_of (in_row write_clause of_clause) at) ws at old new next
 
 -- and of arms
-abbrev pub PutArm : List ℕ → ℕ → ℕ → ℕ → List ℕ → List ℕ → ℕ → ℕ → Type 0
-PutArm ws names at k old new next end = Put (read_arm (tables ws names 0 0) (drop at ws)) write_arm (text_of of_arm at) ws at k old new next end
+abbrev pub PutArm : List ℕ → ℕ → ℕ → Page → Page → ℕ → Type 0
+PutArm ws names at old new next = PutOn (read_arm (tables ws names 0 0) (drop at ws)) write_arm (text_of of_arm at) ws at old new next
 
-abbrev pub PutArms : List ℕ → ℕ → ℕ → ℕ → ℕ → List ℕ → List ℕ → ℕ → ℕ → Type 0
-PutArms ws names n at k old new next end = Put (many (read_arm (tables ws names 0 0)) n (drop at ws)) (row_words write_arm) (text_of (in_row write_arm of_arm) at) ws at k old new next end
+abbrev pub PutArms : List ℕ → ℕ → ℕ → ℕ → Page → Page → ℕ → Type 0
+PutArms ws names n at old new next = PutOn (many (read_arm (tables ws names 0 0)) n (drop at ws)) (row_words write_arm) (text_of (in_row write_arm of_arm) at) ws at old new next
 
 -- the kinds of a WITH, without and with sort keys
 abbrev pub IsWith : ℕ → Type 0
@@ -86,6 +83,6 @@ pub record Stands (ws : List ℕ) (names at q : ℕ) : Type 0 where
   pub is : (c : Clause) (r : List ℕ) (e : Expr) (t : List ℕ) → read_clause (tables ws names 0 0) (drop at ws) ≡ ok c r → reader ws names 0 0 48 (drop q ws) ≡ ok e t → (of_clause c at ≡ cond_e e q ∷ []) × (length r ≤ length t)
 
 -- the condition of a clause stands here, or it has none
-abbrev pub Placed : List ℕ → ℕ → ℕ → Place → Type 0
-Placed ws names at (place.At q) = Stands ws names at q
-Placed ws names at place.No = (c : Clause) (r : List ℕ) → read_clause (tables ws names 0 0) (drop at ws) ≡ ok c r → of_clause c at ≡ []
+abbrev pub Placed : List ℕ → ℕ → ℕ → Option ℕ → Type 0
+Placed ws names at (Some q) = Stands ws names at q
+Placed ws names at None = (c : Clause) (r : List ℕ) → read_clause (tables ws names 0 0) (drop at ws) ≡ ok c r → of_clause c at ≡ []

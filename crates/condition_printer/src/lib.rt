@@ -3,22 +3,18 @@
 
 mod lines;
 
-ghost use Rattle.std.specs.Prelude.{◌≡◌, ◌≤◌, length};
+ghost use Rattle.std.specs.Prelude.{◌≡◌, ◌≤◌, length, IfOk};
 ghost use Rattle.sheet.specs.declared.trailer.Opened.TheVariants as opened;
-ghost use Rattle.condition_text.specs.Write.{Wrote};
+ghost use Rattle.condition_text.specs.Write.{Adds};
 ghost use Rattle.condition_printer.specs.Conditions.{read_conditions};
 ghost use Rattle.condition_printer.specs.Page.{page_of, conditions_as, page_as, conds_in, opened_for};
 
-use condition_text::put;
+use condition_text::Page;
 use lines::{print_arms, print_clauses};
 use sheet::{Opened, Places, Verdict, check_both, find_places, open};
 
-// The length of what was printed, or the refusal's number.
-#[derive(Drop)]
-pub enum Shown {
-    Bytes(usize),
-    Refused(u32),
-}
+// Room for 15 bytes for each word of the longest sheet, which no text exceeds.
+const ROOM: usize = 15 * 2048;
 
 // Where the sections stand, or which of the causes 1 to 6 the sheet has. Only where a variable has no binding, head and arms are read again,
 // with binders not looked up.
@@ -42,40 +38,41 @@ fn open_unbound(s: &[u8]) -> Opened
     }
 }
 
-// The text of head and arms at the front of out, which has 15 bytes for each word of the longest sheet; how long it is.
-fn print_all(s: &[u8], p: Places, out: &mut [u8]) -> usize
-    requires { (opened.At p ≡ opened_for (read_conditions s.now) s.now) × (30720 ≤ length out.old) }
-    ensures { Wrote (page_of (conds_in (read_conditions s.now))) 0 out.old out.new result }
+// Writes the text of head and arms on an empty page.
+fn print_all(s: &[u8], p: Places, page: &mut Page<'_>)
+    requires { (opened.At p ≡ opened_for (read_conditions s.now) s.now) × ((page.old.end ≡ 0) × (30720 ≤ length page.old.bytes.now)) }
+    ensures { Adds (page_of (conds_in (read_conditions s.now))) page.old page.new }
 {
-    let tail = p.tail;
-    let e = tail * 4;
-    let a = print_clauses(&s[0..e], p.names, p.head, p.clauses, out, 0);
-    let trailer = p.trailer;
-    let f = trailer * 4;
-    let b = print_arms(&s[0..f], p.names, tail, p.arms, out, a.end);
-    b.end
+    print_clauses(&s[..p.tail * 4], p.names, p.head, p.clauses, page);
+    print_arms(&s[..p.trailer * 4], p.names, p.tail, p.arms, page);
 }
 
 // The text is made first, so that a page that is too short stays as it was.
-fn show(s: &[u8], p: Places, page: &mut [u8]) -> Shown
+fn show(s: &[u8], p: Places, page: &mut [u8]) -> Result<usize, u32>
     requires { opened.At p ≡ opened_for (read_conditions s.now) s.now }
-    ensures { (result ≡ conditions_as (read_conditions s.now) (length page.old)) × (page.new ≡ page_as (read_conditions s.now) page.old) }
+    ensures answer { result ≡ conditions_as (read_conditions s.now) (length page.old) }
+    ensures page { page.new ≡ page_as (read_conditions s.now) page.old }
+    ensures within { IfOk result (λ n. n ≤ length page.new) }
 {
-    let mut text = [0u8; 30720];
-    let n = print_all(s, p, &mut text);
+    let mut bytes = [0; ROOM];
+    let mut text = Page::new(&mut bytes);
+    print_all(s, p, &mut text);
+    let n = text.end;
     if page.len() < n {
-        return Shown::Refused(12);
+        return Err(12);
     }
-    Shown::Bytes(put(&text[0..n], page))
+    page[..n].copy_from_slice(&bytes[..n]);
+    Ok(n)
 }
 
-// Prints a sheet's conditions at the front of a page.
-pub fn conditions(s: &[u8], page: &mut [u8]) -> Shown
-    ensures { (result ≡ conditions_as (read_conditions s.now) (length page.old)) × (page.new ≡ page_as (read_conditions s.now) page.old) }
+// Prints a sheet's conditions at the front of a page, and answers how long they are, or the refusal's number, as `sheet` gives it.
+pub fn conditions(s: &[u8], page: &mut [u8]) -> Result<usize, u32>
+    ensures answer { result ≡ conditions_as (read_conditions s.now) (length page.old) }
+    ensures page { page.new ≡ page_as (read_conditions s.now) page.old }
+    ensures within { IfOk result (λ n. n ≤ length page.new) }
 {
-    let a = open_unbound(s);
-    match a {
-        Opened::Refused(c) => Shown::Refused(c),
+    match open_unbound(s) {
+        Opened::Refused(c) => Err(c),
         Opened::At(p) => show(s, p, page),
     }
 }

@@ -1,39 +1,59 @@
 -- Filling, a token a turn: what is left for the machine is the same.
-use Prim.Native.Nat.{ℕ, suc, pred, ◌+◌, ◌*◌, ◌<◌, ◌≤◌}
+use Prim.Native.Nat.{ℕ, pred, ◌+◌, ◌*◌, ◌<◌, ◌≤◌}
 use native.Mathlib.Omega.{arith}
 use mathlib.Core.Path.{◌≡◌, refl, sym, ap, ◌∙◌}
-use mathlib.Core.List.{List, ◌∷◌}
+use mathlib.Core.List.{List, [], ◌∷◌, reverse}
+use mathlib.Core.Bool.{Bool, true, false}
+use lib.Dec.{ltb}
+use borrow.Author.Tests.{ltb-true, ltb-false}
+use denote.Ref.{Bor}
 use lib.ListN.{length, drop}
-use Rattle.condition.specs.Tokens.{Tok, open', close', bad, number, un, bin, found, nothing, last, back, tokens, lex}
+use Rattle.std.specs.Prelude.{Some}
+use Rattle.condition_lexer.specs.Seen.{tok_of, last_of}
+use Rattle.condition_lexer.specs.declared.Token.{Token}
+use Rattle.std.proofs.lemmas.List.{length-reverse}
+use Rattle.condition.specs.Tokens.{Tok, open', close', bad, number, un, bin, nothing, last, tokens, lex}
 use Rattle.condition.specs.Machine.{empty, Work, work, depth_at, turn, run, weight, count_of}
 use Rattle.condition.proofs.Lexing.{last_found, lex-found, lex-none}
 use Rattle.condition.proofs.Reading.{Clean, clean-tail}
 use Rattle.condition.proofs.Sound.{WellTok}
-use Rattle.condition_lexer.proofs.Back.{back_one, back_none, length_back}
-use Rattle.condition_reader.specs.Fill.{stack_of, work_of, Unwound, Turned, Fillable, Filled}
+use Rattle.condition_lexer.proofs.Ends.{reverse_last, reverse_none}
+use Rattle.condition_reader.specs.Fill.{stack_of, work_of, Starts, Unwound, Turned, Fillable, Filled}
+use Rattle.condition_reader.specs.declared.machine.Machine.{Machine}
 
-pub record Filling (text : List ℕ) (n : ℕ) (old list : List ℕ) (p depth s w : ℕ) : Type 0 where
-  pub same : run (lex (back text (length text))) 0 (work empty (drop (n * 2) old)) ≡ run (lex (back text p)) depth (work_of list s w)
-  pub room : w ≡ s * 2 + count_of (lex (back text p)) * 2
-  pub within : w ≤ length list
-  pub size : length list ≡ length old
-  pub deep : depth + p ≤ length text
-  pub clean : Clean (lex (back text p))
-
-pub begins : (text : List ℕ) (n : ℕ) (old : List ℕ) → Fillable text n old → Filling text n old old (length text) 0 0 (n * 2)
-unfolding stack_of
-begins text n old f = record { same = refl; room = omega (arith, f.count); within = f.fits; size = refl; deep = omega arith; clean = f.clean }
-
--- what a token tells
-pub record Tells (text list : List ℕ) (t : Tok) (p q s w : ℕ) : Type 0 where
-  pub lexed : lex (back text p) ≡ t ∷ lex (back text q)
-  pub earlier : q < p
+-- what a token tells of the text before it
+pub record Tells (rest : List ℕ) (t : Tok) (before : List ℕ) : Type 0 where
+  pub lexed : lex (reverse rest) ≡ t ∷ lex (reverse before)
+  pub earlier : length before < length rest
   pub well : WellTok t
-  pub room : s * 2 + weight t * 2 ≤ w
 
-count-cons : (t : Tok) (ts us : List Tok) → us ≡ t ∷ ts → count_of us ≡ weight t + count_of ts
+pub tells : (rest : List ℕ) (token : Token) (before : Bor (List ℕ)) → last (reverse rest) ≡ last_of (Some (token, before)) → Tells rest (tok_of token) before.now
+tells rest token before e =
+    let g = last_found (reverse rest) (tok_of token) (reverse before.now) e in
+    record { lexed = lex-found (reverse rest) e; earlier = omega (arith, g.shorter, length-reverse rest, length-reverse before.now); well = g.well }
+
+-- no token, and yet a text
+pub none_left : (rest : List ℕ) → 1 ≤ length rest → last (reverse rest) ≡ nothing → lex (reverse rest) ≡ bad ∷ []
+none_left rest h e = rw (reverse_last rest h) (lex-none _ _ (rw (reverse_last rest h) at e))
+
+pub all_read : (rest : List ℕ) → length rest < 1 → lex (reverse rest) ≡ []
+unfolding lex tokens
+all_read rest h = rw (reverse_none rest h)
+
+pub count-cons : (t : Tok) (ts us : List Tok) → us ≡ t ∷ ts → count_of us ≡ weight t + count_of ts
 unfolding count_of
 count-cons t ts us e = rw e
+
+pub record Filling (text : List ℕ) (n : ℕ) (old : List ℕ) (rest : List ℕ) (m : Machine) : Type 0 where
+  pub same : run (lex (reverse text)) 0 (work empty (drop (n * 2) old)) ≡ run (lex (reverse rest)) m.depth (work_of m)
+  pub room : m.first ≡ m.waiting * 2 + count_of (lex (reverse rest)) * 2
+  pub size : length m.list.now ≡ length old
+  pub deep : m.depth + length rest ≤ length text
+  pub clean : Clean (lex (reverse rest))
+
+pub begins : {text : List ℕ} {n : ℕ} {old : List ℕ} {m : Machine} → Fillable text n old → Starts old n m → Filling text n old text m
+unfolding stack_of
+begins f s = record { same = rw (s.list, s.waiting, s.first, s.depth); room = omega (arith, f.count, s.waiting, s.first); size = rw s.list; deep = omega (arith, s.depth); clean = f.clean }
 
 run-cons : (t : Tok) (ts us : List Tok) (d : ℕ) (w : Work) → us ≡ t ∷ ts → run us d w ≡ run ts (depth_at t d) (turn t d w)
 unfolding run
@@ -47,43 +67,33 @@ deeper (number k) d p q n h g = omega arith
 deeper (un o) d p q n h g = omega arith
 deeper (bin o) d p q n h g = omega arith
 
-module _ {text : List ℕ} {n : ℕ} {old list : List ℕ} {p depth s w : ℕ} (f : Filling text n old list p depth s w) where
-  pub tells : {t : Tok} {q : ℕ} → last (back text p) ≡ found t (back text q) → Tells text list t p q s w
-  tells {t} {q} e =
-      let l = lex-found (back text p) e in
-      let g = last_found (back text p) t (back text q) e in
-      record {
-        lexed = l;
-        earlier = omega (arith, g.shorter, length_back text p, length_back text q);
-        well = g.well;
-        room = omega (arith, f.room, count-cons t (lex (back text q)) (lex (back text p)) l);
-      }
+module _ {text : List ℕ} {n : ℕ} {old rest : List ℕ} {m : Machine} (f : Filling text n old rest m) where
+  pub roomy : {t : Tok} {before : List ℕ} → Tells rest t before → m.waiting * 2 + weight t * 2 ≤ m.first
+  roomy {t} {before} x = omega (arith, f.room, count-cons t (lex (reverse before)) (lex (reverse rest)) x.lexed)
 
-  pub turns : {t : Tok} {q s' w' : ℕ} {list' : List ℕ} → Tells text list t p q s w → Turned t depth list s w list' s' w' → Filling text n old list' q (depth_at t depth) s' w'
-  turns {t} {q} x u =
-      let c = count-cons t (lex (back text q)) (lex (back text p)) x.lexed in
+  pub turns : {t : Tok} {before : List ℕ} {m' : Machine} → Tells rest t before → Turned t m m' → Filling text n old before m'
+  turns {t} {before} {m'} x u =
+      let c = count-cons t (lex (reverse before)) (lex (reverse rest)) x.lexed in
+      let l = u.lent in
       record {
-        same = f.same ∙ (run-cons t (lex (back text q)) (lex (back text p)) depth (work_of list s w) x.lexed ∙ rw u.same);
+        same = f.same ∙ (run-cons t (lex (reverse before)) (lex (reverse rest)) m.depth (work_of m) x.lexed ∙ rw (u.same, u.depth));
         room = omega (arith, f.room, u.room);
-        within = omega (arith, f.within, f.room, u.room, u.most, u.size);
-        size = u.size ∙ f.size;
-        deep = deeper t depth p q (length text) x.earlier f.deep;
-        clean = clean-tail t (lex (back text q)) (rw x.lexed at f.clean);
+        size = l.size ∙ f.size;
+        deep = rw u.depth (deeper t m.depth (length rest) (length before) (length text) x.earlier f.deep);
+        clean = clean-tail t (lex (reverse before)) (rw x.lexed at f.clean);
       }
 
-  pub closes : {q : ℕ} → Tells text list close' p q s w → Filling text n old list q (suc depth) s w
-  closes x = turns x (record { same = refl; room = omega arith; most = omega arith; low = omega (arith, x.room); size = refl })
-
-  pub never : 0 < p → last (back text p) ≡ nothing → ⊥
-  unfolding Clean
-  never h e = rw (back_one text p h, lex-none _ _ (rw (back_one text p h) at e)) at f.clean
-
-  pub done : {new : List ℕ} {s' w' : ℕ} → p ≡ 0 → Unwound 0 list s w new s' w' → Filled text n old new
-  unfolding run lex tokens
-  done {new} {s'} {w'} e u =
-      record {
-        at = w';
-        same = sym (f.same ∙ (rw (back_none text p e) (ap (λ (v : Work). v.out) u.same)));
-        size = u.size ∙ f.size;
-        within = omega (arith, u.room, u.less, u.size, f.within);
-      }
+  pub done : {new : Machine} → last (reverse rest) ≡ nothing → Unwound 0 m new → Filled text n old new.list.now
+  unfolding run Clean
+  done {new} e u = go (ltb (length rest) 1) refl
+    where
+      go : (b : Bool) → ltb (length rest) 1 ≡ b → Filled text n old new.list.now
+      go true h =
+          let l = u.lent in
+          record {
+            at = new.first;
+            same = sym (f.same ∙ (rw (all_read rest (ltb-true (length rest) 1 h)) (ap (λ (v : Work). v.out) u.same)));
+            size = l.size ∙ f.size;
+            within = new.within;
+          }
+      go false h = absurd (rw (none_left rest (ltb-false (length rest) 1 h) e) at f.clean)

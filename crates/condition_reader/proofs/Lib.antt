@@ -1,9 +1,7 @@
-pub mod Turned
-pub mod Window
-pub mod Passes
-pub mod JudgeTurns
+pub mod Flags
 pub mod Stacked
-pub mod Unwinding
-pub mod Turning
+pub mod Working
 pub mod FillTurns
+pub mod JudgeTurns
+pub mod Passes
 pub mod Whole

@@ -14,7 +14,8 @@ use Rattle.condition.specs.Judge.{is_wanted, is_there, unary_mode, may_join, fla
 use Rattle.condition.specs.declared.Mode.{Mode}
 use Rattle.condition.specs.declared.Mode.TheVariants as mode
 use Rattle.condition.proofs.Tables.{both}
-use Rattle.condition_reader.specs.Pass.{window, judge_in, peak}
+use Rattle.condition_reader.specs.Pass.{judge_in, peak}
+use Rattle.condition_reader.specs.Window.{window}
 
 pair : (a b : Bool) → a ≡ true → b ≡ true → (a && b) ≡ true
 pair a b p q = rw (p, q)

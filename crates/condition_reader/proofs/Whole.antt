@@ -1,19 +1,18 @@
 -- From passes to the judge, and from the list to the tree.
-use Prim.Native.Nat.{ℕ, zero, suc, max, ◌+◌, ◌*◌, ◌<◌, ◌≤◌}
+use Prim.Native.Nat.{ℕ, max, ◌+◌, ◌*◌, ◌<◌, ◌≤◌}
 use native.Mathlib.Omega.{arith}
-use mathlib.Core.Path.{◌≡◌, refl, sym, ap, ◌∙◌}
+use mathlib.Core.Path.{◌≡◌, sym, ap, ◌∙◌}
 use mathlib.Core.Bool.{Bool, true, false, false≢true}
-use mathlib.Core.List.{List, [], ◌∷◌, ◌++◌, reverse, reverse_aux, reverse_aux-append, append-nil}
-use lib.ListN.{length, get_or, take, drop, length-append, length-drop}
-use lib.Seq.{take-suc, take-length}
+use mathlib.Core.List.{List, [], ◌++◌}
+use lib.ListN.{length, drop, length-append, length-drop}
 use Rattle.condition.specs.Cond.{Cond, entries}
 use Rattle.condition.specs.Written.{Reads}
-use Rattle.condition.specs.Tokens.{back, lex}
 use Rattle.condition.specs.Judge.{judge}
 use Rattle.condition.specs.Machine.{count_of}
 use Rattle.condition.specs.declared.Mode.TheVariants as mode
 use Rattle.condition.proofs.Reading.{clean, judged-reads, reads-judged, reads-entries, reads-count}
-use Rattle.condition_reader.specs.Pass.{window, judge_in, peak, toks_of}
+use Rattle.condition_reader.specs.Window.{window}
+use Rattle.condition_reader.specs.Pass.{judge_in, peak, toks_of}
 use Rattle.condition_reader.proofs.Passes.{below, judge-every, widen, begin, enough, peak-max}
 use Rattle.condition_reader.specs.Fill.{Fillable, Filled}
 
@@ -34,21 +33,11 @@ pub all-passed : {s : List ℕ} {n : ℕ} → Passed s n → peak (toks_of s) 0 
 all-passed none_yet h = absurd (omega arith)
 all-passed {s} (up_to {low = n} a) h = sym (judge-every (toks_of s) mode.Wanted false []) ∙ enough n (toks_of s) mode.Wanted false [] 0 (omega arith) h a
 
--- a text from its end
-back-all : (s : List ℕ) (p : ℕ) (r : List ℕ) → p ≤ length s → reverse_aux (take p s) r ≡ back s p ++ r
-unfolding back
-back-all s zero r h = refl
-back-all s (suc p) r h =
-    rw (take-suc s p 0 (omega arith), reverse_aux-append (take p s) (get_or s p 0 ∷ []) r) (ap (◌∷◌ (get_or s p 0)) (back-all s p r (omega arith)))
-
-toks-reverse : (s : List ℕ) → toks_of s ≡ lex (reverse s)
-toks-reverse s = ap lex (sym (rw (take-length s, append-nil (back s (length s))) at (back-all s (length s) [] (omega arith))))
-
 pub reads : (s : List ℕ) → judge (toks_of s) mode.Wanted false [] ≡ true → (t : Cond) × Reads s t
-reads s e = judged-reads s (rw (toks-reverse s) at e)
+reads s e = judged-reads s e
 
 pub unread : (s : List ℕ) → judge (toks_of s) mode.Wanted false [] ≡ false → (t : Cond) → Reads s t → ⊥
-unread s e t w = let x : ◌≡◌ {A = Bool} false true = sym (rw (toks-reverse s) at e) ∙ reads-judged w in false≢true x
+unread s e t w = let x : ◌≡◌ {A = Bool} false true = sym e ∙ reads-judged w in false≢true x
 
 pub fillable : (s : List ℕ) (n : ℕ) (list : List ℕ) → judge (toks_of s) mode.Wanted false [] ≡ true → n ≡ count_of (toks_of s) → n * 2 ≤ length list → length s * 10 + 20 < 18446744073709551616 → Fillable s n list
 fillable s n list e c f k = record { clean = clean (toks_of s) mode.Wanted false [] e; count = c; fits = f; short = k }
@@ -57,8 +46,8 @@ pub filled : (s : List ℕ) (n : ℕ) (old new : List ℕ) → judge (toks_of s)
 filled s n old new e c f x =
     let r = reads s e in
     let t = r.0 in
-    let m = rw (← toks-reverse s) at (reads-entries (drop (n * 2) old) r.1) in
-    let k : length (entries t) ≡ n * 2 = (rw (← toks-reverse s) at (reads-count r.1)) ∙ ap (λ (i : ℕ). i * 2) (sym c) in
+    let m = reads-entries (drop (n * 2) old) r.1 in
+    let k : length (entries t) ≡ n * 2 = reads-count r.1 ∙ ap (λ (i : ℕ). i * 2) (sym c) in
     let g : drop x.at new ≡ entries t ++ drop (n * 2) old = x.same ∙ m in
     let z : x.at ≡ 0 = omega (arith, ap length g, length-drop x.at new, length-append (entries t) (drop (n * 2) old), length-drop (n * 2) old, x.size, x.within) in
     (t, (r.1, (k, rw z at g)))

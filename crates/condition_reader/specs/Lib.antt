@@ -1,4 +1,4 @@
-pub mod Bits
+pub mod Window
 pub mod Pass
 pub mod Fill
 pub mod Read

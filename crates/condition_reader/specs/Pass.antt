@@ -1,26 +1,13 @@
 -- One pass of the judge: it looks for two comparisons in a row only at some levels of brackets.
-use Rattle.std.specs.Prelude.{ℕ, suc, pred, max, ◌-◌, ◌≤◌, ◌≡◌, Bool, true, false, not, cond, ◌&&◌, List, [], ◌∷◌, eqb, leb, ltb, length}
+use Rattle.std.specs.Prelude.{ℕ, suc, pred, max, ◌≤◌, ◌≡◌, Bool, true, false, not, ◌&&◌, List, [], ◌∷◌, eqb, length, reverse, Option, Some, None}
 use Rattle.condition.specs.Cond.{binary_level}
-use Rattle.condition.specs.Tokens.{Tok, open', close', bad, number, un, bin, back, lex}
+use Rattle.condition.specs.Tokens.{Tok, open', close', bad, number, un, bin, lex}
 use Rattle.condition.specs.Machine.{count_of}
 use Rattle.condition.specs.Judge.{is_wanted, is_there, unary_mode, may_join, flag_after}
 use Rattle.condition.specs.declared.Mode.{Mode}
 use Rattle.condition.specs.declared.Mode.TheVariants as mode
-use Rattle.condition_reader.specs.Bits.{put_bit}
-use Rattle.condition_reader.specs.declared.judging.Verdict.{Verdict}
-use Rattle.condition_reader.specs.declared.judging.Verdict.TheVariants as verdict
-
--- the levels that a pass looks at
-abbrev pub window : ℕ → ℕ → Bool
-window low d = leb low d && ltb (d - low) 524288
-
--- what is kept of a level
-abbrev pub mark_of : ℕ → ℕ → ℕ → List ℕ → List ℕ
-mark_of low d v l = cond (window low d) (put_bit l (d - low) v) l
-
--- the same after an operator
-abbrev pub after_of : ℕ → ℕ → ℕ → List ℕ → List ℕ
-after_of low d level l = cond (ltb level 3) (mark_of low d 0 l) (cond (eqb level 4) (mark_of low d 1 l) l)
+use Rattle.condition_reader.specs.Window.{window}
+use Rattle.condition_reader.specs.declared.judging.Judged.{Judged}
 
 -- the judge of `cond`, which tests a level for two comparisons only where W has it
 unfoldable pub judge_in : (ℕ → Bool) → List Tok → Mode → Bool → List Bool → Bool
@@ -47,9 +34,9 @@ peak (bin o ∷ ts) d b = peak ts d b
 
 -- the tokens of a text
 abbrev pub toks_of : List ℕ → List Tok
-toks_of s = lex (back s (length s))
+toks_of s = lex (reverse s)
 
 -- what a pass tells
-abbrev pub Judges : List ℕ → ℕ → Verdict → Type 0
-Judges s low (verdict.Reads n deepest) = (judge_in (window low) (toks_of s) mode.Wanted false [] ≡ true) × ((n ≡ count_of (toks_of s)) × ((deepest ≡ peak (toks_of s) 0 low) × (n ≤ length s)))
-Judges s low verdict.No = judge_in (window low) (toks_of s) mode.Wanted false [] ≡ false
+abbrev pub Judges : List ℕ → ℕ → Option Judged → Type 0
+Judges s low None = judge_in (window low) (toks_of s) mode.Wanted false [] ≡ false
+Judges s low (Some j) = (judge_in (window low) (toks_of s) mode.Wanted false [] ≡ true) × ((j.entries ≡ count_of (toks_of s)) × ((j.deepest ≡ peak (toks_of s) 0 low) × (j.entries ≤ length s)))

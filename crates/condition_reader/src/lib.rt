@@ -4,57 +4,58 @@
 // order are written from the last to the first.
 #![tactic(auto)]
 
-mod filling;
 mod judging;
+mod machine;
+mod window;
 
+ghost use Rattle.condition_reader.specs.Fill.{Fillable, Filled};
 ghost use Rattle.condition_reader.specs.Read.{Counts, ReadAs};
 
-use filling::fill;
-use judging::{Verdict, judge};
+use condition_lexer::last_token;
+use judging::judge;
+use machine::Machine;
+use refusal::Refusal;
+use window::LEVELS;
 
-// The number of a tree's entries, each of two words; a text that doesn't read; or a refusal's number.
-#[derive(Drop)]
-pub enum Answer {
-    Entries(usize),
-    Unread,
-    Refused(u32),
-}
-
-// A text that reads, with its number of entries, or none.
-#[derive(Drop)]
-enum Counted {
-    Entries(usize),
-    No,
-}
-
-// Whether a text reads: every level of brackets is looked at in some pass.
-fn check(text: &[u8]) -> Counted
+// The number of entries of a text that reads: every level of brackets is looked at in some pass.
+fn count(text: &[u8]) -> Option<usize>
     ensures { Counts text.now result }
 {
     let mut low: usize = 0;
     loop {
-        let v = judge(text, low);
-        let Verdict::Reads(n, deepest) = v else {
-            return Counted::No;
-        };
-        if deepest - low < 524288 {
-            return Counted::Entries(n);
+        let judged = judge(text, low)?;
+        if judged.deepest - low < LEVELS {
+            return Some(judged.entries);
         }
-        low += 524288;
+        low += LEVELS;
     }
 }
 
-// Reads a condition's text into the front of a lent list, two words an entry.
-pub fn read_condition(text: &[u8], list: &mut [u64]) -> Answer
+// The entries of a text that reads, at the front of a list.
+fn fill(text: &[u8], entries: usize, list: &mut [u64])
+    requires { Fillable text.now entries list.old }
+    ensures { Filled text.now entries list.old list.new }
+{
+    let mut machine = Machine::new(list, entries);
+    let mut rest = text;
+    while let Some((token, before)) = last_token(rest) {
+        machine.take(token);
+        rest = before;
+    }
+    machine.unwind(0);
+}
+
+// Reads a condition's text into the front of a lent list, two words an entry, and answers how many entries there are, or none where the text
+// doesn't read. A list with fewer entries than the text has bytes is refused.
+pub fn read_condition(text: &[u8], list: &mut [u64]) -> Result<Option<usize>, Refusal>
     ensures { ReadAs text.now list.old list.new result }
 {
     if list.len() / 2 < text.len() {
-        return Answer::Refused(12);
+        return Err(Refusal::Room);
     }
-    let c = check(text);
-    let Counted::Entries(n) = c else {
-        return Answer::Unread;
+    let Some(entries) = count(text) else {
+        return Ok(None);
     };
-    fill(text, n, list);
-    Answer::Entries(n)
+    fill(text, entries, list);
+    Ok(Some(entries))
 }

@@ -1,5 +1,3 @@
-pub mod Laying
-pub mod Table
 pub mod OperandsAt
 pub mod Stages
 pub mod Operators

@@ -3,7 +3,7 @@ use Prim.Native.Nat.{ℕ, suc, ◌+◌, ◌-◌, ◌<◌, ◌≤◌}
 use native.Mathlib.Omega.{arith}
 use mathlib.Core.Path.{◌≡◌, refl, sym, ap, ◌∙◌}
 use mathlib.Core.Bool.{Bool, true, false}
-use mathlib.Core.List.{List, [], ◌++◌, append_assoc, append-nil}
+use mathlib.Core.List.{List, [], ◌∷◌, ◌++◌, append_assoc, append-nil}
 use lib.Dec.{leb, ltb}
 use lib.ListN.{length, get_or, drop, length-append, length-drop}
 use borrow.Author.Tests.{leb-true}
@@ -19,18 +19,16 @@ use Rattle.flat.proofs.Few.{a_word}
 use Rattle.condition.specs.Cond.{Cond, unary, binary, binary_level, unary_level, left_level, binary_sign, unary_sign, atom_text}
 use Rattle.condition.specs.Printed.{wrap, printed}
 use Rattle.condition.proofs.Tables.{all-below}
-use Rattle.condition_text.specs.Over.{maybe_byte}
 use Rattle.condition_text.specs.Tree.{cond_e, printed_at}
 use Rattle.condition_text.specs.Skip.{Skips}
-use Rattle.condition_text.specs.Write.{Wrote, Ready, Put}
+use Rattle.condition_text.specs.Write.{maybe, Wrote, Ready, Put}
 use Rattle.condition_text.proofs.OperandsAt.{BinaryAt, UnaryAt, binary-at, unary-at, atom-at}
 use Rattle.condition_text.proofs.Stages.{Stage, begin, piece, put}
 
 -- how long pieces are
-pub byte-short : (b : Bool) (x : ℕ) → length (maybe_byte b x) ≤ 1
-unfolding maybe_byte
-byte-short true x = omega arith
-byte-short false x = omega arith
+pub bracket-short : (b : Bool) (x : ℕ) → length (maybe b (x ∷ [])) ≤ 1
+bracket-short true x = omega arith
+bracket-short false x = omega arith
 
 pub binary-short : (o : ℕ) → o < 20 → length (binary_sign o) ≤ 13
 binary-short o h = leb-true (length (binary_sign o)) 13 (all-below 20 (λ k. leb (length (binary_sign k)) 13) refl o h)
@@ -42,16 +40,15 @@ pub atom-short : (at : ℕ) → at ≤ 2048 → length (atom_text at) ≤ 15
 atom-short at h = omega (arith, length-decimal at, width-le at (omega arith))
 
 -- brackets around
-wrapped : (b : Bool) (x : List ℕ) → maybe_byte b 40 ++ (x ++ maybe_byte b 41) ≡ wrap b x
-unfolding maybe_byte
+wrapped : (b : Bool) (x : List ℕ) → maybe b (40 ∷ []) ++ (x ++ maybe b (41 ∷ [])) ≡ wrap b x
 wrapped true x = refl
 wrapped false x = append-nil x
 
-binary-text : (m o : ℕ) (l r : Cond) → let b = ltb (binary_level o) m in (((([] ++ maybe_byte b 40) ++ printed (left_level o) l) ++ binary_sign o) ++ printed (suc (binary_level o)) r) ++ maybe_byte b 41 ≡ printed m (binary o l r)
+binary-text : (m o : ℕ) (l r : Cond) → let b = ltb (binary_level o) m in (((([] ++ maybe b (40 ∷ [])) ++ printed (left_level o) l) ++ binary_sign o) ++ printed (suc (binary_level o)) r) ++ maybe b (41 ∷ []) ≡ printed m (binary o l r)
 unfolding printed
 binary-text m o l r = sym (sym (wrapped (ltb (binary_level o) m) (printed (left_level o) l ++ (binary_sign o ++ printed (suc (binary_level o)) r))) ∙ simp append_assoc)
 
-unary-text : (m o : ℕ) (x : Cond) → let b = ltb (unary_level o) m in ((([] ++ maybe_byte b 40) ++ unary_sign o) ++ printed (unary_level o) x) ++ maybe_byte b 41 ≡ printed m (unary o x)
+unary-text : (m o : ℕ) (x : Cond) → let b = ltb (unary_level o) m in ((([] ++ maybe b (40 ∷ [])) ++ unary_sign o) ++ printed (unary_level o) x) ++ maybe b (41 ∷ []) ≡ printed m (unary o x)
 unfolding printed
 unary-text m o x = sym (sym (wrapped (ltb (unary_level o) m) (unary_sign o ++ printed (unary_level o) x)) ∙ simp append_assoc)
 
@@ -128,7 +125,7 @@ module _ (e : Task) where
       right-shorter = rw (second, reads_so) (omega (arith, operator.long))
 
       -- and the right one, and the closing bracket
-      pub binary-put : {o level r b re rn end : ℕ} {mid' new' last : List ℕ} → o ≡ number → level ≡ binary_level o → l ≡ left_level o → r ≡ level + 1 → Puts-at r (e.room - 1) ln b mid' new' rn re → Sofar ((((([] ++ maybe_byte (ltb level e.m) 40) ++ printed_at l (e.at + 2) operator.left) ++ binary_sign o) ++ printed_at r ln operator.right) ++ maybe_byte (ltb level e.m) 41) rn 0 last end → Puts-at e.m e.room e.at e.k e.old last rn end
+      pub binary-put : {o level r b re rn end : ℕ} {mid' new' last : List ℕ} → o ≡ number → level ≡ binary_level o → l ≡ left_level o → r ≡ level + 1 → Puts-at r (e.room - 1) ln b mid' new' rn re → Sofar ((((([] ++ maybe (ltb level e.m) (40 ∷ [])) ++ printed_at l (e.at + 2) operator.left) ++ binary_sign o) ++ printed_at r ln operator.right) ++ maybe (ltb level e.m) (41 ∷ [])) rn 0 last end → Puts-at e.m e.room e.at e.k e.old last rn end
       binary-put {o} {level} {r} eo el ll er q s =
           let n = (p.is operator.left operator.mid operator.first).1.0 in
           let v : level ≡ binary_level number = el ∙ ap binary_level eo in
@@ -149,7 +146,7 @@ module _ (e : Task) where
     pub operand-shorter : length_of (reads (e.room - 1) (e.at + 2)) < length_of (reads e.room e.at)
     operand-shorter = rw (prefix.first, reads_so) (omega (arith, prefix.long))
 
-    pub unary-put : {o level b xe xn end : ℕ} {mid new last : List ℕ} → o ≡ number → level ≡ unary_level o → Puts-at level (e.room - 1) (e.at + 2) b mid new xn xe → Sofar (((([] ++ maybe_byte (ltb level e.m) 40) ++ unary_sign o) ++ printed_at level (e.at + 2) prefix.operand) ++ maybe_byte (ltb level e.m) 41) xn 0 last end → Puts-at e.m e.room e.at e.k e.old last xn end
+    pub unary-put : {o level b xe xn end : ℕ} {mid new last : List ℕ} → o ≡ number → level ≡ unary_level o → Puts-at level (e.room - 1) (e.at + 2) b mid new xn xe → Sofar (((([] ++ maybe (ltb level e.m) (40 ∷ [])) ++ unary_sign o) ++ printed_at level (e.at + 2) prefix.operand) ++ maybe (ltb level e.m) (41 ∷ [])) xn 0 last end → Puts-at e.m e.room e.at e.k e.old last xn end
     unary-put {o} {level} eo el q s =
         let v : level ≡ unary_level number = el ∙ ap unary_level eo in
         let t = unary-text e.m number (cond_e prefix.operand (e.at + 2)) in

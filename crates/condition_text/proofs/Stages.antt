@@ -2,15 +2,18 @@
 -- there is room for the next (`fits`, `ready`), and what is told at the end (`put`). They serve operators, clauses, arms and rows of these.
 use Prim.Native.Nat.{ℕ, ◌+◌, ◌*◌, ◌-◌, ◌≤◌}
 use native.Mathlib.Omega.{arith}
-use mathlib.Core.Path.{◌≡◌, sym, ap, ◌∙◌}
+use mathlib.Core.Path.{◌≡◌, refl, sym, ap, ◌∙◌}
 use mathlib.Core.Bool.{true}
-use mathlib.Core.List.{List, [], ◌++◌, append_assoc, append-nil}
+use mathlib.Core.List.{List, [], ◌∷◌, ◌++◌, append_assoc, append-nil}
 use lib.ListN.{length, take, drop, length-append, length-drop, take-append-drop}
 use lib.Seq.{take_at, drop_at, drop-drop, length-take-le, take_all, drop-length}
+use borrow.Author.Tests.{le-leb}
 use Rattle.heads.specs.Got.{Got, ok, is_ok}
-use Rattle.condition_text.specs.Over.{over, Puts}
-use Rattle.condition_text.specs.Write.{Wrote, Ready, Put}
-use Rattle.condition_text.proofs.Laying.{rest, back}
+use Rattle.words.specs.Decimal.{decimal}
+use Rattle.words.specs.Front.{put_front, put_length}
+use Rattle.condition.specs.Cond.{atom_text}
+use Rattle.condition_text.specs.Write.{Wrote, Adds, Ready, Put}
+use Rattle.condition_text.specs.declared.page.Page.{Page}
 
 pub keeps : {t old new : List ℕ} {k r : ℕ} → Wrote t k old new r → length new ≡ length old
 keeps {t} {old} {k = k} w =
@@ -39,15 +42,32 @@ then-wrote {t} {u} {old} {mid} {new} {k} {r} {q} a b =
       wrote = b.wrote ∙ (rw (x, z) (simp append_assoc));
     }
 
--- a piece written into the rest of the bytes
-pub from-rest : {t old after : List ℕ} {k q : ℕ} → Puts t (rest k old) after q → k + length t ≤ length old → Wrote t k old (back k old after) (k + q)
-unfolding over
-from-rest {t} {old} {after} {k} {q} p h =
+-- the bytes from k on, as `&mut bytes[k..]` lends them, and all of them with these given back
+abbrev rest : ℕ → List ℕ → List ℕ
+rest k bytes = take (length bytes - k) (drop k bytes)
+
+abbrev back : ℕ → List ℕ → List ℕ → List ℕ
+back k bytes part = take k bytes ++ (part ++ drop (length bytes - k) (drop k bytes))
+
+-- a text written at the front of the rest of the bytes, where it fits
+pub from-rest : (t old : List ℕ) (k : ℕ) {after : List ℕ} {q : ℕ} → (q ≡ put_length t (rest k old)) × (after ≡ put_front t (rest k old)) → k + length t ≤ length old → Wrote t k old (back k old after) (k + q)
+unfolding put_front put_length
+from-rest t old k {after} {q} p h =
     let e : length (drop k old) ≡ length old - k = length-drop k old in
     let r : rest k old ≡ drop k old = take_all (length old - k) (drop k old) (omega arith) in
+    let l = le-leb (length t) (length (drop k old)) (omega arith) in
+    let n : q ≡ length t = rw (r, l) at p.0 in
     let d : drop (length old - k) (drop k old) ≡ [] = ap (λ (i : ℕ). drop i (drop k old)) (sym e) ∙ drop-length (drop k old) in
-    let w : after ≡ t ++ drop (k + length t) old = p.wrote ∙ (rw r (ap (◌++◌ t) (drop-drop (length t) k old))) in
-    record { ends = omega (arith, p.long); fits = omega (arith, p.long); wrote = rw (d, append-nil after) (ap (◌++◌ (take k old)) w) }
+    let w : after ≡ t ++ drop (k + length t) old = (rw (r, l) at p.1) ∙ ap (◌++◌ t) (drop-drop (length t) k old) in
+    record { ends = omega (arith, n); fits = omega (arith, n); wrote = rw (d, append-nil after) (ap (◌++◌ (take k old)) w) }
+
+-- nothing is added to a page
+pub none_added : (page : Page) → Adds [] page page
+none_added page = record { wrote = wrote_none page.end page.bytes.now page.within; lent = refl }
+
+-- a letter, and a number's digits after it
+pub atom-wrote : (n : ℕ) (old mid : Page) → Adds (101 ∷ []) old mid → old.end + length (atom_text n) ≤ length old.bytes.now → {after : List ℕ} {q : ℕ} → (q ≡ put_length (decimal n) (rest mid.end mid.bytes.now)) × (after ≡ put_front (decimal n) (rest mid.end mid.bytes.now)) → Wrote (atom_text n) old.end old.bytes.now (back mid.end mid.bytes.now after) (mid.end + q)
+atom-wrote n old mid a h p = then-wrote a.wrote (from-rest (decimal n) mid.bytes.now mid.end p (omega (arith, a.wrote.ends, keeps a.wrote)))
 
 -- the text t stands from byte k on up to j; the words from `at` up to p are done, with `spare` bytes left of their 15 each
 pub record Stage (ws : List ℕ) (at k : ℕ) (old t : List ℕ) (p spare : ℕ) (new : List ℕ) (j : ℕ) : Type 0 where

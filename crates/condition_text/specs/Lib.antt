@@ -1,4 +1,3 @@
-pub mod Over
 pub mod Tree
 pub mod Skip
 pub mod Write

@@ -8,7 +8,8 @@ use Rattle.expr.specs.Read.{reader}
 use Rattle.expr.specs.Write.{write_e}
 use Rattle.condition.specs.Cond.{Cond, atom, unary, binary}
 use Rattle.condition.specs.Printed.{printed}
-use Rattle.condition_text.specs.Write.{Put}
+use Rattle.condition_text.specs.Write.{PutOn}
+use Rattle.condition_text.specs.declared.page.Page.{Page}
 
 -- an operator's tree over its operands' trees; any other number of operands is none that a sheet has
 abbrev pub unary_of : ℕ → ℕ → List Cond → Cond
@@ -60,6 +61,6 @@ unfoldable mutual
 abbrev pub printed_at : ℕ → ℕ → Expr → List ℕ
 printed_at m at e = printed m (cond_e e at)
 
--- the expression at a word is printed from byte k on, in a place whose bare operands have at least level m
-abbrev pub PutExpr : List ℕ → ℕ → ℕ → ℕ → ℕ → ℕ → List ℕ → List ℕ → ℕ → ℕ → Type 0
-PutExpr ws names room m at k old new next end = Put (reader ws names 0 0 room (drop at ws)) write_e (printed_at m at) ws at k old new next end
+-- the expression at a word is printed on a page, in a place whose bare operands have at least level m
+abbrev pub PutExpr : List ℕ → ℕ → ℕ → ℕ → ℕ → Page → Page → ℕ → Type 0
+PutExpr ws names room m at old new next = PutOn (reader ws names 0 0 room (drop at ws)) write_e (printed_at m at) ws at old new next

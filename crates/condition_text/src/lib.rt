@@ -2,8 +2,8 @@
 #![tactic(auto)]
 
 mod operands;
-mod pieces;
+mod page;
 mod writing;
 
-pub use pieces::put;
-pub use writing::{Printed, byte_at, print};
+pub use page::Page;
+pub use writing::print;

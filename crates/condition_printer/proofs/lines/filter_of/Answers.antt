@@ -6,8 +6,8 @@ use Rattle.words.proofs.Words.{length-words}
 use Rattle.condition_printer.proofs.Clauses.{projections-begin, projections-never, flag-inside, filter-stands, no-filter}
 use Rattle.condition_printer.proofs.lines.filter_of.Goals as goal
 
-pub overflow_add-p : goal.overflow_add-p
-overflow_add-p c =
+pub overflow_add-at : goal.overflow_add-at
+overflow_add-at c =
     let begin = projections-begin (words c.args.s.now) c.args.names c.args.at c.requires.0 c.requires.1.0 in
     omega (arith, begin, c.well_formed.0, length-words c.args.s.now)
 
@@ -33,8 +33,8 @@ returns-then-word-eq1 c =
     let a = c.args in
     filter-stands (words a.s.now) a.names a.at c.requires.0 c.requires.1.0 c.in-Next.q read.same read.from (sym c.word.ensures ∙ c.if-word-eq1.true)
 
-pub returns : goal.returns
-returns c =
+pub returns-else-word-eq1 : goal.returns-else-word-eq1
+returns-else-word-eq1 c =
     let read = rw c.in-Next.is at c.counted_projections-r.ensures in
     let a = c.args in
     no-filter (words a.s.now) a.names a.at c.requires.0 c.requires.1.0 c.in-Next.q read.same (λ e. c.if-word-eq1.false (c.word.ensures ∙ e))

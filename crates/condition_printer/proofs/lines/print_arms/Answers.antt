@@ -1,27 +1,22 @@
--- An arm a turn (`Rows`).
+-- One a turn (`Rows`).
 use native.Mathlib.Omega.{arith}
 use Rattle.words.specs.Words.{words}
-use Rattle.condition_text.proofs.Stages.{keeps}
 use Rattle.condition_printer.proofs.RowKinds.{arms}
 use Rattle.condition_printer.proofs.Rows.{row-begins, row-ready, row-turns, row_put}
 use Rattle.condition_printer.proofs.lines.print_arms.Goals as goal
 
-pub loop-left-init : goal.loop-left-init
-loop-left-init c =
-    row-begins (arms (words c.args.s.now) c.args.names) c.requires
+pub loop-init : goal.loop-init
+loop-init c =
+    row-begins (arms (words c.args.s.now) c.args.names) c.args.page.now (omega arith) c.requires
 
-pub print_arm-x-requires : goal.print_arm-x-requires
-print_arm-x-requires c =
-    row-ready (arms _ _) c.loop-left.invariant (omega arith)
+pub print_arm-next-requires : goal.print_arm-next-requires
+print_arm-next-requires c =
+    row-ready (arms _ _) c.loop.invariant (omega arith)
 
-pub loop-left-preserved : goal.loop-left-preserved
-loop-left-preserved c =
-    row-turns (arms _ _) c.loop-left.invariant (omega arith) c.print_arm-x.ensures
-
-pub shape_of-out : goal.shape_of-out
-shape_of-out c =
-    keeps c.loop-left.invariant.stage.wrote
+pub loop-preserved : goal.loop-preserved
+loop-preserved c =
+    row-turns (arms _ _) c.loop.invariant (omega arith) (omega arith) c.print_arm-next.ensures
 
 pub returns : goal.returns
 returns c =
-    row_put (arms _ _) c.loop-left.invariant (omega arith)
+    row_put (arms _ _) c.loop.invariant (omega arith)

@@ -1,0 +1,117 @@
+// The machine that writes the entries of a text that reads, from the last to the first. Operators that wait for their left operand stand at
+// the front of its list, each as its rank and its number: a rank is ten for each level of brackets, and the operator's level + 1.
+ghost use Rattle.std.specs.Prelude.{◌+◌, ◌*◌, ◌<◌, ◌≤◌, length};
+
+use condition::{binary_level, unary_level};
+use condition_lexer::Token;
+
+// How many operators wait, at which word the entries begin, and how deep in brackets the text stands that is left.
+#[derive(Drop)]
+pub struct Machine<'a> {
+    list: &'a mut [u64],
+    waiting: usize,
+    first: usize,
+    depth: u64,
+    ghost apart: { waiting * 2 ≤ first },
+    ghost within: { first ≤ length list.now },
+    ghost ranked: { depth * 10 + 10 < 18446744073709551616 },
+}
+
+impl<'a> Machine<'a> {
+    ghost use Rattle.std.specs.Prelude.{◌≡◌};
+    ghost use Rattle.condition.specs.Tokens.{open', un, bin};
+    ghost use Rattle.condition.specs.Machine.{rank_of, weight};
+    ghost use Rattle.condition.proofs.Sound.{WellTok};
+    ghost use Rattle.condition_lexer.specs.Seen.{tok_of};
+    ghost use Rattle.condition_reader.specs.Fill.{Starts, Written, Unwound, Turned};
+
+    // A machine over a list, with room for so many entries.
+    pub fn new(list: &'a mut [u64], entries: usize) -> Machine<'a>
+        requires { entries * 2 ≤ length list.old }
+        ensures lent { result.list.ghost_name ≡ list.entry.ghost_name }
+        ensures starts { Starts list.old entries result }
+    {
+        let first = entries * 2;
+        Machine {
+            list,
+            waiting: 0,
+            first,
+            depth: 0,
+        }
+    }
+
+    // An entry before the others.
+    fn write(&mut self, kind: u64, operand: u64)
+        requires { self.old.waiting * 2 + 2 ≤ self.old.first }
+        ensures { Written kind operand self.old self.new }
+    {
+        self.first -= 2;
+        self.list[self.first] = kind;
+        self.list[self.first + 1] = operand;
+    }
+
+    fn rank(&self, level: usize) -> u64
+        requires { level < 10 }
+        ensures { result ≡ rank_of self.now.depth level }
+    {
+        self.depth * 10 + level as u64 + 1
+    }
+
+    // Writes the waiting operators of a rank above the limit, the last first.
+    pub fn unwind(&mut self, limit: u64)
+        ensures { Unwound limit self.old self.new }
+    {
+        while self.waiting > 0 && self.list[self.waiting * 2 - 2] > limit {
+            let operator = self.list[self.waiting * 2 - 1];
+            self.waiting -= 1;
+            self.write(15, operator);
+        }
+    }
+
+    // A bracket that opens: what waits within it is done.
+    fn open(&mut self)
+        ensures { Turned open' self.old self.new }
+    {
+        self.unwind(self.depth * 10);
+        self.depth = self.depth.saturating_sub(1);
+    }
+
+    // A unary operator: its operand is done, and so is it.
+    fn unary(&mut self, operator: usize)
+        requires known { operator < 2 }
+        requires room { self.old.waiting * 2 + 2 ≤ self.old.first }
+        ensures { Turned (un operator) self.old self.new }
+    {
+        self.unwind(self.rank(unary_level(operator)));
+        self.write(16, operator as u64);
+    }
+
+    // A binary operator: its right operand is done, and it waits for its left one.
+    fn binary(&mut self, operator: usize)
+        requires known { operator < 20 }
+        requires room { self.old.waiting * 2 + 2 ≤ self.old.first }
+        ensures { Turned (bin operator) self.old self.new }
+    {
+        let rank = self.rank(binary_level(operator));
+        self.unwind(rank);
+        self.list[self.waiting * 2] = rank;
+        self.list[self.waiting * 2 + 1] = operator as u64;
+        self.waiting += 1;
+    }
+
+    // Takes the last token of what is left of the text.
+    pub fn take(&mut self, token: Token)
+        requires known { WellTok (tok_of token) }
+        requires room { self.old.waiting * 2 + weight (tok_of token) * 2 ≤ self.old.first }
+        requires ranked { self.old.depth * 10 + 20 < 18446744073709551616 }
+        ensures { Turned (tok_of token) self.old self.new }
+    {
+        match token {
+            Token::Open => self.open(),
+            Token::Close => self.depth += 1,
+            Token::Atom(place) => self.write(0, place as u64),
+            Token::Unary(operator) => self.unary(operator),
+            Token::Binary(operator) => self.binary(operator),
+        }
+    }
+}
