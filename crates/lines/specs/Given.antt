@@ -1,7 +1,15 @@
--- What the writer of the lines goes by: the section of the names, their places, and the findings as flat words, six each.
-use Rattle.std.specs.Prelude.{ℕ, zero, suc, ◌+◌, ◌-◌, ◌*◌, ◌≤◌, ◌≡◌, Bool, cond, List, [], ◌∷◌, ◌++◌, ltb, leb, length, get_or}
+-- What the writer of the lines goes by: the names, and the findings as flat words, six each.
+use Rattle.std.specs.Prelude.{ℕ, zero, suc, ◌+◌, ◌-◌, ◌*◌, ◌≤◌, ◌≡◌, Bool, cond, List, [], ◌∷◌, ◌++◌, map, ltb, leb, length, get_or}
+use Rattle.tables.specs.Name.{name_at}
 use Rattle.semantics.specs.Log.{Finding, finding}
 use Rattle.finding.specs.declared.Finding.{Finding as Record}
+use Rattle.lines.specs.Lines.{listed}
+use Rattle.lines.specs.declared.names.Names.{Names}
+use Rattle.lines.specs.declared.found.Found.{Found}
+
+-- the texts of the names
+abbrev pub texts_of : Names → List (List ℕ)
+texts_of names = map (name_at names.section.now) names.places.now
 
 -- the finding whose words begin at k, and its record
 abbrev pub finding_at : List ℕ → ℕ → Finding
@@ -18,25 +26,20 @@ record_at l k = record {
 }
 
 -- where the finding numbered i stands: the first ones from the front of the words on, so many, the others from their end back
-abbrev pub word_of : ℕ → List ℕ → ℕ → ℕ
-word_of front l i = cond (ltb i front) (i * 6) (length l - suc (i - front) * 6)
+abbrev pub word_of : Found → ℕ → ℕ
+word_of found i = cond (ltb i found.front) (i * 6) (length found.words.now - suc (i - found.front) * 6)
+
+abbrev pub nth : Found → ℕ → Record
+nth found i = record_at found.words.now (word_of found i)
 
 -- n findings in order
-unfoldable pub findings_in : ℕ → ℕ → List ℕ → List Finding
-findings_in front zero l = []
-findings_in front (suc n) l = findings_in front n l ++ (finding_at l (word_of front l n) ∷ [])
+unfoldable pub findings_in : Found → ℕ → List Finding
+findings_in found zero = []
+findings_in found (suc n) = findings_in found n ++ (finding_at found.words.now (word_of found n) ∷ [])
 
--- where the name stands that is cited as "name + 1 or 0"; else the end of the section, where none stands
-abbrev pub place_of : List ℕ → ℕ → ℕ → ℕ
-place_of places zero end = end
-place_of places (suc i) end = get_or places i end
-
--- k names in a section that is no longer than a sheet, and n findings, no more than a sheet has words
-pub record Given (s : List ℕ) (k : ℕ) (tab : List ℕ) (n : ℕ) (found : List ℕ) : Type 0 where
-  pub short : length s ≤ 8192
-  pub places : k ≤ length tab
-  pub few : n ≤ 2048
-  pub flat : n * 6 ≤ length found
+-- the text of a listing
+abbrev pub text_of : Names → Found → List ℕ
+text_of names found = listed (texts_of names) (findings_in found found.count)
 
 -- whether so many bytes hold a listing of that length; that of a sheet's findings is below 2^32
 pub record Measured (len room : ℕ) (r : Bool) : Type 0 where
