@@ -8,7 +8,7 @@ use lib.ListN.{length, length-append}
 use Rattle.words.specs.Decimal.{width}
 use Rattle.words.proofs.Digits.{width-le}
 use Rattle.lines.specs.Lines.{name_of}
-use Rattle.lines.specs.Given.{texts_of, word_of, nth, findings_in, text_of}
+use Rattle.lines.specs.Given.{texts_of, word_of, nth, findings_in, first, text_of}
 use Rattle.lines.specs.declared.names.Names.{Names}
 use Rattle.lines.specs.declared.found.Found.{Found}
 use Rattle.lines.proofs.Sizes.{line-most, cited-short, listed-long}
@@ -46,14 +46,14 @@ module _ (names : Names) (found : Found) where
   needed-next i b h e = omega (arith, one_less n i most h, e)
 
   pub listed-told : length (text_of names found) ≡ 10 + width n + length (told names found n)
-  listed-told = omega (arith, listed-long (texts_of names) (findings_in found n), ap width (length-findings found n))
+  listed-told = omega (arith, listed-long (texts_of names) (first found n), ap width (length-findings found n))
 
   pub needed-last : needed n ≡ length (text_of names found)
   needed-last = let e : n - n ≡ 0 = omega arith in rw e (omega (arith, listed-told))
 
   pub line-within : (i : ℕ) → length (line_of names found (nth found i)) ≤ most
   line-within i =
-      let w = word_of found i in
+      let w = word_of found.front found.words.now i in
       let f = nth found i in
       omega (arith, line-most f.code f.start f.end f.one f.two (name_of (texts_of names) f.name) (found.small w) (found.small (w + 1)) (found.small (w + 2)), cited-short names.section.now names.places.now f.name)
 

@@ -8,7 +8,7 @@ use mathlib.Core.List.{List, [], ◌∷◌, ◌++◌, flat_map, append_assoc, ap
 use lib.ListN.{length, length-append}
 use Rattle.finding.specs.declared.Finding.{Finding}
 use Rattle.lines.specs.Lines.{name_of, line_for, line}
-use Rattle.lines.specs.Given.{texts_of, finding_at, word_of, nth, findings_in}
+use Rattle.lines.specs.Given.{texts_of, finding_at, word_of, nth, findings_in, first}
 use Rattle.lines.specs.declared.names.Names.{Names}
 use Rattle.lines.specs.declared.found.Found.{Found}
 
@@ -20,7 +20,7 @@ flat_append f (x ∷ xs) ys = rw (flat_append f xs ys, append_assoc)
 module _ (names : Names) (found : Found) where
   -- the lines of the first n findings
   abbrev pub told : ℕ → List ℕ
-  told n = flat_map (line (texts_of names)) (findings_in found n)
+  told n = flat_map (line (texts_of names)) (first found n)
 
   -- the line of a record
   abbrev pub line_of : Finding → List ℕ
@@ -28,7 +28,7 @@ module _ (names : Names) (found : Found) where
 
   pub told_more : (n : ℕ) → told (suc n) ≡ told n ++ line_of (nth found n)
   unfolding findings_in flat_map line
-  told_more n = flat_append (line (texts_of names)) (findings_in found n) (finding_at found.words.now (word_of found n) ∷ []) ∙ rw append-nil
+  told_more n = flat_append (line (texts_of names)) (first found n) (finding_at found.words.now (word_of found.front found.words.now n) ∷ []) ∙ rw append-nil
 
   told-by : (i d : ℕ) → length (told i) ≤ length (told (d + i))
   told-by i zero = rw (zero-add i) (omega arith)
@@ -41,7 +41,7 @@ module _ (names : Names) (found : Found) where
   pub told-next : (i : ℕ) {f : Finding} {x : List ℕ} → f ≡ nth found i → x ≡ name_of (texts_of names) f.name → told (i + 1) ≡ told i ++ line_for f.code f.start f.end f.one f.two x
   told-next i e h = rw (add-one i, h) (told_more i ∙ ap (λ (g : Finding). told i ++ line_of g) (sym e))
 
-pub length-findings : (found : Found) (n : ℕ) → length (findings_in found n) ≡ n
+pub length-findings : (found : Found) (n : ℕ) → length (first found n) ≡ n
 unfolding findings_in
 length-findings found zero = refl
 length-findings found (suc n) = simp length-append (omega (arith, length-findings found n))

@@ -26,20 +26,24 @@ record_at l k = record {
 }
 
 -- where the finding numbered i stands: the first ones from the front of the words on, so many, the others from their end back
-abbrev pub word_of : Found → ℕ → ℕ
-word_of found i = cond (ltb i found.front) (i * 6) (length found.words.now - suc (i - found.front) * 6)
-
-abbrev pub nth : Found → ℕ → Record
-nth found i = record_at found.words.now (word_of found i)
+abbrev pub word_of : ℕ → List ℕ → ℕ → ℕ
+word_of front l i = cond (ltb i front) (i * 6) (length l - suc (i - front) * 6)
 
 -- n findings in order
-unfoldable pub findings_in : Found → ℕ → List Finding
-findings_in found zero = []
-findings_in found (suc n) = findings_in found n ++ (finding_at found.words.now (word_of found n) ∷ [])
+unfoldable pub findings_in : ℕ → ℕ → List ℕ → List Finding
+findings_in front zero l = []
+findings_in front (suc n) l = findings_in front n l ++ (finding_at l (word_of front l n) ∷ [])
+
+abbrev pub nth : Found → ℕ → Record
+nth found i = record_at found.words.now (word_of found.front found.words.now i)
+
+-- the first n findings
+abbrev pub first : Found → ℕ → List Finding
+first found n = findings_in found.front n found.words.now
 
 -- the text of a listing
 abbrev pub text_of : Names → Found → List ℕ
-text_of names found = listed (texts_of names) (findings_in found found.count)
+text_of names found = listed (texts_of names) (first found found.count)
 
 -- whether so many bytes hold a listing of that length; that of a sheet's findings is below 2^32
 pub record Measured (len room : ℕ) (r : Bool) : Type 0 where

@@ -23,7 +23,7 @@ impl<'a> Found<'a> {
     fn word_of(&self, i: usize) -> usize
         requires { i < self.now.count }
         ensures within { result + 6 ≤ length self.now.words.now }
-        ensures value { result ≡ word_of self.now i }
+        ensures value { result ≡ word_of self.now.front self.now.words.now i }
     {
         if i < self.front {
             return i * 6;

@@ -12,7 +12,7 @@ ghost use Rattle.sheet.specs.Read.{accepted};
 ghost use Rattle.texts.specs.Laid.{Lays};
 ghost use Rattle.texts.specs.Page.{answered, number, Writes};
 ghost use Rattle.lines.specs.Lines.{line};
-ghost use Rattle.lines.specs.Given.{texts_of, findings_in, text_of, Measured};
+ghost use Rattle.lines.specs.Given.{texts_of, first, text_of, Measured};
 
 pub use found::Found;
 use lay::{lay_head, lay_line};
@@ -22,8 +22,8 @@ use refusal::Refusal;
 
 // The lines of the findings; how long they are.
 fn lay_lines(names: &Names, found: &Found, out: &mut [u8]) -> usize
-    requires { length (flat_map (line (texts_of names.now)) (findings_in found.now found.now.count)) ≤ length out.old }
-    ensures { Lays (flat_map (line (texts_of names.now)) (findings_in found.now found.now.count)) out.old 0 out.new result }
+    requires { length (flat_map (line (texts_of names.now)) (first found.now found.now.count)) ≤ length out.old }
+    ensures { Lays (flat_map (line (texts_of names.now)) (first found.now found.now.count)) out.old 0 out.new result }
 {
     let mut at = 0;
     for i in 0..found.count {
