@@ -1,57 +1,57 @@
 -- How long a line and a listing are, and that a line is short, since a number has few digits and a name is a part of its section.
-use Prim.Native.Nat.{ℕ, ◌+◌, ◌^◌, ◌<◌, ◌≤◌}
+use Prim.Native.Nat.{ℕ, zero, suc, ◌+◌, ◌^◌, ◌<◌, ◌≤◌}
 use native.Mathlib.Omega.{arith}
 use mathlib.Core.Path.{◌≡◌}
 use mathlib.Core.Bool.{Bool, true, false, cond}
-use mathlib.Core.List.{List, [], flat_map}
+use mathlib.Core.List.{List, [], ◌∷◌, flat_map, map}
 use lib.Dec.{leb}
 use lib.ListN.{length, take, drop, length-append, length-take, length-drop}
+use Rattle.std.specs.Prelude.{Option, None, Some}
 use Rattle.words.specs.Decimal.{width}
 use Rattle.words.proofs.Digits.{width-le, length-decimal}
 use Rattle.tables.specs.Name.{text_at, length_at, name_at}
 use Rattle.semantics.specs.Log.{Finding}
 use Rattle.texts.specs.Codes.{text_for}
-use Rattle.texts.specs.declared.codes.Said.{Said}
-use Rattle.texts.specs.declared.codes.Said.TheVariants as said
+use Rattle.texts.specs.declared.Text.{Text}
 use Rattle.texts.proofs.Short.{text-short}
-use Rattle.lines.specs.Lines.{said_text, front, line_for, line, listed}
+use Rattle.lines.specs.Lines.{name_of, said_text, front, line_for, line, listed}
 
 -- a number that a word holds
 abbrev pub Small : ℕ → Type 0
 Small n = n < 2 ^ 32
+
+pub said-short : (t : Option Text) (x : List ℕ) (two : ℕ) → length (said_text t x two) ≤ length x + 132
+said-short (Some t) x two = text-short t x two
+said-short None x two = omega arith
 
 module _ (code a b : ℕ) where
   pub front_long : length (front code a b) ≡ 4 + width code + width a + width b
   unfolding front
   front_long = simp length-append (omega (arith, length-decimal code, length-decimal a, length-decimal b))
 
-  pub front-short : Small code → Small a → Small b → length (front code a b) ≤ 34
-  front-short h g f = omega (arith, front_long, width-le code h, width-le a g, width-le b f)
+  module _ (one two : ℕ) (x : List ℕ) where
+    pub line-long : length (line_for code a b one two x) ≡ length (front code a b) + length (said_text (text_for code one) x two) + 1
+    unfolding line_for
+    line-long = simp length-append (omega arith)
 
-pub said-short : (t : Said) (x : List ℕ) (two : ℕ) → length (said_text t x two) ≤ length x + 132
-said-short (said.Is t) x two = text-short t x two
-said-short said.No x two = omega arith
-
-module _ (code a b one two : ℕ) (x : List ℕ) where
-  pub line-long : length (line_for code a b one two x) ≡ length (front code a b) + length (said_text (text_for code one) x two) + 1
-  unfolding line_for
-  line-long = simp length-append (omega arith)
-
-  pub line-most : Small code → Small a → Small b → length (line_for code a b one two x) ≤ 167 + length x
-  line-most h g f = omega (arith, line-long, front-short code a b h g f, said-short (text_for code one) x two)
-
-  pub line-short : Small code → Small a → Small b → length x ≤ 8192 → length (line_for code a b one two x) ≤ 8500
-  line-short h g f l = omega (arith, line-most h g f)
+    pub line-most : Small code → Small a → Small b → length (line_for code a b one two x) ≤ 167 + length x
+    line-most h g f = omega (arith, line-long, front_long, width-le code h, width-le a g, width-le b f, said-short (text_for code one) x two)
 
 pub listed-long : (names : List (List ℕ)) (fs : List Finding) → length (listed names fs) ≡ 10 + width (length fs) + length (flat_map (line names) fs)
 unfolding listed
 listed-long names fs = simp length-append (omega (arith, length-decimal (length fs)))
 
 -- a name is no longer than its section
-pub name-short : (s : List ℕ) (p : ℕ) → length (name_at s p) ≤ length s
+name-short : (s : List ℕ) (p : ℕ) → length (name_at s p) ≤ length s
 unfolding name_at text_at
 name-short s p = picked (leb (p + 4 + length_at s p) (length s))
   where
     picked : (b : Bool) → length (cond b (take (length_at s p) (drop (p + 4) s)) []) ≤ length s
     picked true = simp (length-take, length-drop) (omega arith)
     picked false = omega arith
+
+pub cited-short : (s places : List ℕ) (name : ℕ) → length (name_of (map (name_at s) places) name) ≤ length s
+cited-short s places zero = omega arith
+cited-short s [] (suc i) = omega arith
+cited-short s (p ∷ places) (suc zero) = name-short s p
+cited-short s (p ∷ places) (suc (suc i)) = cited-short s places (suc i)

@@ -1,37 +1,34 @@
--- The lines of a flat list's findings, one more at a time: each is the line of the record at that place, with the name that it cites.
+-- The lines of a sheet's findings, one more at a time: each is the line of the record at that place, with the name that it cites.
 use Prim.Native.Nat.{ℕ, zero, suc, ◌+◌, ◌-◌, ◌≤◌}
 use native.Mathlib.Nat.{zero-add, suc-add}
 use native.Mathlib.Numerals.{add-one}
 use native.Mathlib.Omega.{arith}
-use mathlib.Core.Path.{◌≡◌, refl, ap, sym, subst, ◌∙◌}
-use mathlib.Core.List.{List, [], ◌∷◌, ◌++◌, flat_map, append_assoc, append-nil, map}
-use lib.ListN.{length, get_or, take, length-append, get_or-map}
-use Rattle.tables.specs.Name.{name_at}
-use Rattle.tables.specs.Answer.{names_in}
-use Rattle.tables.proofs.Text.{text-none}
+use mathlib.Core.Path.{◌≡◌, refl, ap, sym, ◌∙◌}
+use mathlib.Core.List.{List, [], ◌∷◌, ◌++◌, flat_map, append_assoc, append-nil}
+use lib.ListN.{length, length-append}
 use Rattle.finding.specs.declared.Finding.{Finding}
 use Rattle.lines.specs.Lines.{name_of, line_for, line}
-use Rattle.lines.specs.Given.{finding_at, record_at, word_of, findings_in, place_of}
+use Rattle.lines.specs.Given.{texts_of, finding_at, word_of, nth, findings_in, first}
+use Rattle.lines.specs.declared.names.Names.{Names}
+use Rattle.lines.specs.declared.found.Found.{Found}
 
 flat_append : {A : Type 0} (f : A → List ℕ) (xs ys : List A) → flat_map f (xs ++ ys) ≡ flat_map f xs ++ flat_map f ys
 unfolding flat_map
 flat_append f [] ys = refl
 flat_append f (x ∷ xs) ys = rw (flat_append f xs ys, append_assoc)
 
--- the name that is cited stands at the place that the code takes for it
-pub name-there : (s places : List ℕ) (name : ℕ) → name_at s (place_of places name (length s)) ≡ name_of (map (name_at s) places) name
-name-there s places zero = sym (text-none s (length s) (omega arith))
-name-there s places (suc i) =
-    sym (get_or-map (name_at s) places i (length s)) ∙ ap (get_or (map (name_at s) places) i) (sym (text-none s (length s) (omega arith)))
-
-module _ (s tab found : List ℕ) (k front : ℕ) where
+module _ (names : Names) (found : Found) where
   -- the lines of the first n findings
   abbrev pub told : ℕ → List ℕ
-  told n = flat_map (line (names_in s k tab)) (findings_in front n found)
+  told n = flat_map (line (texts_of names)) (first found n)
 
-  told_more : (n : ℕ) → told (suc n) ≡ told n ++ line (names_in s k tab) (finding_at found (word_of front found n))
-  unfolding findings_in flat_map
-  told_more n = flat_append (line (names_in s k tab)) (findings_in front n found) (finding_at found (word_of front found n) ∷ []) ∙ rw append-nil
+  -- the line of a record
+  abbrev pub line_of : Finding → List ℕ
+  line_of f = line_for f.code f.start f.end f.one f.two (name_of (texts_of names) f.name)
+
+  pub told_more : (n : ℕ) → told (suc n) ≡ told n ++ line_of (nth found n)
+  unfolding findings_in flat_map line
+  told_more n = flat_append (line (texts_of names)) (first found n) (finding_at found.words.now (word_of found.front found.words.now n) ∷ []) ∙ rw append-nil
 
   told-by : (i d : ℕ) → length (told i) ≤ length (told (d + i))
   told-by i zero = rw (zero-add i) (omega arith)
@@ -40,15 +37,11 @@ module _ (s tab found : List ℕ) (k front : ℕ) where
   pub told-within : (i n : ℕ) → i ≤ n → length (told i) ≤ length (told n)
   told-within i n h = let e : n ≡ n - i + i = omega arith in rw e (told-by i (n - i))
 
-  pub told-record : (i : ℕ) → let f = record_at found (word_of front found i) in told (i + 1) ≡ told i ++ line_for f.code f.start f.end f.one f.two (name_at s (place_of (take k tab) f.name (length s)))
-  unfolding line
-  told-record i = rw (add-one i) (told_more i ∙ rw (name-there s (take k tab) (record_at found (word_of front found i)).name))
-
   -- one more line, of the record that is read and the name that is found
-  pub told-next : (i : ℕ) {f : Finding} {p : ℕ} {x : List ℕ} → f ≡ record_at found (word_of front found i) → p ≡ place_of (take k tab) f.name (length s) → x ≡ name_at s p → told (i + 1) ≡ told i ++ line_for f.code f.start f.end f.one f.two x
-  told-next i e g h = rw (h, g) (subst (λ (f : Finding). told (i + 1) ≡ told i ++ line_for f.code f.start f.end f.one f.two (name_at s (place_of (take k tab) f.name (length s)))) (sym e) (told-record i))
+  pub told-next : (i : ℕ) {f : Finding} {x : List ℕ} → f ≡ nth found i → x ≡ name_of (texts_of names) f.name → told (i + 1) ≡ told i ++ line_for f.code f.start f.end f.one f.two x
+  told-next i e h = rw (add-one i, h) (told_more i ∙ ap (λ (g : Finding). told i ++ line_of g) (sym e))
 
-pub length-findings : (front n : ℕ) (l : List ℕ) → length (findings_in front n l) ≡ n
+pub length-findings : (found : Found) (n : ℕ) → length (first found n) ≡ n
 unfolding findings_in
-length-findings front zero l = refl
-length-findings front (suc n) l = simp length-append (omega (arith, length-findings front n l))
+length-findings found zero = refl
+length-findings found (suc n) = simp length-append (omega (arith, length-findings found n))

@@ -1,7 +1,15 @@
--- What the writer of the lines goes by: the section of the names, their places, and the findings as flat words, six each.
-use Rattle.std.specs.Prelude.{ℕ, zero, suc, ◌+◌, ◌-◌, ◌*◌, ◌≤◌, ◌≡◌, Bool, cond, List, [], ◌∷◌, ◌++◌, ltb, leb, length, get_or}
+-- What the writer of the lines goes by: the names, and the findings as flat words, six each.
+use Rattle.std.specs.Prelude.{ℕ, zero, suc, ◌+◌, ◌-◌, ◌*◌, ◌≤◌, ◌≡◌, Bool, cond, List, [], ◌∷◌, ◌++◌, map, ltb, leb, length, get_or}
+use Rattle.tables.specs.Name.{name_at}
 use Rattle.semantics.specs.Log.{Finding, finding}
 use Rattle.finding.specs.declared.Finding.{Finding as Record}
+use Rattle.lines.specs.Lines.{listed}
+use Rattle.lines.specs.declared.names.Names.{Names}
+use Rattle.lines.specs.declared.found.Found.{Found}
+
+-- the texts of the names
+abbrev pub texts_of : Names → List (List ℕ)
+texts_of names = map (name_at names.section.now) names.places.now
 
 -- the finding whose words begin at k, and its record
 abbrev pub finding_at : List ℕ → ℕ → Finding
@@ -26,17 +34,16 @@ unfoldable pub findings_in : ℕ → ℕ → List ℕ → List Finding
 findings_in front zero l = []
 findings_in front (suc n) l = findings_in front n l ++ (finding_at l (word_of front l n) ∷ [])
 
--- where the name stands that is cited as "name + 1 or 0"; else the end of the section, where none stands
-abbrev pub place_of : List ℕ → ℕ → ℕ → ℕ
-place_of places zero end = end
-place_of places (suc i) end = get_or places i end
+abbrev pub nth : Found → ℕ → Record
+nth found i = record_at found.words.now (word_of found.front found.words.now i)
 
--- k names in a section that is no longer than a sheet, and n findings, no more than a sheet has words
-pub record Given (s : List ℕ) (k : ℕ) (tab : List ℕ) (n : ℕ) (found : List ℕ) : Type 0 where
-  pub short : length s ≤ 8192
-  pub places : k ≤ length tab
-  pub few : n ≤ 2048
-  pub flat : n * 6 ≤ length found
+-- the first n findings
+abbrev pub first : Found → ℕ → List Finding
+first found n = findings_in found.front n found.words.now
+
+-- the text of a listing
+abbrev pub text_of : Names → Found → List ℕ
+text_of names found = listed (texts_of names) (first found found.count)
 
 -- whether so many bytes hold a listing of that length; that of a sheet's findings is below 2^32
 pub record Measured (len room : ℕ) (r : Bool) : Type 0 where

@@ -1,22 +1,21 @@
 -- The text of a listing: "findings N", then a line a finding: code, start, end, message. Every line ends in a line feed.
-use Rattle.std.specs.Prelude.{ℕ, zero, suc, length, get_or}
+use Rattle.std.specs.Prelude.{ℕ, zero, suc, length, get_or, Option, None, Some}
 use mathlib.Core.List.{List, [], ◌++◌, flat_map}
 use Rattle.words.specs.Decimal.{decimal}
 use Rattle.semantics.specs.Log.{Finding, finding}
 use Rattle.texts.specs.Bytes.{bytes}
 use Rattle.texts.specs.Texts.{text_of}
 use Rattle.texts.specs.Codes.{text_for}
-use Rattle.texts.specs.declared.codes.Said.{Said}
-use Rattle.texts.specs.declared.codes.Said.TheVariants as said
+use Rattle.texts.specs.declared.Text.{Text}
 
 -- the name that is cited as "name + 1 or 0"
 abbrev pub name_of : List (List ℕ) → ℕ → List ℕ
 name_of names zero = []
 name_of names (suc i) = get_or names i []
 
-abbrev pub said_text : Said → List ℕ → ℕ → List ℕ
-said_text (said.Is t) x two = text_of t x two
-said_text said.No x two = []
+abbrev pub said_text : Option Text → List ℕ → ℕ → List ℕ
+said_text (Some t) x two = text_of t x two
+said_text None x two = []
 
 -- `E` and the code, start, end, and a blank after each
 unfoldable pub front : (code start stop : ℕ) → List ℕ

@@ -1,4 +1,5 @@
+pub mod Causes
 pub mod Counted
 pub mod Laid
 pub mod Opened
-pub mod Scratch
+pub mod Zeros

@@ -1,19 +1,20 @@
 -- What a run over a sheet gives its listing: a refusal is handed on, and 8 is given by what it counted; else the findings that it left in words
 -- are the definition's, and what is written of them and of the names that a table has is the listing.
-use Prim.Native.Nat.{ℕ, ◌+◌, ◌-◌, ◌*◌, ◌<◌, ◌≤◌}
-use native.Mathlib.Omega.{arith}
-use mathlib.Core.Path.{◌≡◌, refl, ap, subst}
+use Prim.Native.Nat.{ℕ, ◌+◌, ◌*◌, ◌<◌, ◌≤◌}
+use mathlib.Core.Path.{◌≡◌, refl, subst}
 use mathlib.Core.Bool.{Bool, true, false, ◌&&◌, and-false}
 use mathlib.Core.List.{List}
 use borrow.Author.Tests.{le-leb, lt-leb}
 use lib.Dec.{leb}
-use lib.ListN.{take, length-take}
+use lib.ListN.{take}
+use Rattle.std.specs.Prelude.{Result, Err}
 use Rattle.words.specs.Words.{words}
-use Rattle.words.proofs.Words.{length-words}
+use Rattle.refusal.specs.Number.{number_of}
+use Rattle.refusal.specs.declared.Refusal.{Refusal}
+use Rattle.refusal.specs.declared.Refusal.TheVariants.{Entries}
 use Rattle.tables.specs.Answer.{names_in}
 use Rattle.sheet.specs.Trailer.{places_of}
 use Rattle.sheet.specs.Read.{accepted, refused, locate, read_sheet}
-use Rattle.sheet.specs.Answer.{InPlaces}
 use Rattle.sheet.specs.declared.trailer.Places.{Places}
 use Rattle.semantics.specs.World.{world_of}
 use Rattle.semantics.specs.Resolve.{run, log}
@@ -23,19 +24,18 @@ use Rattle.sheet_walk.specs.Runs.{warns_by, wants_by, id_of, RanTo, Runs}
 use Rattle.sheet_walk.specs.declared.Ran.{Ran}
 use Rattle.sheet_walk.specs.declared.Ran.TheVariants as ran
 use Rattle.texts.specs.Page.{Writes}
-use Rattle.texts.specs.declared.Written.{Written}
-use Rattle.texts.specs.declared.Written.TheVariants as written
 use Rattle.texts.proofs.Giving.{gives-refusal}
 use Rattle.lines.specs.Lines.{listed}
-use Rattle.lines.specs.Given.{findings_in, Given}
+use Rattle.lines.specs.Given.{findings_in}
 use Rattle.listing.specs.Listing.{entries, fits, listing}
-use Rattle.listing.specs.Found.{Found, choice_of}
+use Rattle.listing.specs.Found.{FoundIn, choice_of}
 use Rattle.listing.proofs.Counted.{counted}
 use Rattle.listing.proofs.Laid.{laid}
 
-pub refused-listing : (warns : Bool) (s page : List ℕ) {c : ℕ} → read_sheet s ≡ refused c → Writes (listing warns s) page page (written.Refused c)
+-- a refusal r whose number a sheet is refused by
+pub refused-listing : (warns : Bool) (s page : List ℕ) {r : Refusal} {c : ℕ} → number_of r ≡ c → read_sheet s ≡ refused c → Writes (listing warns s) page page (Err r)
 unfolding listing
-refused-listing warns s page {c} e = rw e (gives-refusal c page)
+refused-listing warns s page {r} n e = rw (e, ← n) (gives-refusal r page)
 
 pub unplaced : (s : List ℕ) {c : ℕ} → locate s ≡ refused c → read_sheet s ≡ refused c
 unfolding read_sheet
@@ -62,7 +62,7 @@ module _ (warns : Bool) {s places ids tab found old carried : List ℕ} {said to
   enough : fits warns r.statement ≡ leb made entries && leb taken entries
   enough = rw (r.bindings, r.carried_names, warned warns) (counted warns s r.statement r.read)
 
-  pub from-run : made ≤ entries → taken ≤ entries → Found warns s places found said told
+  pub from-run : made ≤ entries → taken ≤ entries → FoundIn warns s places found said told
   unfolding findings log
   from-run m t =
       let st = r.statement in
@@ -77,30 +77,19 @@ module _ (warns : Bool) {s places ids tab found old carried : List ℕ} {said to
         wide = r.wide;
       }
 
-  eight : (page : List ℕ) → leb made entries && leb taken entries ≡ false → Writes (listing warns s) page page (written.Refused 8)
+  eight : (page : List ℕ) → leb made entries && leb taken entries ≡ false → Writes (listing warns s) page page (Err Entries)
   unfolding listing
-  eight page e = rw (r.read, enough, e) (gives-refusal 8 page)
+  eight page e = rw (r.read, enough, e) (gives-refusal Entries page)
 
-  pub many-made : (page : List ℕ) → entries < made → Writes (listing warns s) page page (written.Refused 8)
+  pub many-made : (page : List ℕ) → entries < made → Writes (listing warns s) page page (Err Entries)
   many-made page h = eight page (rw (lt-leb made entries h))
 
-  pub many-carried : (page : List ℕ) → entries < taken → Writes (listing warns s) page page (written.Refused 8)
+  pub many-carried : (page : List ℕ) → entries < taken → Writes (listing warns s) page page (Err Entries)
   many-carried page h = eight page (rw (lt-leb taken entries h, and-false))
 
 -- an accepted sheet's names and findings
-module _ {warns : Bool} {s places found : List ℕ} {said told : ℕ} (f : Found warns s places found said told) {p : Places} (e : p ≡ places_of (words s)) (i : InPlaces s p) where
-  pub given : Given (take (p.rows * 4 - 0) s) p.names places (said + told) found
-  given =
-      record {
-        short = omega (arith, length-take (p.rows * 4 - 0) s, i.short);
-        places = omega (arith, f.many, ap Places.names e);
-        few = omega (arith, f.few, length-words s, i.short);
-        flat = f.wide;
-      }
-
-  pub listed-is : {old page : List ℕ} {r : Written} → Writes (accepted (listed (names_in (take (p.rows * 4 - 0) s) p.names places) (findings_in said (said + told) found))) old page r → Writes (listing warns s) old page r
-  unfolding listing
-  listed-is x =
-      let z : p.rows * 4 - 0 ≡ (places_of (words s)).rows * 4 = omega (arith, ap Places.rows e) in
-      let n : p.names ≡ (places_of (words s)).names = ap Places.names e in
-      rw (f.read, f.fitting) (rw (z, n, f.names, f.lists) at x)
+pub listed-is : {warns : Bool} {s places found : List ℕ} {said told : ℕ} → FoundIn warns s places found said told → {p : Places} → p ≡ places_of (words s) → {old page : List ℕ} {r : Result ℕ Refusal} →
+    Writes (accepted (listed (names_in (take (p.rows * 4) s) p.names places) (findings_in said (said + told) found))) old page r → Writes (listing warns s) old page r
+unfolding listing
+listed-is {s = s} f {p} e x =
+    rw (f.read, f.fitting) (rw (e, f.names, f.lists) at x)

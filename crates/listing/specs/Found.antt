@@ -1,5 +1,5 @@
 -- What was found in an accepted sheet whose answer fits, as its lines go by it: where its names stand, and its findings in words.
-use Rattle.std.specs.Prelude.{ℕ, ◌+◌, ◌*◌, ◌≤◌, ◌≡◌, Bool, true, false, List, length, take}
+use Rattle.std.specs.Prelude.{ℕ, ◌+◌, ◌*◌, ◌≤◌, ◌≡◌, Bool, true, false, List, length, take, get_or}
 use Rattle.words.specs.Words.{words}
 use Rattle.tables.specs.Answer.{names_in}
 use Rattle.sheet.specs.Trailer.{places_of}
@@ -9,7 +9,7 @@ use Rattle.semantics.specs.Lists.{findings}
 use Rattle.lines.specs.Given.{findings_in}
 use Rattle.listing.specs.Listing.{fits}
 
-pub record Found (warns : Bool) (s places found : List ℕ) (said told : ℕ) : Type 0 where
+pub record FoundIn (warns : Bool) (s places found : List ℕ) (said told : ℕ) : Type 0 where
   pub statement : Statement
   pub read : read_sheet s ≡ accepted statement
   pub fitting : fits warns statement ≡ true
@@ -23,3 +23,7 @@ pub record Found (warns : Bool) (s places found : List ℕ) (said told : ℕ) : 
 abbrev pub choice_of : Bool → ℕ
 choice_of true = 1
 choice_of false = 0
+
+-- every number is 0
+pub record AllZero (l : List ℕ) : Type 0 where
+  pub at : (i : ℕ) → get_or l i 0 ≡ 0

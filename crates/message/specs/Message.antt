@@ -1,13 +1,12 @@
 -- The text of a finding, or the refusal that comes first (document 01's table: 1 to 3, then 9).
-use Rattle.std.specs.Prelude.{ℕ, zero, suc, Bool, cond, not, ◌&&◌, List, [], eqb, ltb}
+use Rattle.std.specs.Prelude.{ℕ, zero, suc, Bool, cond, not, ◌&&◌, List, [], eqb, ltb, Option, None, Some}
 use Rattle.tables.specs.Distinct.{same_bytes}
 use Rattle.sheet.specs.Read.{Sheet, accepted, refused, then', unless, read_text}
 use Rattle.texts.specs.Bytes.{bytes}
 use Rattle.texts.specs.Texts.{text_of}
 use Rattle.texts.specs.Codes.{text_for}
 use Rattle.message.specs.Pushes.{push_of, gives}
-use Rattle.texts.specs.declared.codes.Said.{Said}
-use Rattle.texts.specs.declared.codes.Said.TheVariants as said
+use Rattle.texts.specs.declared.Text.{Text}
 
 -- no name is asked for, so a missing one is no cause
 abbrev pub nameless : Sheet (List ℕ) → Sheet (List ℕ)
@@ -29,9 +28,9 @@ abbrev pub starred : ℕ → List ℕ → Bool
 starred code x = eqb code 1001 && same_bytes x (bytes "*")
 
 -- 9: "code, name and details that no push in 000 or 001 can give together"
-unfoldable pub text_if : Said → Bool → ℕ → List ℕ → ℕ → Sheet (List ℕ)
-text_if said.No named code x two = refused 9
-text_if (said.Is t) named code x two = unless 9 (gives (push_of t) named two && not (starred code x)) (accepted (text_of t x two))
+unfoldable pub text_if : Option Text → Bool → ℕ → List ℕ → ℕ → Sheet (List ℕ)
+text_if None named code x two = refused 9
+text_if (Some t) named code x two = unless 9 (gives (push_of t) named two && not (starred code x)) (accepted (text_of t x two))
 
 unfoldable pub message : List ℕ → (code name one two : ℕ) → Sheet (List ℕ)
 message s code name one two = then' (name_text s name) (λ x. text_if (text_for code one) (ltb 0 name) code x two)

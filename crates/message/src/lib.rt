@@ -3,34 +3,60 @@
 
 mod pushes;
 
-ghost use Rattle.std.specs.Prelude.{◌≡◌, ◌≤◌, length};
-ghost use Rattle.sheet.specs.Answer.{found, found_end};
+ghost use Rattle.std.specs.Prelude.{◌≡◌, cond, eqb, IfOk, IfErr};
+ghost use Rattle.refusal.specs.Number.{number_of};
+ghost use Rattle.sheet.specs.Read.{accepted, refused, read_text};
 ghost use Rattle.texts.specs.Codes.{text_for};
 ghost use Rattle.texts.specs.Page.{Writes};
 ghost use Rattle.message.specs.Message.{starred, name_text, text_if, message};
 
-use pushes::{gives, push_of};
+use pushes::push_of;
+use refusal::Refusal;
 use sheet::{Found, find_name};
 use tables::name_at;
-use texts::{Said, Written, text_for, text_len, write_text};
+use texts::{text_for, text_len, write_text};
+
+// The text of the name with the index i.
+fn text_at(s: &[u8], i: u32) -> Result<&[u8], Refusal>
+    ensures text { IfOk result (λ x. read_text s.now i ≡ accepted x.now) }
+    ensures cause { IfErr result (λ refusal. read_text s.now i ≡ refused (number_of refusal)) }
+{
+    match find_name(s, i) {
+        Found::At(p, e) => Ok(name_at(&s[..e], p as usize)),
+        Found::Refused(1) => Err(Refusal::Size),
+        Found::Refused(2) => Err(Refusal::Places),
+        Found::Refused(3) => Err(Refusal::Names),
+        Found::Refused(_) => Err(Refusal::Word),
+    }
+}
+
+// A name that is cited and that the table has not is no question that can be asked.
+fn cited(refusal: Refusal) -> Refusal
+    ensures { number_of result ≡ cond (eqb (number_of refusal) 5) 9 (number_of refusal) }
+{
+    match refusal {
+        Refusal::Word => Refusal::Asked,
+        other => other,
+    }
+}
 
 // The name that is cited as its index + 1, or, for 0, no byte: there, that the table has no name is no cause.
-fn find_text(s: &[u8], name: u32) -> Found
-    ensures { (found s.now result ≡ name_text s.now name) × (found_end result ≤ length s.now) }
+fn find_text(s: &[u8], name: u32) -> Result<&[u8], Refusal>
+    ensures text { IfOk result (λ x. name_text s.now name ≡ accepted x.now) }
+    ensures cause { IfErr result (λ refusal. name_text s.now name ≡ refused (number_of refusal)) }
 {
     if name == 0 {
-        return match find_name(s, 0) {
-            Found::At(_, _) => Found::At(0, 0),
-            Found::Refused(c) => if c == 5 {
-                Found::At(0, 0)
-            } else {
-                Found::Refused(c)
+        return match text_at(s, 0) {
+            Ok(_) => Ok(b""),
+            Err(refusal) => match refusal {
+                Refusal::Word => Ok(b""),
+                other => Err(other),
             },
         };
     }
-    match find_name(s, name - 1) {
-        Found::At(p, e) => Found::At(p, e),
-        Found::Refused(c) => Found::Refused(if c == 5 { 9 } else { c }),
+    match text_at(s, name - 1) {
+        Ok(x) => Ok(x),
+        Err(refusal) => Err(cited(refusal)),
     }
 }
 
@@ -38,40 +64,46 @@ fn find_text(s: &[u8], name: u32) -> Found
 fn is_starred(code: u32, x: &[u8]) -> bool
     ensures { result ≡ starred code x.now }
 {
-    if x.len() == 1 {
-        return (code == 1001) & (x[0] == 42);
-    }
-    false
+    (code == 1001) & (x == b"*".as_slice())
 }
 
 // The text of a finding whose name is x, into the page.
-fn say(code: u32, named: bool, x: &[u8], one: u32, two: u32, page: &mut [u8]) -> Written
+fn say(
+    code: u32,
+    named: bool,
+    x: &[u8],
+    one: u32,
+    two: u32,
+    page: &mut [u8],
+) -> Result<usize, Refusal>
     ensures { Writes (text_if (text_for code one) named code x.now two) page.old page.new result }
 {
-    let Said::Is(t) = text_for(code, one) else {
-        return Written::Refused(9);
+    let Some(text) = text_for(code, one) else {
+        return Err(Refusal::Asked);
     };
-    if !gives(push_of(t), named, two) {
-        return Written::Refused(9);
+    if !push_of(text).allows(named, two) {
+        return Err(Refusal::Asked);
     }
     if is_starred(code, x) {
-        return Written::Refused(9);
+        return Err(Refusal::Asked);
     }
-    if page.len() < text_len(t, x, two) {
-        return Written::Refused(10);
+    if page.len() < text_len(text, x, two) {
+        return Err(Refusal::Page);
     }
-    Written::Bytes(write_text(t, x, two, page))
+    Ok(write_text(text, x, two, page))
 }
 
 // The message of a finding: its code, its name's index + 1 or 0, and its details.
-pub fn message(s: &[u8], code: u32, name: u32, one: u32, two: u32, page: &mut [u8]) -> Written
+pub fn message(
+    s: &[u8],
+    code: u32,
+    name: u32,
+    one: u32,
+    two: u32,
+    page: &mut [u8],
+) -> Result<usize, Refusal>
     ensures { Writes (message s.now code name one two) page.old page.new result }
 {
-    match find_text(s, name) {
-        Found::Refused(c) => Written::Refused(c),
-        Found::At(p, e) => {
-            let x = name_at(&s[..e], p as usize);
-            say(code, 0 < name, x, one, two, page)
-        }
-    }
+    let x = find_text(s, name)?;
+    say(code, 0 < name, x, one, two, page)
 }

@@ -4,6 +4,23 @@ ghost use Rattle.message.specs.Pushes.{push_of, gives};
 
 use texts::Text;
 
+// Kinds and types, as detail two has them.
+#[derive(Clone, Copy, Debug, PartialEq, Eq)]
+enum Kind {
+    Node = 1,
+    Relationship = 2,
+    Path = 3,
+    Value = 4,
+}
+
+#[derive(Clone, Copy, Debug, PartialEq, Eq)]
+enum Type {
+    Bool = 1,
+    Int = 2,
+    String = 4,
+    Path = 10,
+}
+
 // What comes with a text: a name or none; detail two from low to high, but one.
 #[derive(Clone, Copy)]
 pub struct Push {
@@ -13,40 +30,77 @@ pub struct Push {
     pub but: u32,
 }
 
-fn pushed(named: bool, low: u32, high: u32, but: u32) -> Push
-    ensures { result ≡ record { named = named; low = low; high = high; but = but } }
-{
-    Push {
-        named,
-        low,
-        high,
-        but,
-    }
-}
+// Unused details.
+const PLAIN: Push = Push {
+    named: true,
+    low: 0,
+    high: 0,
+    but: 1,
+};
 
-// Unused details, a kind that is not the one the place is for, a type: E2011 is said of Int, Float and String alone.
+// A name and its kind.
+const ANY_KIND: Push = Push {
+    named: true,
+    low: Kind::Node as u32,
+    high: Kind::Value as u32,
+    but: 0,
+};
+
+// A type, and no name.
+const ANY_TYPE: Push = Push {
+    named: false,
+    low: Type::Bool as u32,
+    high: Type::Path as u32,
+    but: 0,
+};
+
+// A kind is not the one that the place is for. E2011 is said of Int, Float and String alone.
+#[tactic(auto, unfolding(crate::specs::Pushes::push_of))]
 pub fn push_of(t: Text) -> Push
     ensures { result ≡ push_of t }
 {
     match t {
-        Text::Unresolved => pushed(true, 0, 0, 1),
-        Text::Shadows => pushed(true, 0, 0, 1),
-        Text::Arithmetic => pushed(true, 1, 3, 0),
-        Text::PropAccess => pushed(true, 3, 3, 0),
-        Text::PathBinder => pushed(true, 1, 4, 3),
-        Text::NodePosition => pushed(true, 1, 4, 1),
-        Text::RelPosition => pushed(true, 1, 4, 2),
-        Text::Index => pushed(false, 1, 10, 0),
-        Text::Slice => pushed(false, 1, 10, 0),
-        Text::IterateOver => pushed(false, 1, 10, 0),
-        Text::ListIterable => pushed(false, 1, 10, 0),
-        Text::BoolPredicate => pushed(false, 2, 4, 0),
+        Text::Unresolved => PLAIN,
+        Text::Shadows => PLAIN,
+        Text::Arithmetic => Push {
+            high: Kind::Path as u32,
+            ..ANY_KIND
+        },
+        Text::PropAccess => Push {
+            low: Kind::Path as u32,
+            high: Kind::Path as u32,
+            ..ANY_KIND
+        },
+        Text::PathBinder => Push {
+            but: Kind::Path as u32,
+            ..ANY_KIND
+        },
+        Text::NodePosition => Push {
+            but: Kind::Node as u32,
+            ..ANY_KIND
+        },
+        Text::RelPosition => Push {
+            but: Kind::Relationship as u32,
+            ..ANY_KIND
+        },
+        Text::Index => ANY_TYPE,
+        Text::Slice => ANY_TYPE,
+        Text::IterateOver => ANY_TYPE,
+        Text::ListIterable => ANY_TYPE,
+        Text::BoolPredicate => Push {
+            low: Type::Int as u32,
+            high: Type::String as u32,
+            ..ANY_TYPE
+        },
     }
 }
 
-// Whether a push comes with a name or none, as is said, and with this detail two.
-pub fn gives(p: Push, named: bool, two: u32) -> bool
-    ensures { result ≡ gives p named two }
-{
-    (p.named == named) & ((p.low <= two) & ((two <= p.high) & (two != p.but)))
+impl Push {
+    // Whether it comes with a name or none, as is said, and with this detail two.
+    #[tactic(auto, unfolding(crate::specs::Pushes::gives))]
+    pub fn allows(self, named: bool, two: u32) -> bool
+        ensures { result ≡ gives self named two }
+    {
+        (self.named == named) & ((self.low <= two) & ((two <= self.high) & (two != self.but)))
+    }
 }

@@ -1,5 +1,5 @@
 -- What the programs print of a sheet, warnings on: its listing, or its refusal (document 01, "Label-desk cases").
-use Rattle.std.specs.Prelude.{ℕ, ◌≤◌, ◌≡◌, true, cond, List, ◌++◌, leb, length, take}
+use Rattle.std.specs.Prelude.{ℕ, true, cond, List, ◌++◌, leb, length}
 use Rattle.words.specs.Decimal.{decimal}
 use Rattle.sheet.specs.Read.{Sheet, accepted, refused}
 use Rattle.texts.specs.Bytes.{bytes}
@@ -20,9 +20,3 @@ on_page (refused c) = refusal_text c
 
 unfoldable pub printed : List ℕ → List ℕ
 printed s = on_page (listing true s)
-
--- the text stands at the front of a page, and r is its length
-pub record Prints (text page : List ℕ) (r : ℕ) : Type 0 where
-  pub front : take r page ≡ text
-  pub long : r ≡ length text
-  pub within : r ≤ page_size

@@ -2,15 +2,14 @@
 #![tactic(auto)]
 
 mod lists;
-mod page;
 
 ghost use Rattle.std.specs.Prelude.{◌≡◌, false, take, IfSome, OnOk};
 ghost use Rattle.std.specs.Io.KnownBytes.{Appends};
 ghost use Rattle.show.specs.Printed.{printed};
 
+use listing::listing;
 use lists::show_lists;
 pub use lists::show_records;
-use page::print_sheet;
 use std::io;
 use std::io::{Read, Write};
 use streams::read_full;
@@ -20,8 +19,10 @@ pub fn show_listing<W: Write>(out: &mut W, s: &[u8]) -> io::Result<()>
     ensures { OnOk result (Appends (W.contents out.old) (W.contents out.new) (printed s.now)) }
 {
     let mut page = [0u8; 65536];
-    let n = print_sheet(s, &mut page);
-    out.write_all(&page[0..n])
+    match listing(s, true, &mut page) {
+        Ok(n) => out.write_all(&page[..n]),
+        Err(refusal) => writeln!(out, "refused {}", u32::from(refusal)),
+    }
 }
 
 // The listing, then the lists, also where only the listing doesn't fit its page.
@@ -39,7 +40,7 @@ pub fn show_input<R: Read, W: Write>(input: &mut R, out: &mut W, lists: bool) ->
     let mut room = [0u8; 8193];
     let n = read_full(input, &mut room)?;
     if lists {
-        return show(out, &room[0..n]);
+        return show(out, &room[..n]);
     }
-    show_listing(out, &room[0..n])
+    show_listing(out, &room[..n])
 }

@@ -1,15 +1,16 @@
--- Texts laid one after the other at the front of lent bytes: what is lent for the next is the rest from where the last one ended.
-use Prim.Native.Nat.{ℕ, ◌+◌, ◌-◌, ◌<◌, ◌≤◌}
-use native.Mathlib.Nat.{not-suc-le-zero, le_of_suc-le-suc}
-use native.Mathlib.Numerals.{add-one}
+-- Texts laid one after the other: what is laid first, then what follows where it ended, is both of them (`lays-then`). What is laid at the
+-- front of the rest of a page, as `&mut page[at..]` lends it, is laid there in the page (`lays-rest`).
+use Prim.Native.Nat.{ℕ, suc, ◌+◌, ◌-◌, ◌≤◌}
+use native.Mathlib.Nat.{add-zero, zero-add}
 use native.Mathlib.Omega.{arith}
-use mathlib.Core.Path.{◌≡◌, refl, ap}
+use mathlib.Core.Path.{◌≡◌, refl, sym, ◌∙◌}
 use mathlib.Core.List.{List, [], ◌∷◌, ◌++◌, append_assoc, append-nil}
-use lib.ListN.{length, get_or, set, take, drop, length-append, length-take, length-drop}
-use lib.Seq.{take-append_seam, drop-append_seam, take-length, drop-length, drop-drop, take-suc}
+use lib.ListN.{length, set, take, drop, length-append, length-take, length-drop}
+use lib.Seq.{sets, length-sets, sets-eq, take-length, drop-length, drop-drop}
 use borrow.Author.Tests.{le-leb}
+use borrow.Rule.Slice.PartMut.{put_mid}
 use Rattle.words.specs.Front.{put_front, put_length}
-use Rattle.texts.specs.Over.{over, Puts}
+use Rattle.texts.specs.Laid.{laid, Lays}
 
 -- the bytes from r on, as `&mut page[r..]` lends them, and the page where they came back
 abbrev pub rest : ℕ → List ℕ → List ℕ
@@ -18,43 +19,47 @@ rest r page = take (length page - r) (drop r page)
 abbrev pub back : ℕ → List ℕ → List ℕ → List ℕ
 back r page part = take r page ++ (part ++ drop (length page - r) (drop r page))
 
-over-then : (a b old : List ℕ) → back (length a) (over a old) (over b (rest (length a) (over a old))) ≡ over (a ++ b) old
-unfolding over
-over-then a b old =
-    let e = length-drop (length a) (a ++ drop (length a) old) in
-    rw (← e, take-append_seam, drop-append_seam, take-length, drop-length, append-nil, append_assoc, length-append, ← drop-drop) refl
+pub lays-none : (old : List ℕ) (at : ℕ) → Lays [] old at old at
+unfolding laid
+lays-none old at = record { next = omega arith; wrote = refl; same = refl }
 
-over-byte : (a old : List ℕ) (b : ℕ) → length a < length old → set (over a old) (length a) b ≡ over (a ++ (b ∷ [])) old
-unfolding over
-over-byte a [] b h = absurd (not-suc-le-zero h)
-over-byte [] (x ∷ old) b h = refl
-over-byte (y ∷ a) (x ∷ old) b h = ap (◌∷◌ y) (over-byte a old b (le_of_suc-le-suc h))
+laid_then : (a b page : List ℕ) (at : ℕ) → laid (laid page at a) (at + length a) b ≡ laid page at (a ++ b)
+unfolding laid
+laid_then [] b page at = rw add-zero
+laid_then (x ∷ a) b page at = let e : at + suc (length a) ≡ suc at + length a = omega arith in rw e (laid_then a b (set page at x) (suc at))
 
-pub keeps-length : {a old new : List ℕ} {r : ℕ} → Puts a old new r → r ≤ length old → length new ≡ length old
-unfolding over
-keeps-length {a} {old} p h = rw (p.wrote, length-append, length-drop) (omega (arith, p.long))
+-- a text after a text
+pub lays-then : {a b old mid new : List ℕ} {at p r : ℕ} → Lays a old at mid p → Lays b mid p new r → Lays (a ++ b) old at new r
+lays-then {a} {b} {old} {at = at} f g = record {
+  next = rw length-append (omega (arith, f.next, g.next));
+  wrote = g.wrote ∙ rw (f.wrote, f.next) (laid_then a b old at);
+  same = g.same ∙ f.same;
+}
 
-pub puts_none : (old : List ℕ) → Puts [] old old 0
-unfolding over
-puts_none old = record { long = refl; wrote = refl }
+-- a text that is copied to its place
+pub lays-copied : (text old : List ℕ) (at k : ℕ) → k ≡ length text → at + length text ≤ length old → Lays text old at (put_mid at k old text) (at + length text)
+unfolding laid
+lays-copied text old at k e h =
+    let same : put_mid at k old text ≡ sets old at text = rw (sets-eq text old at h, e, drop-drop, append_assoc) in
+    record { next = refl; wrote = same; same = rw same (length-sets old at text) }
 
--- the next text begins within the page, and has the room that the page has for it
-pub has_room : {a old mid : List ℕ} {r : ℕ} (b : List ℕ) → Puts a old mid r → r + length b ≤ length old → (r ≤ length mid) × (length b ≤ length (rest r mid))
-has_room b p h = let k = keeps-length p (omega arith) in (omega arith, simp (length-take, length-drop) (omega arith))
+pub front-laid : (text page : List ℕ) → length text ≤ length page → laid page 0 text ≡ text ++ drop (length text) page
+unfolding laid
+front-laid text page h = rw (sets-eq text page 0 (omega arith), zero-add (length text))
 
--- a text after what is laid
-pub then-puts : {a b old mid after : List ℕ} {r q : ℕ} → Puts a old mid r → Puts b (rest r mid) after q → Puts (a ++ b) old (back r mid after) (r + q)
-then-puts {a} {b} {old} p n = record { long = rw length-append (omega (arith, p.long, n.long)); wrote = rw (n.wrote, p.wrote, p.long) (over-then a b old) }
-
--- a byte after what is laid
-pub then-byte : {a old mid : List ℕ} {r : ℕ} (b : ℕ) → Puts a old mid r → r < length old → Puts (a ++ (b ∷ [])) old (set mid r b) (r + 1)
-then-byte {a} {old} b p h = record { long = rw length-append (omega (arith, p.long)); wrote = rw (p.wrote, p.long) (over-byte a old b (omega (arith, p.long))) }
-
--- the next byte of a text that is copied
-pub then_next : (t : List ℕ) {old mid : List ℕ} {i : ℕ} → Puts (take i t) old mid i → i < length t → i < length old → Puts (take (i + 1) t) old (set mid i (get_or t i 0)) (i + 1)
-then_next t {i = i} p h g = let e : take (i + 1) t ≡ take i t ++ (get_or t i 0 ∷ []) = rw add-one (take-suc t i 0 h) in rw e (then-byte (get_or t i 0) p g)
+-- what is laid at the front of the rest of the page is laid there
+pub lays-rest : {text old after : List ℕ} {at q : ℕ} → Lays text (rest at old) 0 after q → at + length text ≤ length old → Lays text old at (back at old after) (at + q)
+unfolding laid
+lays-rest {text} {old} {at = at} p h =
+    let room : length text ≤ length (rest at old) = simp (length-take, length-drop) (omega arith) in
+    let e : back at old (laid (rest at old) 0 text) ≡ sets old at text =
+    rw (front-laid text (rest at old) room, sets-eq text old at h, ← length-drop at old, take-length, drop-length, append-nil, drop-drop, append_assoc) in
+    record { next = rw p.next (omega arith); wrote = rw p.wrote e; same = rw (p.wrote, e) (length-sets old at text) }
 
 -- what words' `put_decimal` answers and leaves, where the text fits
-pub puts-front : {a old new : List ℕ} {r : ℕ} → (r ≡ put_length a old) × (new ≡ put_front a old) → length a ≤ length old → Puts a old new r
-unfolding put_length put_front over
-puts-front {a} {old} e h = let fits = le-leb (length a) (length old) h in record { long = rw fits at e.0; wrote = rw fits at e.1 }
+pub lays-put : {text old new : List ℕ} {r : ℕ} → (r ≡ put_length text old) × (new ≡ put_front text old) → length text ≤ length old → Lays text old 0 new r
+unfolding put_length put_front laid
+lays-put {text} {old} e h =
+    let fits = le-leb (length text) (length old) h in
+    let wrote = rw fits at e.1 ∙ sym (front-laid text old h) in
+    record { next = rw fits at e.0 ∙ sym (zero-add (length text)); wrote = wrote; same = rw wrote (length-sets old 0 text) }

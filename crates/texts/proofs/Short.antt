@@ -16,25 +16,25 @@ entry-short [] k h = h
 entry-short (x ∷ l) zero h = h.0
 entry-short (x ∷ l) (suc k) h = entry-short l k h.1
 
-pub type-short : (t : ℕ) → length (type_name t) ≤ 12
+pub type_short : (t : ℕ) → length (type_name t) ≤ 12
 unfolding type_name
-type-short t = entry-short ([] ∷ type_names) t (omega arith)
+type_short t = entry-short ([] ∷ type_names) t (omega arith)
 
-pub kind-short : (k : ℕ) → length (kind_name k) ≤ 12
+pub kind_short : (k : ℕ) → length (kind_name k) ≤ 12
 unfolding kind_name
-kind-short k = entry-short ([] ∷ kind_names) k (omega arith)
+kind_short k = entry-short ([] ∷ kind_names) k (omega arith)
 
 pub text-short : (t : Text) (x : List ℕ) (two : ℕ) → length (text_of t x two) ≤ length x + 132
 unfolding text_of
 text-short text.Unresolved x two = simp length-append (omega arith)
 text-short text.Shadows x two = simp length-append (omega arith)
-text-short text.Arithmetic x two = simp length-append (omega (arith, kind-short two))
+text-short text.Arithmetic x two = simp length-append (omega (arith, kind_short two))
 text-short text.PropAccess x two = simp length-append (omega arith)
-text-short text.PathBinder x two = simp length-append (omega (arith, kind-short two))
-text-short text.NodePosition x two = simp length-append (omega (arith, kind-short two))
-text-short text.RelPosition x two = simp length-append (omega (arith, kind-short two))
-text-short text.Index x two = simp length-append (omega (arith, type-short two))
-text-short text.Slice x two = simp length-append (omega (arith, type-short two))
-text-short text.IterateOver x two = simp length-append (omega (arith, type-short two))
-text-short text.ListIterable x two = simp length-append (omega (arith, type-short two))
-text-short text.BoolPredicate x two = simp length-append (omega (arith, type-short two))
+text-short text.PathBinder x two = simp length-append (omega (arith, kind_short two))
+text-short text.NodePosition x two = simp length-append (omega (arith, kind_short two))
+text-short text.RelPosition x two = simp length-append (omega (arith, kind_short two))
+text-short text.Index x two = simp length-append (omega (arith, type_short two))
+text-short text.Slice x two = simp length-append (omega (arith, type_short two))
+text-short text.IterateOver x two = simp length-append (omega (arith, type_short two))
+text-short text.ListIterable x two = simp length-append (omega (arith, type_short two))
+text-short text.BoolPredicate x two = simp length-append (omega (arith, type_short two))

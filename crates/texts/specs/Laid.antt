@@ -1,14 +1,9 @@
--- A text laid from a place on in lent bytes, which hold it: all others keep their value. And the bytes that a number stands for.
-use Rattle.std.specs.Prelude.{ℕ, zero, suc, ◌+◌, ◌/◌, ◌%◌, ◌≡◌, List, [], ◌∷◌, length}
+-- A text laid from a place on in lent bytes, which hold it: all others keep their value.
+use Rattle.std.specs.Prelude.{ℕ, ◌+◌, ◌≡◌, List, length}
 use Rattle.std.proofs.lemmas.List.Edits.{sets}
 
 unfoldable pub laid : List ℕ → ℕ → List ℕ → List ℕ
 laid page at text = sets page at text
-
--- the low bytes of a number, n of them, the lowest first
-abbrev pub little : ℕ → ℕ → List ℕ
-little zero w = []
-little (suc n) w = w % 256 ∷ little n (w / 256)
 
 -- the text stands from `at` on in what was lent, and where it ends is the answer
 pub record Lays (text old : List ℕ) (at : ℕ) (new : List ℕ) (r : ℕ) : Type 0 where

@@ -1,6 +1,5 @@
 pub mod Bytes
 pub mod Texts
 pub mod Codes
-pub mod Over
 pub mod Laid
 pub mod Page

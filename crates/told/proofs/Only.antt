@@ -15,8 +15,8 @@ use Rattle.texts.specs.Codes.{of2007, of2008, of5010, unused, text_for}
 use Rattle.texts.specs.Texts.{text_of}
 use Rattle.texts.specs.declared.Text.{Text}
 use Rattle.texts.specs.declared.Text.TheVariants as text
-use Rattle.texts.specs.declared.codes.Said.{Said}
-use Rattle.texts.specs.declared.codes.Said.TheVariants as said
+use Rattle.std.specs.declared.option.Option.{Option}
+use Rattle.std.specs.declared.option.Option.TheVariants as option
 use Rattle.message.specs.declared.pushes.Push.{Push}
 use Rattle.message.specs.Pushes.{push_of, gives}
 use Rattle.message.specs.Message.{name_or9, name_text, starred, text_if, message}
@@ -42,19 +42,19 @@ data Stands : ℕ → ℕ → Text → Type 0 where
   of-iterable : Stands 5011 0 text.ListIterable
 
 -- a test of a number, by its outcome
-test : {x y : Said} {t : Text} {C : Type 0} (m n : ℕ) → (m ≡ n → x ≡ said.Is t → C) → (y ≡ said.Is t → C) → cond (eqb m n) x y ≡ said.Is t → C
+test : {x y : Option Text} {t : Text} {C : Type 0} (m n : ℕ) → (m ≡ n → x ≡ option.Some t → C) → (y ≡ option.Some t → C) → cond (eqb m n) x y ≡ option.Some t → C
 test {x} {y} {t} {C} m n f g = go (eqb m n) (eqb-true m n)
   where
-    go : (b : Bool) → (b ≡ true → m ≡ n) → cond b x y ≡ said.Is t → C
+    go : (b : Bool) → (b ≡ true → m ≡ n) → cond b x y ≡ option.Some t → C
     go true h e = f (h refl) e
     go false h e = g e
 
 module _ (code one : ℕ) (t : Text) where
   -- the detail one is the last that is tested, and the code is known
-  last : (n : ℕ) (u : Text) → Stands code n u → one ≡ n → said.Is u ≡ said.Is t → Stands code one t
+  last : (n : ℕ) (u : Text) → Stands code n u → one ≡ n → option.Some u ≡ option.Some t → Stands code one t
   last n u s e h = let q : u ≡ t = cc in rw (e, ← q) s
 
-  stands : text_for code one ≡ said.Is t → Stands code one t
+  stands : text_for code one ≡ option.Some t → Stands code one t
   unfolding text_for of2007 of2008 of5010 unused
   stands =
       test code 1001 (λ e. test one 0 (last 0 text.Unresolved (rw e of-unresolved)) none)
@@ -65,7 +65,7 @@ module _ (code one : ℕ) (t : Text) where
       (test code 5010 (λ e. test one 1 (last 1 text.Index (rw e of-index)) (test one 2 (last 2 text.Slice (rw e of-slice)) (test one 3 (last 3 text.IterateOver (rw e of-iterate)) none)))
       (test code 5011 (λ e. test one 0 (last 0 text.ListIterable (rw e of-iterable)) none) none))))))
     where
-      none : said.No ≡ said.Is t → Stands code one t
+      none : option.None ≡ option.Some t → Stands code one t
       none h = never (cc)
 
 -- What a push's tests say where they are passed.
@@ -143,10 +143,10 @@ module _ {names : List (List ℕ)} where
   some-push of-iterable c g s = (0, 0, rw (without c g.same) (pushed.iterable (g.low, g.high)))
 
   -- the tests of `text_if`, and of the name before it
-  some-text : {y : List ℕ} (code name one two : ℕ) (x : List ℕ) (o : Said) → text_for code one ≡ o → Cited names name x → text_if o (ltb 0 name) code x two ≡ accepted y → Some names code name one two
+  some-text : {y : List ℕ} (code name one two : ℕ) (x : List ℕ) (o : Option Text) → text_for code one ≡ o → Cited names name x → text_if o (ltb 0 name) code x two ≡ accepted y → Some names code name one two
   unfolding text_if
-  some-text code name one two x said.No t c h = never (cc)
-  some-text {y} code name one two x (said.Is t) e c h = go (gives (push_of t) (ltb 0 name) two && not (starred code x)) refl h
+  some-text code name one two x option.None t c h = never (cc)
+  some-text {y} code name one two x (option.Some t) e c h = go (gives (push_of t) (ltb 0 name) two && not (starred code x)) refl h
     where
       go : (b : Bool) → (gives (push_of t) (ltb 0 name) two && not (starred code x)) ≡ b → unless 9 b (accepted (text_of t x two)) ≡ accepted y → Some names code name one two
       go true q h =

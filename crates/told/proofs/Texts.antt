@@ -22,7 +22,7 @@ use Rattle.texts.specs.Codes.{of2007, of2008, of5010, unused, text_for}
 use Rattle.texts.specs.Texts.{text_of}
 use Rattle.texts.specs.declared.Text.{Text}
 use Rattle.texts.specs.declared.Text.TheVariants as text
-use Rattle.texts.specs.declared.codes.Said.TheVariants as said
+use Rattle.std.specs.declared.option.Option.TheVariants as option
 use Rattle.message.specs.declared.pushes.Push.{Push}
 use Rattle.message.specs.Pushes.{push_of, gives}
 use Rattle.message.specs.Message.{nameless, name_text, starred, text_if, message}
@@ -77,7 +77,7 @@ module _ (s : List ℕ) (st : Statement) (e : read_sheet s ≡ accepted st) wher
       go false x = refl
 
   -- a finding whose code and detail one stand for t
-  says : (t : Text) (code a b name one two : ℕ) → text_for code one ≡ said.Is t → name_text s name ≡ accepted (name_of st.names name) → ltb 0 name ≡ (push_of t).named → (push_of t).low ≤ two →
+  says : (t : Text) (code a b name one two : ℕ) → text_for code one ≡ option.Some t → name_text s name ≡ accepted (name_of st.names name) → ltb 0 name ≡ (push_of t).named → (push_of t).low ≤ two →
       two ≤ (push_of t).high → (two ≡ (push_of t).but → ⊥) → starred code (name_of st.names name) ≡ false → Told s st.names (finding code a b name one two)
   unfolding message_of front_of message text_if line line_for
   says t code a b name one two h g n low high but star = record {
@@ -87,7 +87,7 @@ module _ (s : List ℕ) (st : Statement) (e : read_sheet s ≡ accepted st) wher
   }
 
   -- with a name, and without one
-  module _ (t : Text) (code a b one two : ℕ) (h : text_for code one ≡ said.Is t) (low : (push_of t).low ≤ two) (high : two ≤ (push_of t).high) (but : two ≡ (push_of t).but → ⊥) where
+  module _ (t : Text) (code a b one two : ℕ) (h : text_for code one ≡ option.Some t) (low : (push_of t).low ≤ two) (high : two ≤ (push_of t).high) (but : two ≡ (push_of t).but → ⊥) where
     says-named : (x : ℕ) → (push_of t).named ≡ true → x < length st.names → starred code (get_or st.names x []) ≡ false → Told s st.names (finding code a b (suc x) one two)
     says-named x n i star = says t code a b (suc x) one two h (named-text x i) (rw n (lt-ltb 0 (suc x) (omega arith))) low high but star
 

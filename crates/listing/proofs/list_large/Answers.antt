@@ -1,27 +1,24 @@
 -- Each size has scratch for every word, and a sheet that is longer is refused by cause 1.
 use native.Mathlib.Omega.{arith}
+use mathlib.Core.Path.{refl}
 use Rattle.words.proofs.Words.{length-words}
 use Rattle.sheet.proofs.Placing.{too_long}
 use Rattle.listing.proofs.Opened.{refused-listing, unplaced}
 use Rattle.listing.proofs.list_large.Goals as goal
 
-pub list_256-requires : goal.list_256-requires
-list_256-requires c =
-    omega (arith, length-words c.args.s.now)
+pub list_with-requires : goal.list_with-requires
+list_with-requires c = (omega (arith, length-words c.args.s.now), omega arith)
 
-pub list_512-requires : goal.list_512-requires
-list_512-requires c =
-    omega (arith, length-words c.args.s.now)
+pub list_with-requires-in-1025-to-2048 : goal.list_with-requires-in-1025-to-2048
+list_with-requires-in-1025-to-2048 c = (omega (arith, length-words c.args.s.now), omega arith)
 
-pub list_1024-requires : goal.list_1024-requires
-list_1024-requires c =
-    omega (arith, length-words c.args.s.now)
+pub list_with-requires-in-2049-to-4096 : goal.list_with-requires-in-2049-to-4096
+list_with-requires-in-2049-to-4096 c = (omega (arith, length-words c.args.s.now), omega arith)
 
-pub list_2048-requires : goal.list_2048-requires
-list_2048-requires c =
-    omega (arith, length-words c.args.s.now)
+pub list_with-requires-in-4097-to-8192 : goal.list_with-requires-in-4097-to-8192
+list_with-requires-in-4097-to-8192 c = (omega (arith, length-words c.args.s.now), omega arith)
 
-pub returns : goal.returns
-returns c =
+pub returns-in_default : goal.returns-in_default
+returns-in_default c =
     let a = c.args in
-    (refused-listing a.warns a.s.now a.page.now (unplaced a.s.now (too_long a.s.now c.if-s-le8192.false)), omega arith)
+    (refused-listing a.warns a.s.now a.page.now refl (unplaced a.s.now (too_long a.s.now (omega arith))), omega arith)

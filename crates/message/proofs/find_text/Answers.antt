@@ -1,41 +1,49 @@
--- What is found is the definition's text; at the byte 0 of no bytes stands no text.
+-- What is found is the definition's text.
 use Prim.Native.Nat.{suc, ◌-◌}
-use mathlib.Core.Path.{◌≡◌}
+use mathlib.Core.Path.{◌≡◌, refl}
+use mathlib.Core.Bool.{false}
 use native.Mathlib.Omega.{arith}
-use borrow.Author.Tests.{ne_eqb}
-use Rattle.tables.specs.Name.{text_at, name_at}
+use lib.Dec.{eqb}
+use Rattle.refusal.specs.Number.{number_of}
+use Rattle.refusal.specs.declared.Refusal.{Refusal}
+use Rattle.refusal.specs.declared.Refusal.TheVariants.{Size, Places, Names, Bindings, Word, Depth, Unbound, Entries, Asked, Page, Room}
 use Rattle.message.specs.Message.{name_text}
 use Rattle.message.proofs.find_text.Goals as goal
 
-pub returns-in-At : goal.returns-in-At
-unfolding name_text name_at text_at
-returns-in-At c =
-    (rw (c.if-name-eq0.true, ← c.find_name.ensures.reads, c.in-At.is), omega arith)
+not-five : (r : Refusal) → (r ≡ Word → ⊥) → eqb (number_of r) 5 ≡ false
+not-five Size h = refl
+not-five Places h = refl
+not-five Names h = refl
+not-five Bindings h = refl
+not-five Word h = absurd (h refl)
+not-five Depth h = refl
+not-five Unbound h = refl
+not-five Entries h = refl
+not-five Asked h = refl
+not-five Page h = refl
+not-five Room h = refl
 
-pub returns-then-c-eq5 : goal.returns-then-c-eq5
-unfolding name_text name_at text_at
-returns-then-c-eq5 c =
-    (rw (c.if-name-eq0.true, ← c.find_name.ensures.reads, c.in-Refused.is, c.if-c-eq5.true), omega arith)
+pub returns-in-Ok-clause-text : goal.returns-in-Ok-clause-text
+unfolding name_text
+returns-in-Ok-clause-text c = rw (c.if-name-eq0.true, c.in-Ok.ensures.text)
 
-pub returns-else-c-eq5 : goal.returns-else-c-eq5
-unfolding name_text name_at text_at
-returns-else-c-eq5 c =
-    (rw (c.if-name-eq0.true, ← c.find_name.ensures.reads, c.in-Refused.is, ne_eqb c.in-Refused.c 5 c.if-c-eq5.false), omega arith)
+pub returns-in-Word-clause-text : goal.returns-in-Word-clause-text
+unfolding name_text
+returns-in-Word-clause-text c = rw (c.if-name-eq0.true, c.in-Err.ensures.cause, c.in-Word.is)
 
-pub returns-in-At-find_name : goal.returns-in-At-find_name
-unfolding name_text name_at text_at
-returns-in-At-find_name c =
+pub returns-in_default : goal.returns-in_default
+unfolding name_text
+returns-in_default c =
+    record { text = tt; cause = rw (c.if-name-eq0.true, c.in-Err.ensures.cause, not-five c.in-Err.refusal c.in_default.not-Word) }
+
+pub returns-in-Ok-text_at-clause-text : goal.returns-in-Ok-text_at-clause-text
+unfolding name_text
+returns-in-Ok-text_at-clause-text c =
     let next : c.args.name ≡ suc (c.args.name - 1) = omega arith in
-    (rw (next, ← c.find_name-2.ensures.reads, c.in-At-find_name.is), rw c.in-At-find_name.is at c.find_name-2.ensures.within)
+    rw (next, c.in-Ok-text_at.ensures.text)
 
-pub returns-then-c-eq5-2 : goal.returns-then-c-eq5-2
-unfolding name_text name_at text_at
-returns-then-c-eq5-2 c =
+pub returns-in-Err-text_at-clause-cause : goal.returns-in-Err-text_at-clause-cause
+unfolding name_text
+returns-in-Err-text_at-clause-cause c =
     let next : c.args.name ≡ suc (c.args.name - 1) = omega arith in
-    (rw (next, ← c.find_name-2.ensures.reads, c.in-Refused-find_name.is, c.if-c-eq5-2.true), omega arith)
-
-pub returns-else-c-eq5-2 : goal.returns-else-c-eq5-2
-unfolding name_text name_at text_at
-returns-else-c-eq5-2 c =
-    let next : c.args.name ≡ suc (c.args.name - 1) = omega arith in
-    (rw (next, ← c.find_name-2.ensures.reads, c.in-Refused-find_name.is, ne_eqb c.in-Refused-find_name.c 5 c.if-c-eq5-2.false), omega arith)
+    rw (next, c.in-Err-text_at.ensures.cause, c.cited.ensures)

@@ -1,38 +1,20 @@
 -- A name that is not found refuses as it does, and else the text is said of it.
-use mathlib.Core.Path.{sym}
-use borrow.Author.Rules.{rules}
-use lib.Seq.{length-take-le}
+use mathlib.Core.Path.{◌≡◌, ap}
+use Rattle.std.specs.Prelude.{Result, Ok, Err, IsErrAnd}
 use Rattle.texts.proofs.Giving.{gives-refusal}
 use Rattle.message.specs.Message.{message}
 use Rattle.message.proofs.message.Goals as goal
 
-pub find_text-requires : goal.find_text-requires
-unfolding message
-find_text-requires c =
-    search rules
+handed : {A E : Type 0} (r : Result A E) (e : E) → IsErrAnd r (λ f. f ≡ e) → r ≡ Err e
+handed (Ok a) e h = absurd h
+handed (Err f) e h = ap Err h
 
-pub slice_bounds-name_at-end : goal.slice_bounds-name_at-end
+pub returns-in_err-x : goal.returns-in_err-x
 unfolding message
-slice_bounds-name_at-end c =
-    let h = rw c.in-At.is at c.find_text.ensures.1 in
-    sym (length-take-le c.in-At.e c.args.s.now h)
+returns-in_err-x c =
+    let e : c.from_residual.result ≡ Err c.in_err-x.field-0.0 = handed c.from_residual.result c.in_err-x.field-0.0 c.from_residual.ensures.1 in
+    rw (c.in_err-x.ensures.cause, e) (gives-refusal c.in_err-x.field-0.0 _)
 
-pub name_at-x-requires : goal.name_at-x-requires
+pub returns : goal.returns
 unfolding message
-name_at-x-requires c =
-    search rules
-
-pub say-requires : goal.say-requires
-unfolding message
-say-requires c =
-    search rules
-
-pub returns-in-Refused : goal.returns-in-Refused
-unfolding message
-returns-in-Refused c =
-    rw (← c.find_text.ensures.0, c.in-Refused.is) (gives-refusal _ _)
-
-pub returns-in-At : goal.returns-in-At
-unfolding message
-returns-in-At c =
-    rw (← c.find_text.ensures.0, c.in-At.is) (rw c.name_at-x.ensures at c.say.ensures)
+returns c = rw c.in_ok-x.ensures.text c.say.ensures

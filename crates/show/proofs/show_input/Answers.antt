@@ -1,5 +1,5 @@
 -- What was read is the front of what the reader had, so its listing is printed.
-use Rattle.std.proofs.Common.{◌≡◌, ℕ, ◌-◌, List, take, Result, Ok, Err, None, Some, OnOk, IfSome, arith, ap, subst, ◌∙◌}
+use Rattle.std.proofs.Common.{◌≡◌, ℕ, List, take, Result, Ok, Err, None, Some, OnOk, IfSome, refl, ap, subst, ◌∙◌}
 use Rattle.std.specs.Io.KnownBytes.{Appends}
 use Rattle.std.specs.declared.option.Option.{Option}
 use Rattle.show.specs.Printed.{printed}
@@ -12,9 +12,6 @@ read_front (Ok u) None Q f k t q = tt
 read_front (Ok u) (Some xs) Q f k t q = subst Q (t ∙ f ∙ ap (λ m. take m xs) k) q
 
 pub returns : goal.returns
-returns g c =
-    let n = c.in_ok-n.n in
-    let same : n - 0 ≡ n = omega arith in
-    λ no. read_front c.show_listing.result (g.R.Read.remaining c.args.input.now)
+returns g c = λ no. read_front c.show_listing.result (g.R.Read.remaining c.args.input.now)
     (λ s. Appends (g.W.Write.contents c.args.out.now) (g.W.Write.contents c.show_listing.new.out) (printed s))
-    c.in_ok-n.ensures.front c.read_full.auto.room (ap (λ m. take m c.read_full.new.room) same) c.show_listing.ensures
+    c.in_ok-n.ensures.front c.read_full.auto.room refl c.show_listing.ensures

@@ -1,7 +1,0 @@
--- The byte is laid where the digits ended.
-use Rattle.texts.proofs.Run.{lays-then}
-use Rattle.lines.proofs.lay_number.Goals as goal
-
-pub returns : goal.returns
-returns c =
-    lays-then c.lay_digits-p.ensures c.lay.ensures

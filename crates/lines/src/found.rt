@@ -1,0 +1,48 @@
+// The findings of a sheet, as a run over it leaves them.
+ghost use Rattle.std.specs.Prelude.{ℕ, ◌*◌, ◌^◌, ◌<◌, ◌≤◌, length, get_or};
+
+use finding::Finding;
+
+// So many findings, no more than a sheet has words, as flat words, six each: the first ones stand from the front of the words on, the others
+// from their end back.
+#[derive(Clone, Copy)]
+pub struct Found<'a> {
+    pub words: &'a [u32],
+    pub front: usize,
+    pub count: usize,
+    pub ghost few: { count ≤ 2048 },
+    pub ghost flat: { count * 6 ≤ length words.now },
+    pub ghost small: { (i : ℕ) → get_or words.now i 0 < 2 ^ 32 },
+}
+
+impl<'a> Found<'a> {
+    ghost use Rattle.std.specs.Prelude.{◌≡◌, ◌+◌};
+    ghost use Rattle.lines.specs.Given.{word_of, nth};
+
+    // The word where the finding numbered i begins.
+    fn word_of(&self, i: usize) -> usize
+        requires { i < self.now.count }
+        ensures within { result + 6 ≤ length self.now.words.now }
+        ensures value { result ≡ word_of self.now.front self.now.words.now i }
+    {
+        if i < self.front {
+            return i * 6;
+        }
+        self.words.len() - (i - self.front + 1) * 6
+    }
+
+    pub fn nth(&self, i: usize) -> Finding
+        requires { i < self.now.count }
+        ensures { result ≡ nth self.now i }
+    {
+        let at = self.word_of(i);
+        Finding {
+            code: self.words[at],
+            start: self.words[at + 1],
+            end: self.words[at + 2],
+            name: self.words[at + 3],
+            one: self.words[at + 4],
+            two: self.words[at + 5],
+        }
+    }
+}

@@ -1,7 +1,0 @@
--- Each number is laid where the last one ended.
-use Rattle.texts.proofs.Run.{lays-then}
-use Rattle.texts.proofs.pieces.variable.Goals as goal
-
-pub returns : goal.returns
-returns c =
-    lays-then c.lay-p.ensures c.lay.ensures
