@@ -4,9 +4,10 @@
 #![tactic(auto)]
 
 ghost use Rattle.std.specs.Prelude.{◌≤◌, length};
-ghost use Rattle.checked.specs.Ran.{lent, Ran};
+ghost use Rattle.checker.specs.Checked.{lent};
+ghost use Rattle.checked.specs.Ran.{marked, Ran};
 
-use checker::{Checked, findings_in};
+use checker::{Counts, Lists, findings_in};
 use finding::{Finding, load_all};
 use records::check;
 use show::show_records;
@@ -16,71 +17,31 @@ use std::io::Write;
 // A word of the marker record, which is no finding's code.
 const MARK: u32 = 7;
 
-// The check call with the first n entries of a list of 2,048 records f; then all 2,048 of them, as flat words.
-fn run(
-    s: &[u8],
-    n: usize,
-    f: Finding,
-    scopes: &mut [u32],
-    bindings: &mut [u32],
-    carried: &mut [u32],
-    recorded: &mut [u32],
-    flat: &mut [u32],
-) -> Checked
-    requires { (n ≤ 2048) × (12288 ≤ length flat.old) }
-    ensures { Ran s.now (lent scopes.old bindings.old carried.old recorded.old n f) n f result flat.old flat.new }
+// The check call with the first n entries of a list of 2,048 records f; then all 2,048 of them, as flat words in place of findings.
+fn run(s: &[u8], n: usize, f: Finding, lists: &mut Lists<u32>) -> Result<Counts, u32>
+    requires few { n ≤ 2048 }
+    requires room { 12288 ≤ length lists.old.findings.now }
+    ensures { Ran s.now (marked (lent lists.old) n f) n f result lists.old.findings.now lists.new.findings.now }
 {
     let mut list = [f; 2048];
-    let c = check(
-        s,
-        true,
-        scopes,
-        bindings,
-        carried,
-        recorded,
-        &mut list[0..n],
-    );
-    load_all(flat, &list, 2048);
-    c
-}
-
-// Whether the entry at place i is the marker.
-fn is_marker(flat: &[u32], i: usize) -> bool {
-    if flat.len() / 6 <= i {
-        return false;
-    }
-    let k = i * 6;
-    flat[k] == MARK
-        && flat[k + 1] == MARK
-        && flat[k + 2] == MARK
-        && flat[k + 3] == MARK
-        && flat[k + 4] == MARK
-        && flat[k + 5] == MARK
-}
-
-// 1 if the entry at place i is the marker, else 0.
-fn marker_at(flat: &[u32], i: usize) -> usize
-    ensures { result ≤ 1 }
-{
-    if is_marker(flat, i) {
-        return 1;
-    }
-    0
+    let mut records = Lists {
+        scopes: lists.scopes,
+        bindings: lists.bindings,
+        carried: lists.carried,
+        recorded: lists.recorded,
+        findings: &mut list[0..n],
+    };
+    let answer = check(s, true, &mut records);
+    load_all(lists.findings, &list, 2048);
+    answer
 }
 
 // How many of the entries from a place on are the marker.
 fn markers(flat: &[u32], from: usize) -> usize {
-    let mut n = 0;
-    for i in from..2048 {
-        n += marker_at(flat, i);
-    }
-    n
-}
-
-fn line<W: Write>(out: &mut W, name: &[u8], n: u64) -> io::Result<()> {
-    out.write_all(name)?;
-    streams::print_decimal(out, n)?;
-    out.write_all(b"\n")
+    flat.chunks_exact(6)
+        .skip(from)
+        .filter(|entry| **entry == [MARK; 6])
+        .count()
 }
 
 // A check call with a list of n records.
@@ -91,30 +52,21 @@ fn report<W: Write>(out: &mut W, s: &[u8], n: usize) -> io::Result<()>
     let mut bindings = [0u32; 12288];
     let mut carried = [0u32; 6144];
     let mut recorded = [0u32; 10240];
-    let mut flat = [0u32; 12288];
-    let marker = Finding {
-        code: MARK,
-        start: MARK,
-        end: MARK,
-        name: MARK,
-        one: MARK,
-        two: MARK,
+    let mut findings = [0u32; 12288];
+    let mut lists = Lists {
+        scopes: &mut scopes,
+        bindings: &mut bindings,
+        carried: &mut carried,
+        recorded: &mut recorded,
+        findings: &mut findings,
     };
-    let c = run(
-        s,
-        n,
-        marker,
-        &mut scopes,
-        &mut bindings,
-        &mut carried,
-        &mut recorded,
-        &mut flat,
-    );
-    match c {
-        Checked::Is(k) => show_records(out, &flat, k.findings)?,
-        Checked::Refused(cause) => line(out, b"refused ", cause as u64)?,
+    let answer = run(s, n, Finding::from([MARK; 6]), &mut lists);
+    match answer {
+        Ok(counts) => show_records(out, &findings, counts.findings)?,
+        Err(cause) => writeln!(out, "refused {cause}")?,
     }
-    line(out, b"untouched ", markers(&flat, findings_in(c)) as u64)
+    let untouched = markers(&findings, findings_in(answer));
+    writeln!(out, "untouched {untouched}")
 }
 
 fn main(rt: HostRuntime) -> io::Result<()> {

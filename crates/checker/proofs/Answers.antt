@@ -1,12 +1,12 @@
 -- The answer of the whole call and the lists that it leaves, by what the sheet is and what was heard of it.
---     refused-answer, long-answer, short-answer   a refusal, and the lists as they were
+--     refused-answer, handed-on, long-answer, short-answer   a refusal, and the lists as they were
 --     tested                                      what the code tests is the definition's test
 --     same-fits, again-asks                       lists that fit when a sheet is run again
 --     copied                                      the carried list, from the words where it was stored first
 --     fill-asks, full-answer                      lists that have room are filled, and so are the definition's
 use Prim.Native.Nat.{ℕ, ◌*◌, ◌<◌, ◌≤◌}
 use native.Mathlib.Omega.{arith}
-use mathlib.Core.Path.{◌≡◌, sym, ◌∙◌, ap, subst}
+use mathlib.Core.Path.{◌≡◌, refl, sym, ◌∙◌, ap, subst}
 use mathlib.Core.Bool.{Bool, true, false}
 use mathlib.Core.List.{List, [], ◌++◌, flat_map}
 use lib.ListN.{length, take}
@@ -22,41 +22,43 @@ use Rattle.semantics.specs.Log.{Event, Bound, Finding, scopes_in, answers_in, fi
 use Rattle.semantics.specs.World.{kind_of, world_of}
 use Rattle.semantics.specs.Resolve.{log}
 use Rattle.semantics.specs.Lists.{puts, notes, scopes, bindings, carried_list, recorded, findings}
+use Rattle.std.specs.Prelude.{Result, Ok, Err, IsErrAnd}
 use Rattle.theorems.specs.Woven.{written, woven}
 use Rattle.theorems.proofs.Woven.{scopes-written, answers-written, finds-written, woven-log}
 use Rattle.finding.specs.Flat.{finding_words}
 use Rattle.entries.specs.Filled.{filled, scope_words, binding_words, carried_words, recorded_words, with_scopes, with_bindings, with_carried, with_recorded, with_findings}
 use Rattle.entries.specs.Adding.{Holds}
 use Rattle.entries.proofs.Filling.{length-flat, length-filled, sized-carried}
-use Rattle.sheet_walk.specs.Runs.{Scratch, Sized}
-use Rattle.lists_fill.specs.Said.{id_in, events_in, told_in}
-use Rattle.lists_fill.specs.Weaving.{woven_in}
-use Rattle.checker.specs.Checked.{Lent, lent, counts_of, filled_by, answer, left, fits, answer_in, left_in, Answers}
-use Rattle.checker.specs.Filling.{fitting, uses_in, Fitting, Filling, Again}
+use Rattle.lists_fill.specs.Said.{told_in}
+use Rattle.checker.specs.Checked.{Lent, counts_of, filled_by, answer, left, fits, answer_in, left_in, Answers}
+use Rattle.checker.specs.Filling.{fitting, all_events, all_bound, Clean, IsSized, Heard, Fitting, Filling, Again}
 use Rattle.checker.specs.declared.Counts.{Counts}
 use Rattle.checker.specs.declared.Tally.{Tally}
-use Rattle.checker.specs.declared.Checked.TheVariants as checked
+use Rattle.checker.specs.declared.Scratch.{Scratch}
 use Rattle.checker.proofs.Fits.{fits_by, Long, long}
-use Rattle.checker.proofs.Hearing.{Heard}
 use Rattle.checker.proofs.Reading.{carrieds-back}
 
-module _ (warns : Bool) (s : List ℕ) (old : Lent) (room : ℕ) where
-  pub refused-answer : {c : ℕ} → read_sheet s ≡ refused c → Answers warns s old room (checked.Refused c) old
+module _ (warns : Bool) (s : List ℕ) (old : Lent ℕ) (room : ℕ) where
+  pub refused-answer : {c : ℕ} → read_sheet s ≡ refused c → Answers warns s old room (Err c) old
   unfolding answer_in left_in answer left
   refused-answer e = record { counts = rw e; lists = rw e }
 
-  pub long-answer : max_bytes < length s → Answers warns s old room (checked.Refused 1) old
+  pub handed-on : {r : Result Counts ℕ} {c : ℕ} → IsErrAnd r (λ e. e ≡ c) → read_sheet s ≡ refused c → Answers warns s old room r old
+  handed-on {r = Ok n} h e = absurd h
+  handed-on {r = Err d} h e = rw h (refused-answer e)
+
+  pub long-answer : max_bytes < length s → Answers warns s old room (Err 1) old
   unfolding read_sheet
   long-answer h = refused-answer (rw (too_long s h))
 
-  pub short-answer : {st : Statement} → read_sheet s ≡ accepted st → fits (length (words s)) (counts_of warns st) old room ≡ false → Answers warns s old room (checked.Refused 8) old
+  pub short-answer : {st : Statement} → read_sheet s ≡ accepted st → fits (length (words s)) (counts_of warns st) old room ≡ false → Answers warns s old room (Err 8) old
   unfolding answer_in left_in answer left
   short-answer e f = record { counts = rw (e, f); lists = rw (e, f) }
 
-pub same-fits : (warns : Bool) (s : List ℕ) (old : Lent) (room : ℕ) {a b : Statement} → read_sheet s ≡ accepted a → read_sheet s ≡ accepted b → fits (length (words s)) (counts_of warns a) old room ≡ true → fits (length (words s)) (counts_of warns b) old room ≡ true
+pub same-fits : (warns : Bool) (s : List ℕ) (old : Lent ℕ) (room : ℕ) {a b : Statement} → read_sheet s ≡ accepted a → read_sheet s ≡ accepted b → fits (length (words s)) (counts_of warns a) old room ≡ true → fits (length (words s)) (counts_of warns b) old room ≡ true
 same-fits warns s old room {a} {b} p q f = let e : a ≡ b = cc in subst (λ (st : Statement). fits (length (words s)) (counts_of warns st) old room ≡ true) e f
 
-module _ {warns : Bool} {s ids tab found was has : List ℕ} {t : Tally} (h : Heard warns s ids tab found was has t) where
+module _ {warns : Bool} {s was has : List ℕ} {t : Tally} {a : Scratch} (h : Heard warns s t a was has) where
   pub copied : {old new : List ℕ} → t.taken * 3 ≤ length was → t.taken * 3 ≤ length old → new ≡ filled old (take (t.taken * 3) has) → Holds carried_words old new t.taken (carried_list warns h.statement)
   unfolding filled
   copied {old} {new} a b e =
@@ -67,10 +69,10 @@ module _ {warns : Bool} {s ids tab found was has : List ℕ} {t : Tally} (h : He
       let wrote : new ≡ filled old ws = e ∙ ap (filled old) same in
       record { count = h.taken; wrote = wrote; kept = ap length wrote ∙ length-filled old ws (omega arith) }
 
-  pub tested : (old : Lent) (room : ℕ) {n : ℕ} {b : Bool} → n ≡ length (words s) → b ≡ fitting n t.made t.taken old room → b ≡ fits (length (words s)) (counts_of warns h.statement) old room
-  tested old room e b = b ∙ ap (λ (n : ℕ). fitting n t.made t.taken old room) e ∙ fits_by warns s h.statement h.read old room h.made h.taken
+  pub tested : (old : Lent ℕ) (room : ℕ) {n : ℕ} {b : Bool} → n ≡ length (words s) → b ≡ fitting n t.made t.taken old room → fits (length (words s)) (counts_of warns h.statement) old room ≡ b
+  tested old room e b = sym (b ∙ ap (λ (n : ℕ). fitting n t.made t.taken old room) e ∙ fits_by warns s h.statement h.read old room h.made h.taken)
 
-  module _ (old : Lent) (room : ℕ) (f : fits (length (words s)) (counts_of warns h.statement) old room ≡ true) where
+  module _ (old : Lent ℕ) (room : ℕ) (f : fits (length (words s)) (counts_of warns h.statement) old room ≡ true) where
     pub lengths : Long (length (words s)) (counts_of warns h.statement) old
     lengths = long (length (words s)) (counts_of warns h.statement) old room f
 
@@ -79,8 +81,8 @@ module _ {warns : Bool} {s ids tab found was has : List ℕ} {t : Tally} (h : He
     carried-fits = omega (arith, lengths.carried, h.taken)
 
     -- the scratch keeps its lengths
-    pub again-asks : {places₀ ids₀ tab₀ vis₀ found₀ held₀ places vis held : List ℕ} → Scratch (length (words s)) places₀ ids₀ tab₀ vis₀ found₀ held₀ → Sized places₀ ids₀ tab₀ vis₀ found₀ held₀ places ids tab vis found held → Again warns s places ids tab vis found held old room
-    again-asks x z =
+    pub again-asks : (b : Scratch) → Clean (length (words s)) b → IsSized b a → Again warns s a old room
+    again-asks b x z =
         record {
           statement = h.statement;
           read = h.read;
@@ -94,23 +96,28 @@ module _ {warns : Bool} {s ids tab found was has : List ℕ} {t : Tally} (h : He
         }
 
     module _ {c : List ℕ} (g : Holds carried_words old.carried c t.taken (carried_list warns h.statement)) where
-      pub fill-asks : {vis : List ℕ} → 1 ≤ length vis → Fitting (words s) tab found t ids vis (lent old.scopes old.bindings c old.recorded old.findings)
+      abbrev pub between : Lent ℕ
+      between = record { scopes = old.scopes; bindings = old.bindings; carried = c; recorded = old.recorded; findings = old.findings }
+
+      pub fill-asks : 1 ≤ length a.vis.now → Fitting (words s) t a between
       fill-asks v =
           let l = lengths in
           record {
             trailed = h.trailed;
             named = h.named;
-            weavable = record { fine = h.fine; told = omega (arith, h.wide); lent = omega (arith, g.kept, carried-fits); stamped = v };
+            fine = h.fine;
+            lent = omega (arith, g.kept, carried-fits);
+            stamped = v;
             wide = h.wide;
             scopes = omega (arith, h.few, l.scopes);
             recorded = omega (arith, h.few, l.recorded);
             findings = omega (arith, h.few, l.findings);
           }
 
-      all-bound : woven_in (words s) tab t.said found t.taken c (id_in (uses_in (words s) ids)) ≡ bindings warns h.statement
+      same-bindings : all_bound (words s) t a c ≡ bindings warns h.statement
       unfolding bindings carried_list
-      all-bound =
-          let es = events_in (id_in (uses_in (words s) ids)) t.said found in
+      same-bindings =
+          let es = all_events (words s) t a in
           let cs = carrieds_of t.taken c in
           let back : cs ≡ carried_list warns h.statement = rw (g.wrote, g.count) (carrieds-back (carried_list warns h.statement) old.carried) in
           let k = kind_of (world_of warns h.statement) in
@@ -119,28 +126,28 @@ module _ {warns : Bool} {s ids tab found was has : List ℕ} {t : Tally} (h : He
           ∙ ap (λ (l : List Carried). puts (woven k (written (log warns h.statement)) l) []) back
           ∙ ap (λ (l : List Bound). puts l []) (sym (woven-log warns h.statement))
 
-      module _ {n : Counts} {new : Lent} (e : new.carried ≡ c) (q : Filling (words s) tab found t (id_in (uses_in (words s) ids)) (lent old.scopes old.bindings c old.recorded old.findings) n new) where
-        same-scopes : scopes_in (events_in (id_in (uses_in (words s) ids)) t.said found) ≡ scopes warns h.statement
+      module _ {n : Counts} {new : Lent ℕ} (q : Filling (words s) t a between n new) where
+        same-scopes : scopes_in (all_events (words s) t a) ≡ scopes warns h.statement
         unfolding scopes
         same-scopes = ap scopes_in h.log ∙ scopes-written (log warns h.statement)
 
-        same-recorded : notes (answers_in (events_in (id_in (uses_in (words s) ids)) t.said found)) [] ≡ recorded warns h.statement
+        same-recorded : notes (answers_in (all_events (words s) t a)) [] ≡ recorded warns h.statement
         unfolding recorded
         same-recorded = ap (λ l. notes l []) (ap answers_in h.log ∙ answers-written (log warns h.statement))
 
-        same-findings : finds_in (events_in (id_in (uses_in (words s) ids)) t.said found) ++ told_in t.told found ≡ findings warns h.statement
+        same-findings : finds_in (all_events (words s) t a) ++ told_in t.told a.found.now ≡ findings warns h.statement
         unfolding findings
         same-findings =
-            ap (λ (l : List Finding). l ++ told_in t.told found) (ap finds_in h.log ∙ finds-written (log warns h.statement))
+            ap (λ (l : List Finding). l ++ told_in t.told a.found.now) (ap finds_in h.log ∙ finds-written (log warns h.statement))
             ∙ ap (λ (l : List Finding). finds_in (log warns h.statement) ++ l) h.kinds
 
-        pub full-answer : Answers warns s old room (checked.Is n) new
+        pub full-answer : Answers warns s old room (Ok n) new
         unfolding answer_in left_in answer left counts_of filled_by with_scopes with_bindings with_carried with_recorded with_findings
         full-answer =
             let x = subst (Holds scope_words old.scopes new.scopes n.scopes) same-scopes q.scopes in
-            let b = subst (Holds binding_words old.bindings new.bindings n.bindings) all-bound (q.bindings (rw all-bound lengths.bindings)) in
+            let b = subst (Holds binding_words old.bindings new.bindings n.bindings) same-bindings (q.bindings (rw same-bindings lengths.bindings)) in
             let d = subst (Holds recorded_words old.recorded new.recorded n.recorded) same-recorded q.recorded in
             let k = subst (Holds finding_words old.findings new.findings n.findings) same-findings q.findings in
             let counts : n ≡ counts_of warns h.statement = λ j. record { scopes = x.count j; bindings = b.count j; carried = (q.carried ∙ h.taken) j; recorded = d.count j; findings = k.count j } in
-            let lists : new ≡ filled_by warns h.statement old = λ j. record { scopes = x.wrote j; bindings = b.wrote j; carried = (e ∙ g.wrote) j; recorded = d.wrote j; findings = k.wrote j } in
-            record { counts = rw (h.read, f) (ap checked.Is counts); lists = rw (h.read, f) lists }
+            let lists : new ≡ filled_by warns h.statement old = λ j. record { scopes = x.wrote j; bindings = b.wrote j; carried = (q.kept ∙ g.wrote) j; recorded = d.wrote j; findings = k.wrote j } in
+            record { counts = rw (h.read, f) (ap accepted counts); lists = rw (h.read, f) lists }

@@ -10,7 +10,7 @@ use lib.Seq.{take_at, drop_at}
 use Rattle.words.specs.Words.{words}
 use Rattle.expr.proofs.Inverse.{never}
 use Rattle.sheet.specs.Statement.{Statement}
-use Rattle.sheet.specs.Read.{accepted, read_sheet}
+use Rattle.sheet.specs.Read.{accepted, refused, read_sheet}
 use Rattle.semantics.specs.Log.{Finding, finds_in, find_of}
 use Rattle.semantics.specs.Resolve.{log}
 use Rattle.semantics.specs.Lists
@@ -25,11 +25,10 @@ use Rattle.entries.specs.Filled.{with_scopes, with_bindings, with_carried, with_
 use Rattle.checker.specs.Checked.{Lent, fits, counts_of, filled_by, answer, left, answer_in, left_in}
 use Rattle.checker.specs.Calls.{Call, entries_in, lists_of, pieces, part_in, SameLists}
 use Rattle.checker.specs.declared.Counts.{Counts}
-use Rattle.checker.specs.declared.Checked.TheVariants as checked
 use Rattle.checker.proofs.Reading.{scopes-back, bindings-back, carrieds-back, recordeds-back, findings-back}
 
 module _ (warns : Bool) (s : Statement) where
-  filled-entries : (old : Lent) → entries_in (counts_of warns s) (filled_by warns s old) ≡ lists_of warns s
+  filled-entries : (old : Lent ℕ) → entries_in (counts_of warns s) (filled_by warns s old) ≡ lists_of warns s
   unfolding entries_in counts_of filled_by lists_of with_scopes with_bindings with_carried with_recorded with_findings
   filled-entries old =
       rw (
@@ -42,13 +41,13 @@ module _ (warns : Bool) (s : Statement) where
       refl
 
   -- A call that answers with counts has filled the lists.
-  counted : (room : Bool) (old : Lent) {new : Lent} {n : Counts} → checked.Is n ≡ cond room (checked.Is (counts_of warns s)) (checked.Refused 8) → new ≡ cond room (filled_by warns s old) old → entries_in n new ≡ lists_of warns s
+  counted : (room : Bool) (old : Lent ℕ) {new : Lent ℕ} {n : Counts} → accepted n ≡ cond room (accepted (counts_of warns s)) (refused 8) → new ≡ cond room (filled_by warns s old) old → entries_in n new ≡ lists_of warns s
   counted true old {new} {n} a b =
       let e : n ≡ counts_of warns s = cc in
       rw (e, b) (filled-entries old)
   counted false old a b = never (cc)
 
-  pub call-lists : {bytes : List ℕ} {room : ℕ} {old new : Lent} {n : Counts} → read_sheet bytes ≡ accepted s → Call warns bytes old room n new → entries_in n new ≡ lists_of warns s
+  pub call-lists : {bytes : List ℕ} {room : ℕ} {old new : Lent ℕ} {n : Counts} → read_sheet bytes ≡ accepted s → Call warns bytes old room n new → entries_in n new ≡ lists_of warns s
   unfolding answer_in left_in answer left
   call-lists {bytes} {room} {old} e c = counted (fits (length (words bytes)) (counts_of warns s) old room) old (rw e at c.answers) (rw e at c.leaves)
 
@@ -85,6 +84,6 @@ module _ {warns : Bool} {s₁ s₂ : List ℕ} {st₁ st₂ : Statement} {p₁ p
       }
 
   -- Before and after a WITH, of what two check calls leave.
-  pub apart-calls : {lent₁ left₁ lent₂ left₂ : Lent} {room₁ room₂ : ℕ} {n₁ n₂ : Counts} → Call warns s₁ lent₁ room₁ n₁ left₁ → Call warns s₂ lent₂ room₂ n₂ left₂
+  pub apart-calls : {lent₁ left₁ lent₂ left₂ : Lent ℕ} {room₁ room₂ : ℕ} {n₁ n₂ : Counts} → Call warns s₁ lent₁ room₁ n₁ left₁ → Call warns s₂ lent₂ room₂ n₂ left₂
       → SameLists warns st₁ st₂ p₁ p₂ (new_root warns st₁ p₁) (new_root warns st₂ p₂) (entries_in n₁ left₁) (entries_in n₂ left₂)
   apart-calls a b = rw (call-lists warns st₁ h.reads₁ a, call-lists warns st₂ h.reads₂ b) same_lists

@@ -34,12 +34,12 @@ fewer len zero l h = never (cc)
 fewer {m} {n} len (suc w) l h = let g = leb-true n (len / suc w) h in le-leb m (len / suc w) (omega arith)
 
 -- lists that have room for w entries each
-record Roomy (w : ℕ) (l : Lent) : Type 0 where
+record Roomy (w : ℕ) (l : Lent ℕ) : Type 0 where
   pub scopes : enough w (length l.scopes) 4 ≡ true
   pub recorded : enough w (length l.recorded) 5 ≡ true
   pub findings : enough w (length l.findings) 6 ≡ true
 
-rooms : (w : ℕ) (l : Lent) → roomy (each w) l ≡ true → Roomy w l
+rooms : (w : ℕ) (l : Lent ℕ) → roomy (each w) l ≡ true → Roomy w l
 unfolding roomy each
 rooms w l h =
     let a = both (enough w (length l.scopes) 4) _ h in
@@ -49,7 +49,7 @@ rooms w l h =
     record { scopes = a.0; recorded = d.0; findings = d.1 }
 
 -- where three of the lists need at most w entries, two are left to look at
-module _ (w room : ℕ) (need : Counts) (l : Lent) (scopes : need.scopes ≤ w) (recorded : need.recorded ≤ w) (findings : need.findings ≤ w) where
+module _ (w room : ℕ) (need : Counts) (l : Lent ℕ) (scopes : need.scopes ≤ w) (recorded : need.recorded ≤ w) (findings : need.findings ≤ w) where
   rest-fits : roomy (each w) l ≡ true → leb w room ≡ true → (enough need.bindings (length l.bindings) 6 && enough need.carried (length l.carried) 3) ≡ (roomy need l && leb need.findings room)
   unfolding roomy
   rest-fits h g =
@@ -73,18 +73,18 @@ module _ (w room : ℕ) (need : Counts) (l : Lent) (scopes : need.scopes ≤ w) 
       go true false h = refl
       go false b h = refl
 
-pub fits_by : (warns : Bool) (s : List ℕ) (st : Statement) → read_sheet s ≡ accepted st → (l : Lent) (room : ℕ) {made taken : ℕ} → made ≡ length (bindings warns st) → taken ≡ length (carried_list warns st) → fitting (length (words s)) made taken l room ≡ fits (length (words s)) (counts_of warns st) l room
+pub fits_by : (warns : Bool) (s : List ℕ) (st : Statement) → read_sheet s ≡ accepted st → (l : Lent ℕ) (room : ℕ) {made taken : ℕ} → made ≡ length (bindings warns st) → taken ≡ length (carried_list warns st) → fitting (length (words s)) made taken l room ≡ fits (length (words s)) (counts_of warns st) l room
 unfolding counts_of
 fits_by warns s st e l room b c = let f = sizes.fits warns s st e in rw (b, c) (tested (length (words s)) room (counts_of warns st) l f.scopes f.recorded f.findings)
 
-pub record Long (w : ℕ) (need : Counts) (l : Lent) : Type 0 where
+pub record Long (w : ℕ) (need : Counts) (l : Lent ℕ) : Type 0 where
   pub scopes : w * 4 ≤ length l.scopes
   pub bindings : need.bindings * 6 ≤ length l.bindings
   pub carried : need.carried * 3 ≤ length l.carried
   pub recorded : w * 5 ≤ length l.recorded
   pub findings : w * 6 ≤ length l.findings
 
-pub long : (w : ℕ) (need : Counts) (l : Lent) (room : ℕ) → fits w need l room ≡ true → Long w need l
+pub long : (w : ℕ) (need : Counts) (l : Lent ℕ) (room : ℕ) → fits w need l room ≡ true → Long w need l
 unfolding fits roomy
 long w need l room h =
     let a = both (roomy (each w) l && leb w room) _ h in

@@ -30,25 +30,8 @@ use Rattle.sheet_walk.specs.declared.Ran.{Ran}
 use Rattle.sheet_walk.specs.declared.Ran.TheVariants as ran
 use Rattle.lists_fill.specs.Said.{id_in, events_in, told_in}
 use Rattle.lists_fill.specs.Weaving.{kind_in}
-use Rattle.checker.specs.Filling.{uses_in}
-use Rattle.checker.specs.declared.Tally.{Tally}
-
--- Of an accepted sheet: it has a trailer, and its names' use ids are there; all events and findings; how many entries two of the lists need; and
--- `has` has what is carried, if `was` had room.
-pub record Heard (warns : Bool) (s ids tab found was has : List ℕ) (t : Tally) : Type 0 where
-  pub statement : Statement
-  pub read : read_sheet s ≡ accepted statement
-  pub trailed : 10 ≤ length (words s)
-  pub named : (places_of (words s)).names ≤ length ids
-  pub log : events_in (id_in (uses_in (words s) ids)) t.said found ≡ written (log warns statement)
-  pub kinds : told_in t.told found ≡ kinds (world_of warns statement) statement.head
-  pub made : t.made ≡ length (bindings warns statement)
-  pub taken : t.taken ≡ length (carried_list warns statement)
-  pub carries : t.taken * 3 ≤ length was → Holds carried_words was has t.taken (carried_list warns statement)
-  pub fine : Fine (words s) tab
-  pub kinded : kind_in (words s) tab ≡ kind_of (world_of warns statement)
-  pub few : t.said + t.told ≤ length (words s)
-  pub wide : (t.said + t.told) * 6 ≤ length found
+use Rattle.checker.specs.Filling.{Heard}
+use Rattle.checker.specs.declared.Scratch.{Scratch}
 
 pub ids-are : (st : Statement) {uses : List ℕ} → uses ≡ map use_id st.names → id_in uses ≡ id_of st
 unfolding bytes_of
@@ -57,28 +40,27 @@ ids-are st {uses} e = λ j x. one x j
     one : (x : ℕ) → id_in uses x ≡ use_id (get_or st.names x [])
     one x = rw e (get_or-map use_id st.names x [])
 
-module _ {choice : ℕ} {s places ids tab found was has : List ℕ} {said told made taken : ℕ} (r : RanTo choice s places ids tab found was has said told made taken) where
-  named : (places_of (words s)).names ≤ length ids
+module _ (a : Scratch) {choice : ℕ} {s was has : List ℕ} {said told made taken : ℕ} (r : RanTo choice s a.places.now a.ids.now a.tab.now a.found.now was has said told made taken) where
+  named : (places_of (words s)).names ≤ length a.ids.now
   named =
       let k = (places_of (words s)).names in
-      omega (arith, r.many, ap length r.names, ap length r.uses, length-take k places, length-take k ids, length-map r.statement.names use_id, length-map (take k places) (name_at (take ((places_of (words s)).rows * 4) s)))
+      omega (arith, r.many, ap length r.names, ap length r.uses, length-take k a.places.now, length-take k a.ids.now, length-map r.statement.names use_id, length-map (take k a.places.now) (name_at (take ((places_of (words s)).rows * 4) s)))
 
-  all-heard : wants_by choice ≡ true → Heard (warns_by choice) s ids tab found was has (record { said = said; told = told; made = made; taken = taken })
+  all-heard : wants_by choice ≡ true → Heard (warns_by choice) s (record { said = said; told = told; made = made; taken = taken }) a was has
   unfolding events_in told_in log kept carried_list
-  all-heard a =
+  all-heard w =
       let st = r.statement in
       let l = (run (warns_by choice) st).log in
       let n = needs (warns_by choice) st in
-      let e : taken ≡ length (carried_list (warns_by choice) st) = r.carried_names ∙ sym n.carried_list in
       record {
         statement = st;
         read = r.read;
         trailed = omega (arith, (walked s st r.read).whole);
         named = named;
-        log = ap (λ (id : ℕ → ℕ). reverse (events id said found)) (ids-are st r.uses) ∙ ap reverse (r.log ∙ ap (λ (b : Bool). kept b l) a) ∙ sym (written-reverse l);
+        log = ap (λ (id : ℕ → ℕ). reverse (events id said a.found.now)) (ids-are st r.uses) ∙ ap reverse (r.log ∙ ap (λ (b : Bool). kept b l) w) ∙ sym (written-reverse l);
         kinds = ap reverse r.kinds ∙ reverse-reverse _;
         made = r.bindings ∙ sym n.bindings;
-        taken = e;
+        taken = r.carried_names ∙ sym n.carried_list;
         carries = λ h. rw (← r.carried_names) at (r.carries.has (rw r.carried_names at h));
         fine = r.fine;
         kinded = λ j v. r.kinded v j;
@@ -86,9 +68,9 @@ module _ {choice : ℕ} {s places ids tab found was has : List ℕ} {said told m
         wide = r.wide;
       }
 
-module _ {choice : ℕ} {s places ids tab found was has : List ℕ} {r : Ran} (h : Runs choice s places ids tab found was has r) where
+module _ {choice : ℕ} {s was has : List ℕ} (a : Scratch) {r : Ran} (h : Runs choice s a.places.now a.ids.now a.tab.now a.found.now was has r) where
   pub run-refused : {c : ℕ} → r ≡ ran.Refused c → read_sheet s ≡ refused c
-  run-refused e = subst (RanAs choice s places ids tab found was has) e h.ran
+  run-refused e = subst (RanAs choice s a.places.now a.ids.now a.tab.now a.found.now was has) e h.ran
 
-  pub heard : {warns : Bool} {t : Tally} {said told made taken : ℕ} → r ≡ ran.Is said told made taken → (warns_by choice ≡ warns) × (wants_by choice ≡ true) → t ≡ record { said = said; told = told; made = made; taken = taken } → Heard warns s ids tab found was has t
-  heard e w q = rw (← w.0, q) (all-heard (subst (RanAs choice s places ids tab found was has) e h.ran) w.1)
+  pub heard : {warns : Bool} {said told made taken : ℕ} → r ≡ ran.Is said told made taken → (warns_by choice ≡ warns) × (wants_by choice ≡ true) → Heard warns s (record { said = said; told = told; made = made; taken = taken }) a was has
+  heard e w = rw (← w.0) (all-heard a (subst (RanAs choice s a.places.now a.ids.now a.tab.now a.found.now was has) e h.ran) w.1)

@@ -5,6 +5,7 @@ use mathlib.Core.List.{List, ◌++◌, map, Memᴰ}
 use Rattle.scope.specs.Graph.{Scope, Entry, Carried}
 use Rattle.scope.specs.Flat.{entries_of, scopes_of, bindings_of, carrieds_of}
 use Rattle.sheet.specs.Statement.{Statement}
+use Rattle.sheet.specs.Read.{accepted}
 use Rattle.semantics.specs.Log.{Finding, Answer, found, missing, Write, write, answers_in, finds_in}
 use Rattle.semantics.specs.Resolve.{log}
 use Rattle.semantics.specs.Lists
@@ -15,11 +16,10 @@ use Rattle.theorems.specs.InLists.{kinds_after}
 use Rattle.finding.specs.Flat.{findings_of}
 use Rattle.checker.specs.Checked.{Lent, answer_in, left_in}
 use Rattle.checker.specs.declared.Counts.{Counts}
-use Rattle.checker.specs.declared.Checked.TheVariants as checked
 
 -- A check call that answers with counts, and the lists that it is lent and leaves: the contract of `check_words`.
-pub record Call (warns : Bool) (s : List ℕ) (lent : Lent) (room : ℕ) (n : Counts) (left : Lent) : Type 0 where
-  pub answers : checked.Is n ≡ answer_in warns s lent room
+pub record Call (warns : Bool) (s : List ℕ) (lent : Lent ℕ) (room : ℕ) (n : Counts) (left : Lent ℕ) : Type 0 where
+  pub answers : accepted n ≡ answer_in warns s lent room
   pub leaves : left ≡ left_in warns s lent room
 
 -- the five lists as entries
@@ -35,7 +35,7 @@ abbrev pub write_of : List ℕ → Write
 write_of ws = write (get_or ws 0 0) (cond (eqb (get_or ws 1 0) 0) missing (found (get_or ws 2 0) (get_or ws 3 0) (get_or ws 4 0)))
 
 -- so many entries of each list, as are counted
-unfoldable pub entries_in : Counts → Lent → Entries
+unfoldable pub entries_in : Counts → Lent ℕ → Entries
 entries_in n l =
     record {
       scopes = scopes_of n.scopes l.scopes;

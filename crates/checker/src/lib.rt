@@ -4,21 +4,21 @@
 // unresolved, variable, kind, via_projection), findings 6 (code, start, end, name + 1 or 0, two details).
 #![tactic(auto)]
 
-ghost use Rattle.std.specs.Prelude.{◌≡◌, true, ◌≤◌, length, take};
+ghost use Rattle.std.specs.Prelude.{◌≡◌, true, ◌+◌, ◌*◌, ◌≤◌, length, take, IfOk, IfErr};
 ghost use Rattle.words.specs.Words.{words};
-ghost use Rattle.sheet_walk.specs.Runs.{warns_by, wants_by, Scratch};
+ghost use Rattle.sheet.specs.Read.{read_sheet, refused};
+ghost use Rattle.sheet_walk.specs.Runs.{warns_by, wants_by};
 ghost use Rattle.entries.specs.Filled.{filled};
-ghost use Rattle.lists_fill.specs.Said.{id_in};
 ghost use Rattle.checker.specs.Room.{enough};
-ghost use Rattle.checker.specs.Filling.{fitting, uses_in, Cleared, Fitting, Filling, Again};
-ghost use Rattle.checker.specs.Checked.{lent, roomy, each, Answers, answer_in, left_in, findings_in};
+ghost use Rattle.checker.specs.Filling.{fitting, Clean, IsSized, Heard, Bindable, Bound, Fitting, Filling, Again};
+ghost use Rattle.checker.specs.Checked.{lent, IsStill, roomy, each, Answers, answered, answer_in, left_in, findings_in};
 
-use lists_fill::{fill_all_findings, fill_bindings, fill_recorded, fill_scopes};
+use lists_fill::{Carried, fill_all_findings, fill_bindings, fill_recorded, fill_scopes};
 use sheet_walk::{Ran, run};
 use words::{count, word};
 
 // How many entries the lists have.
-#[derive(Clone, Copy)]
+#[derive(Clone, Copy, Debug, PartialEq, Eq)]
 pub struct Counts {
     pub scopes: usize,
     pub bindings: usize,
@@ -27,11 +27,34 @@ pub struct Counts {
     pub findings: usize,
 }
 
-// The lists' counts, or the refusal's number.
+// The five lent lists; findings are flat words, or finding records.
+#[derive(Drop)]
+pub struct Lists<'a, F> {
+    pub scopes: &'a mut [u32],
+    pub bindings: &'a mut [u32],
+    pub carried: &'a mut [u32],
+    pub recorded: &'a mut [u32],
+    pub findings: &'a mut [F],
+}
+
+// The words that a walk works in.
+#[derive(Drop)]
+struct Scratch<'a> {
+    places: &'a mut [u32],
+    ids: &'a mut [u32],
+    tab: &'a mut [u32],
+    vis: &'a mut [u32],
+    found: &'a mut [u32],
+    held: &'a mut [u32],
+}
+
+// How much a run left: events, findings of the kind walk, bindings, carried names.
 #[derive(Clone, Copy)]
-pub enum Checked {
-    Is(Counts),
-    Refused(u32),
+struct Tally {
+    said: usize,
+    told: usize,
+    made: usize,
+    taken: usize,
 }
 
 // Whether a list of so many flat words has room for n entries of a width; cause 8 where one has not.
@@ -44,116 +67,93 @@ pub fn has_room(n: usize, len: usize, width: usize) -> bool
     n <= len / width
 }
 
-// Whether all five lists have room for n entries each.
-fn have_room(
-    n: usize,
-    scopes: &[u32],
-    bindings: &[u32],
-    carried: &[u32],
-    recorded: &[u32],
-    findings: &[u32],
-) -> bool
-    ensures { result ≡ roomy (each n) (lent scopes.now bindings.now carried.now recorded.now findings.now) }
-{
-    let a = has_room(n, scopes.len(), 4);
-    let b = has_room(n, bindings.len(), 6);
-    let c = has_room(n, carried.len(), 3);
-    let d = has_room(n, recorded.len(), 5);
-    let e = has_room(n, findings.len(), 6);
-    a & (b & (c & (d & e)))
-}
-
-// How much a run left: events, findings of the kind walk, bindings, carried names.
-#[derive(Clone, Copy)]
-struct Tally {
-    said: usize,
-    told: usize,
-    made: usize,
-    taken: usize,
-}
-
-// Whether the lists have room for the answer on a sheet of n words. Scopes, recorded uses and findings never need more than an entry a word.
-fn fit(
-    n: usize,
-    t: Tally,
-    scopes: &[u32],
-    bindings: &[u32],
-    carried: &[u32],
-    recorded: &[u32],
-    findings: &[u32],
-    room: usize,
-) -> bool
-    ensures { result ≡ fitting n t.made t.taken (lent scopes.now bindings.now carried.now recorded.now findings.now) room }
-{
-    let a = have_room(n, scopes, bindings, carried, recorded, findings);
-    let b = n <= room;
-    let c = has_room(t.made, bindings.len(), 6);
-    let d = has_room(t.taken, carried.len(), 3);
-    (a & b) & (c & d)
-}
-
-// Zeros.
-fn clear(l: &mut [u32])
-    ensures { Cleared l.old l.new }
-{
-    let mut i = 0;
-    while i < l.len() {
-        l[i] = 0;
-        i += 1;
-    }
-}
-
 // The first n words of a list, copied to the front of another.
 fn copy(from: &[u32], n: usize, to: &mut [u32])
     requires { (n ≤ length from.now) × (n ≤ length to.old) }
     ensures { to.new ≡ filled to.old (take n from.now) }
 {
-    let mut i = 0;
-    while i < n {
-        to[i] = from[i];
-        i += 1;
-    }
+    to[..n].copy_from_slice(&from[..n]);
 }
 
-// The other lists, from what a run left and the carried list; ids begins with the names' use ids, and stamps is scratch.
-fn fill(
+// The bindings of a run. Its words are apart here: what a struct borrows from another's fields is not known afterwards.
+fn bind(
     s: &[u8],
     tab: &[u32],
-    found: &[u32],
+    list: &[u32],
     t: Tally,
-    ids: &[u32],
+    found: &[u32],
     stamps: &mut [u32],
-    scopes: &mut [u32],
-    bindings: &mut [u32],
-    carried: &[u32],
-    recorded: &mut [u32],
-    findings: &mut [u32],
-) -> Counts
-    requires { Fitting (words s.now) tab.now found.now t ids.now stamps.old (lent scopes.old bindings.old carried.now recorded.old findings.old) }
-    ensures { Filling (words s.now) tab.now found.now t (id_in (uses_in (words s.now) ids.now)) (lent scopes.old bindings.old carried.now recorded.old findings.old) result (lent scopes.new bindings.new carried.now recorded.new findings.new) }
+    out: &mut [u32],
+) -> usize
+    requires { Bindable (words s.now) tab.now list.now t found.now stamps.old }
+    ensures { Bound (words s.now) tab.now list.now t found.now out.old out.new result }
 {
-    let n = t.said;
-    let a = fill_scopes(found, n, scopes);
-    let b = fill_bindings(s, tab, found, n, carried, t.taken, stamps, bindings);
-    let names = word(s, count(s) - 9) as usize;
-    let d = fill_recorded(found, n, &ids[0..names], recorded);
-    let f = fill_all_findings(found, n, t.told, findings);
-    Counts {
-        scopes: a,
-        bindings: b,
-        carried: t.taken,
-        recorded: d,
-        findings: f,
+    let carried = Carried {
+        sheet: s,
+        tab,
+        list,
+        taken: t.taken,
+    };
+    fill_bindings(carried, found, t.said, stamps, out)
+}
+
+impl Lists<'_, u32> {
+    // Whether all five lists have room for n entries each.
+    fn have_room(&self, n: usize) -> bool
+        ensures { result ≡ roomy (each n) (lent self.now) }
+    {
+        let a = has_room(n, self.scopes.len(), 4);
+        let b = has_room(n, self.bindings.len(), 6);
+        let c = has_room(n, self.carried.len(), 3);
+        let d = has_room(n, self.recorded.len(), 5);
+        let e = has_room(n, self.findings.len(), 6);
+        a & (b & (c & (d & e)))
+    }
+
+    // Whether they have room for the answer on a sheet of n words. Scopes, recorded uses and findings never need more than an entry a word.
+    fn fit(&self, n: usize, t: Tally, room: usize) -> bool
+        ensures { result ≡ fitting n t.made t.taken (lent self.now) room }
+    {
+        let a = self.have_room(n);
+        let b = n <= room;
+        let c = has_room(t.made, self.bindings.len(), 6);
+        let d = has_room(t.taken, self.carried.len(), 3);
+        (a & b) & (c & d)
+    }
+
+    // All but the carried list, from what a run left and that list; ids begins with the names' use ids, and vis is for stamps.
+    fn fill(&mut self, s: &[u8], t: Tally, scratch: &mut Scratch) -> Counts
+        requires { Fitting (words s.now) t scratch.old (lent self.old) }
+        ensures still { IsStill self.old self.new }
+        ensures fills { Filling (words s.now) t scratch.old (lent self.old) result (lent self.new) }
+    {
+        let found = &mut *scratch.found;
+        let tab = &mut *scratch.tab;
+        let ids = &mut *scratch.ids;
+        let carried = &mut *self.carried;
+        let n = t.said;
+        let scopes = fill_scopes(found, n, self.scopes);
+        let bindings = bind(s, tab, carried, t, found, scratch.vis, self.bindings);
+        let names = word(s, count(s) - 9) as usize;
+        let recorded = fill_recorded(found, n, &ids[0..names], self.recorded);
+        let findings = fill_all_findings(found, n, t.told, self.findings);
+        Counts {
+            scopes,
+            bindings,
+            carried: t.taken,
+            recorded,
+            findings,
+        }
     }
 }
 
 // How many findings a check answers; none where the sheet is refused.
-pub fn findings_in(c: Checked) -> usize
-    ensures { result ≡ findings_in c }
+pub fn findings_in(answer: Result<Counts, u32>) -> usize
+    ensures { result ≡ findings_in (answered answer) }
 {
-    match c {
-        Checked::Is(n) => n.findings,
-        Checked::Refused(_) => 0,
+    match answer {
+        Ok(counts) => counts.findings,
+        Err(_) => 0,
     }
 }
 
@@ -167,15 +167,32 @@ fn choice_of(warns: bool) -> u32
     2
 }
 
-// The numbers of a run.
-fn tally_of(said: u32, told: u32, made: u32, taken: u32) -> Tally
-    ensures { result ≡ record { said = said; told = told; made = made; taken = taken } }
+// What both walks say of a sheet, and what they carry into a list.
+fn listen(s: &[u8], warns: bool, scratch: &mut Scratch, carried: &mut [u32]) -> Result<Tally, u32>
+    requires { Clean (length (words s.now)) scratch.old }
+    ensures sized { IsSized scratch.old scratch.new }
+    ensures kept { length carried.new ≡ length carried.old }
+    ensures heard { IfOk result (λ t. Heard warns s.now t scratch.new carried.old carried.new) }
+    ensures refused { IfErr result (λ cause. read_sheet s.now ≡ refused cause) }
 {
-    Tally {
-        said: said as usize,
-        told: told as usize,
-        made: made as usize,
-        taken: taken as usize,
+    match run(
+        s,
+        choice_of(warns),
+        scratch.places,
+        scratch.ids,
+        scratch.tab,
+        scratch.vis,
+        scratch.found,
+        scratch.held,
+        carried,
+    ) {
+        Ran::Refused(cause) => Err(cause),
+        Ran::Is(said, told, made, taken) => Ok(Tally {
+            said: said as usize,
+            told: told as usize,
+            made: made as usize,
+            taken: taken as usize,
+        }),
     }
 }
 
@@ -183,43 +200,18 @@ fn tally_of(said: u32, told: u32, made: u32, taken: u32) -> Tally
 fn check_again(
     s: &[u8],
     warns: bool,
-    places: &mut [u32],
-    ids: &mut [u32],
-    tab: &mut [u32],
-    vis: &mut [u32],
-    found: &mut [u32],
-    held: &mut [u32],
-    scopes: &mut [u32],
-    bindings: &mut [u32],
-    carried: &mut [u32],
-    recorded: &mut [u32],
-    findings: &mut [u32],
+    scratch: &mut Scratch,
+    lists: &mut Lists<u32>,
     room: usize,
-) -> Checked
-    requires { Again warns s.now places.old ids.old tab.old vis.old found.old held.old (lent scopes.old bindings.old carried.old recorded.old findings.old) room }
-    ensures { Answers warns s.now (lent scopes.old bindings.old carried.old recorded.old findings.old) room result (lent scopes.new bindings.new carried.new recorded.new findings.new) }
+) -> Result<Counts, u32>
+    requires { Again warns s.now scratch.old (lent lists.old) room }
+    ensures still { IsStill lists.old lists.new }
+    ensures answers { Answers warns s.now (lent lists.old) room result (lent lists.new) }
 {
-    clear(tab);
-    clear(vis);
-    match run(
-        s,
-        choice_of(warns),
-        places,
-        ids,
-        tab,
-        vis,
-        found,
-        held,
-        carried,
-    ) {
-        Ran::Refused(c) => Checked::Refused(c),
-        Ran::Is(said, told, made, taken) => {
-            let t = tally_of(said, told, made, taken);
-            Checked::Is(fill(
-                s, tab, found, t, ids, vis, scopes, bindings, carried, recorded, findings,
-            ))
-        }
-    }
+    scratch.tab.fill(0);
+    scratch.vis.fill(0);
+    let tally = listen(s, warns, scratch, lists.carried)?;
+    Ok(lists.fill(s, tally, scratch))
 }
 
 // The answer and the lists, with scratch for the sheet's words: its refusal; 8 where one of the lists is short; or they are filled. What is
@@ -227,239 +219,72 @@ fn check_again(
 fn check_in(
     s: &[u8],
     warns: bool,
-    places: &mut [u32],
-    ids: &mut [u32],
-    tab: &mut [u32],
-    vis: &mut [u32],
-    found: &mut [u32],
-    held: &mut [u32],
+    scratch: &mut Scratch,
     kept: &mut [u32],
-    scopes: &mut [u32],
-    bindings: &mut [u32],
-    carried: &mut [u32],
-    recorded: &mut [u32],
-    findings: &mut [u32],
+    lists: &mut Lists<u32>,
     room: usize,
-) -> Checked
-    requires { Scratch (length (words s.now)) places.old ids.old tab.old vis.old found.old held.old }
-    ensures { Answers warns s.now (lent scopes.old bindings.old carried.old recorded.old findings.old) room result (lent scopes.new bindings.new carried.new recorded.new findings.new) }
+) -> Result<Counts, u32>
+    requires { Clean (length (words s.now)) scratch.old }
+    ensures still { IsStill lists.old lists.new }
+    ensures answers { Answers warns s.now (lent lists.old) room result (lent lists.new) }
 {
-    match run(
-        s,
-        choice_of(warns),
-        places,
-        ids,
-        tab,
-        vis,
-        found,
-        held,
-        kept,
-    ) {
-        Ran::Refused(c) => Checked::Refused(c),
-        Ran::Is(said, told, made, taken) => {
-            let t = tally_of(said, told, made, taken);
-            let n = count(s);
-            if !fit(n, t, scopes, bindings, carried, recorded, findings, room) {
-                return Checked::Refused(8);
-            }
-            if kept.len() < t.taken * 3 {
-                return check_again(
-                    s, warns, places, ids, tab, vis, found, held, scopes, bindings, carried,
-                    recorded, findings, room,
-                );
-            }
-            copy(kept, t.taken * 3, carried);
-            Checked::Is(fill(
-                s, tab, found, t, ids, vis, scopes, bindings, carried, recorded, findings,
-            ))
-        }
+    let tally = listen(s, warns, scratch, kept)?;
+    if !lists.fit(count(s), tally, room) {
+        return Err(8);
     }
+    let n = tally.taken * 3;
+    if kept.len() < n {
+        return check_again(s, warns, scratch, lists, room);
+    }
+    copy(kept, n, lists.carried);
+    Ok(lists.fill(s, tally, scratch))
 }
 
-// With scratch for sheets of up to 64 words.
-fn check_64(
+// With scratch for sheets of up to N words: T, V, F and H are the lengths that follow from N.
+fn check_sized<const N: usize, const T: usize, const V: usize, const F: usize, const H: usize>(
     s: &[u8],
     warns: bool,
-    scopes: &mut [u32],
-    bindings: &mut [u32],
-    carried: &mut [u32],
-    recorded: &mut [u32],
-    findings: &mut [u32],
+    lists: &mut Lists<u32>,
     room: usize,
-) -> Checked
-    requires { length (words s.now) ≤ 64 }
-    ensures { Answers warns s.now (lent scopes.old bindings.old carried.old recorded.old findings.old) room result (lent scopes.new bindings.new carried.new recorded.new findings.new) }
+) -> Result<Counts, u32>
+    requires few { (length (words s.now) ≤ N) × (N ≤ 2048) }
+    requires tab { T ≡ 16 + N * 2 }
+    requires vis { V ≡ 4 * (N + 2) }
+    requires found { F ≡ N * 6 }
+    requires held { H ≡ 2 * N }
+    ensures still { IsStill lists.old lists.new }
+    ensures answers { Answers warns s.now (lent lists.old) room result (lent lists.new) }
 {
-    let mut places = [0u32; 64];
-    let mut ids = [0u32; 64];
-    let mut tab = [0u32; 144];
-    let mut vis = [0u32; 264];
-    let mut found = [0u32; 384];
-    let mut held = [0u32; 128];
-    let mut kept = [0u32; 64];
-    check_in(
-        s,
-        warns,
-        &mut places,
-        &mut ids,
-        &mut tab,
-        &mut vis,
-        &mut found,
-        &mut held,
-        &mut kept,
-        scopes,
-        bindings,
-        carried,
-        recorded,
-        findings,
-        room,
-    )
-}
-
-// With scratch for sheets of up to 256 words.
-fn check_256(
-    s: &[u8],
-    warns: bool,
-    scopes: &mut [u32],
-    bindings: &mut [u32],
-    carried: &mut [u32],
-    recorded: &mut [u32],
-    findings: &mut [u32],
-    room: usize,
-) -> Checked
-    requires { length (words s.now) ≤ 256 }
-    ensures { Answers warns s.now (lent scopes.old bindings.old carried.old recorded.old findings.old) room result (lent scopes.new bindings.new carried.new recorded.new findings.new) }
-{
-    let mut places = [0u32; 256];
-    let mut ids = [0u32; 256];
-    let mut tab = [0u32; 528];
-    let mut vis = [0u32; 1032];
-    let mut found = [0u32; 1536];
-    let mut held = [0u32; 512];
-    let mut kept = [0u32; 256];
-    check_in(
-        s,
-        warns,
-        &mut places,
-        &mut ids,
-        &mut tab,
-        &mut vis,
-        &mut found,
-        &mut held,
-        &mut kept,
-        scopes,
-        bindings,
-        carried,
-        recorded,
-        findings,
-        room,
-    )
-}
-
-// With scratch for sheets of up to 1,024 words.
-fn check_1024(
-    s: &[u8],
-    warns: bool,
-    scopes: &mut [u32],
-    bindings: &mut [u32],
-    carried: &mut [u32],
-    recorded: &mut [u32],
-    findings: &mut [u32],
-    room: usize,
-) -> Checked
-    requires { length (words s.now) ≤ 1024 }
-    ensures { Answers warns s.now (lent scopes.old bindings.old carried.old recorded.old findings.old) room result (lent scopes.new bindings.new carried.new recorded.new findings.new) }
-{
-    let mut places = [0u32; 1024];
-    let mut ids = [0u32; 1024];
-    let mut tab = [0u32; 2064];
-    let mut vis = [0u32; 4104];
-    let mut found = [0u32; 6144];
-    let mut held = [0u32; 2048];
-    let mut kept = [0u32; 1024];
-    check_in(
-        s,
-        warns,
-        &mut places,
-        &mut ids,
-        &mut tab,
-        &mut vis,
-        &mut found,
-        &mut held,
-        &mut kept,
-        scopes,
-        bindings,
-        carried,
-        recorded,
-        findings,
-        room,
-    )
-}
-
-// With scratch for sheets of up to 2,048 words.
-fn check_2048(
-    s: &[u8],
-    warns: bool,
-    scopes: &mut [u32],
-    bindings: &mut [u32],
-    carried: &mut [u32],
-    recorded: &mut [u32],
-    findings: &mut [u32],
-    room: usize,
-) -> Checked
-    requires { length (words s.now) ≤ 2048 }
-    ensures { Answers warns s.now (lent scopes.old bindings.old carried.old recorded.old findings.old) room result (lent scopes.new bindings.new carried.new recorded.new findings.new) }
-{
-    let mut places = [0u32; 2048];
-    let mut ids = [0u32; 2048];
-    let mut tab = [0u32; 4112];
-    let mut vis = [0u32; 8200];
-    let mut found = [0u32; 12288];
-    let mut held = [0u32; 4096];
-    let mut kept = [0u32; 2048];
-    check_in(
-        s,
-        warns,
-        &mut places,
-        &mut ids,
-        &mut tab,
-        &mut vis,
-        &mut found,
-        &mut held,
-        &mut kept,
-        scopes,
-        bindings,
-        carried,
-        recorded,
-        findings,
-        room,
-    )
+    let mut places = [0u32; N];
+    let mut ids = [0u32; N];
+    let mut tab = [0u32; T];
+    let mut vis = [0u32; V];
+    let mut found = [0u32; F];
+    let mut held = [0u32; H];
+    let mut kept = [0u32; N];
+    let mut scratch = Scratch {
+        places: &mut places,
+        ids: &mut ids,
+        tab: &mut tab,
+        vis: &mut vis,
+        found: &mut found,
+        held: &mut held,
+    };
+    check_in(s, warns, &mut scratch, &mut kept, lists, room)
 }
 
 // A sheet of any size, with scratch for 1,024 words at least. Its frame is that of the largest scratch, and is touched page by page.
-fn check_large(
-    s: &[u8],
-    warns: bool,
-    scopes: &mut [u32],
-    bindings: &mut [u32],
-    carried: &mut [u32],
-    recorded: &mut [u32],
-    findings: &mut [u32],
-    room: usize,
-) -> Checked
-    ensures { Answers warns s.now (lent scopes.old bindings.old carried.old recorded.old findings.old) room result (lent scopes.new bindings.new carried.new recorded.new findings.new) }
+fn check_large(s: &[u8], warns: bool, lists: &mut Lists<u32>, room: usize) -> Result<Counts, u32>
+    ensures still { IsStill lists.old lists.new }
+    ensures answers { Answers warns s.now (lent lists.old) room result (lent lists.new) }
 {
     if s.len() <= 4096 {
-        return check_1024(
-            s, warns, scopes, bindings, carried, recorded, findings, room,
-        );
+        return check_sized::<1024, 2064, 4104, 6144, 2048>(s, warns, lists, room);
     }
     if s.len() <= 8192 {
-        return check_2048(
-            s, warns, scopes, bindings, carried, recorded, findings, room,
-        );
+        return check_sized::<2048, 4112, 8200, 12288, 4096>(s, warns, lists, room);
     }
-    Checked::Refused(1)
+    Err(1)
 }
 
 // The check call, warnings on or off. Its findings are flat words, for a list of finding records that has room for so many. Scratch is
@@ -468,29 +293,21 @@ fn check_large(
 pub fn check_words(
     s: &[u8],
     warns: bool,
-    scopes: &mut [u32],
-    bindings: &mut [u32],
-    carried: &mut [u32],
-    recorded: &mut [u32],
-    findings: &mut [u32],
+    lists: &mut Lists<u32>,
     room: usize,
-) -> Checked
-    ensures { (result ≡ answer_in warns s.now (record { scopes = scopes.old; bindings = bindings.old; carried = carried.old; recorded = recorded.old; findings = findings.old }) room) × (record { scopes = scopes.new; bindings = bindings.new; carried = carried.new; recorded = recorded.new; findings = findings.new } ≡ left_in warns s.now (record { scopes = scopes.old; bindings = bindings.old; carried = carried.old; recorded = recorded.old; findings = findings.old }) room) }
+) -> Result<Counts, u32>
+    ensures still { IsStill lists.old lists.new }
+    ensures answers { answered result ≡ answer_in warns s.now (lent lists.old) room }
+    ensures leaves { lent lists.new ≡ left_in warns s.now (lent lists.old) room }
 {
     if s.len() <= 256 {
-        return check_64(
-            s, warns, scopes, bindings, carried, recorded, findings, room,
-        );
+        return check_sized::<64, 144, 264, 384, 128>(s, warns, lists, room);
     }
     if s.len() <= 1024 {
-        return check_256(
-            s, warns, scopes, bindings, carried, recorded, findings, room,
-        );
+        return check_sized::<256, 528, 1032, 1536, 512>(s, warns, lists, room);
     }
     if warns {
-        return check_large(s, true, scopes, bindings, carried, recorded, findings, room);
+        return check_large(s, true, lists, room);
     }
-    check_large(
-        s, false, scopes, bindings, carried, recorded, findings, room,
-    )
+    check_large(s, false, lists, room)
 }

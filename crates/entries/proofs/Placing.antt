@@ -16,7 +16,9 @@ use Rattle.scope.proofs.Entries.{from, first, next, last}
 use Rattle.semantics.specs.Log.{bound, Answer, Write, write}
 use Rattle.semantics.specs.Lists.{put, note}
 use Rattle.entries.specs.Filled.{filled, answer_words, binding_words, recorded_words}
-use Rattle.entries.specs.Adding.{Holds, Becomes, place, is_binding, ids_of}
+use Rattle.entries.specs.Adding.{Holds, Becomes, place, begins, is_binding, answer}
+use Rattle.entries.specs.declared.Binding.{Binding}
+use Rattle.entries.specs.declared.Found.{Found}
 use Rattle.entries.specs.Stamps.{Stores}
 use Rattle.entries.proofs.Filling.{over, length_over, filled-append, sized-binding, sized-recorded}
 use Rattle.entries.proofs.Adding.{set_holds, one_set}
@@ -43,24 +45,17 @@ module _ {A : Type 0} {width : ℕ} {one : List ℕ → A} {fits : A → Bool} {
     unfolding place
     missed h = (omega arith, omega (arith, s.within, rw (last width one n ws i h) at s.passed))
 
-pub binding-at : (s x p : ℕ) (ws : List ℕ) → is_binding s x (binding_of (drop p ws)) ≡ (eqb s (get_or ws p 0) && eqb x (get_or ws (p + 1) 0))
-binding-at s x p ws = simp (get_or-drop, add-zero)
-
-pub id-at : (p : ℕ) (ws : List ℕ) → get_or (drop p ws) 0 0 ≡ get_or ws p 0
-id-at p ws = simp (get_or-drop, add-zero)
-
--- the place of words is that of the entries they are of, and what is stored there
-module _ {A B : Type 0} (words : A → List ℕ) (width : ℕ) (sized : (a : A) → length (words a) ≡ width) (one : List ℕ → B) (fits : B → Bool) (is : A → Bool) (same : (a : A) (rest : List ℕ) → fits (one (words a ++ rest)) ≡ is a) where
-  place-words : (es : List A) (old : List ℕ) → place fits (entries_of width one (length es) (filled old (flat_map words es))) ≡ place is es
+-- the place of words that begin with a key is that of the entries they are of
+module _ {A : Type 0} (words : A → List ℕ) (width : ℕ) (sized : (a : A) → length (words a) ≡ width) (key : List ℕ) (is : A → Bool) (same : (a : A) (rest : List ℕ) → begins key (words a ++ rest) ≡ is a) where
+  place-words : (es : List A) (old : List ℕ) → place (begins key) (entries_of width (λ ws. ws) (length es) (filled old (flat_map words es))) ≡ place is es
   unfolding place entries_of flat_map
   place-words [] old = refl
   place-words (x ∷ es) old =
       let rest = filled (drop (length (words x)) old) (flat_map words es) in
       rw (filled-append, drop_at (words x) rest width (sized x), same x rest, place-words es (drop (length (words x)) old))
 
-  one_placed : {f : List A → List A} {out : List ℕ} {m r : ℕ} (e : A) (i : ℕ) → (i ≤ m) × (i ≡ place fits (entries_of width one m out)) → suc i * width ≤ length out → r ≡ suc i + (m - suc i) → ((old : List ℕ) (es : List A) → Holds words old out m es → i ≡ place is es → f es ≡ over i e es) → Becomes 1 words f out (sets out (i * width) (words e)) m r
-  one_placed e i p room c set =
-      one_set words width sized e i p.0 room c (λ old es h. set old es h (p.1 ∙ rw (h.count, h.wrote) (place-words es old)))
+  pub placed : {old out : List ℕ} {m : ℕ} {es : List A} → Holds words old out m es → place (begins key) (entries_of width (λ ws. ws) m out) ≡ place is es
+  placed {old} {es = es} h = rw (h.count, h.wrote) (place-words es old)
 
 -- an entry takes the place of the first that fits
 here-or-later : {A : Type 0} (b : Bool) (new : ℕ → A) (x : A) (i : ℕ) (es : List A) {later : List A} → later ≡ over i (new (suc i)) es → cond b (new 0 ∷ es) (x ∷ later) ≡ over (cond b 0 (suc i)) (new (cond b 0 (suc i))) (x ∷ es)
@@ -117,12 +112,17 @@ note-over i a [] = refl
 note-over i a (write j b ∷ es) = here-or-later (eqb i j) (λ n. write i a) (write j b) (place (is_use i) es) es (note-over i a es)
 
 -- A binding and an answer are stored in their place.
-binding-read : (s x : ℕ) (e : Entry) (rest : List ℕ) → is_binding s x (binding_of (binding_words e ++ rest)) ≡ is_binding s x e
-unfolding binding_words
-binding-read s x (entry t y u j r) rest = refl
+alone : (b c : Bool) → (b && (c && true)) ≡ (b && c)
+alone false c = refl
+alone true false = refl
+alone true true = refl
 
-pub binding-place : (s x : ℕ) {old out : List ℕ} {m : ℕ} {es : List Entry} → Holds binding_words old out m es → place (is_binding s x) (bindings_of m out) ≡ place (is_binding s x) es
-binding-place s x {old} {out} {m} {es} h = rw (h.count, h.wrote) (place-words binding_words 6 sized-binding binding_of (is_binding s x) (is_binding s x) (binding-read s x) es old)
+binding-read : (s x : ℕ) (e : Entry) (rest : List ℕ) → begins (s ∷ x ∷ []) (binding_words e ++ rest) ≡ is_binding s x e
+unfolding binding_words
+binding-read s x (entry t y u j r) rest = alone (eqb s t) (eqb x y)
+
+pub binding-place : (s x : ℕ) {old out : List ℕ} {m : ℕ} {es : List Entry} → Holds binding_words old out m es → place (begins (s ∷ x ∷ [])) (entries_of 6 (λ ws. ws) m out) ≡ place (is_binding s x) es
+binding-place s x h = placed binding_words 6 sized-binding (s ∷ x ∷ []) (is_binding s x) (binding-read s x) h
 
 module _ {old out : List ℕ} {m : ℕ} {es : List Entry} (s x v k i : ℕ) (h : Holds binding_words old out m es) (p : i ≡ place (is_binding s x) es) where
   binding-placed : (r : ℕ) (o : Option ℕ) → i ≤ m → suc i * 6 ≤ length out → r ≡ suc i + (m - suc i) → replaced_at i es ≡ o → Holds binding_words old (sets out (i * 6) (binding_words (entry s x v k o))) r (put (bound s x v k) es)
@@ -140,35 +140,40 @@ module _ {old out : List ℕ} {m : ℕ} {es : List Entry} (s x v k i : ℕ) (h :
   no_room e full room = omega (arith, h.count, length-put s x v k es)
 
 -- a binding is stored in the place of another, or as the last, or there is no room for it
-module _ {out : List ℕ} {m s x v k i : ℕ} where
-  pub stored-again : i < m → m * 6 ≤ length out → Stores s x v k i out (sets out (i * 6) (s ∷ x ∷ v ∷ k ∷ 1 ∷ get_or out (i * 6 + 2) 0 ∷ [])) m m
+module _ (b : Binding) {out : List ℕ} {m i : ℕ} where
+  pub stored-again : i < m → m * 6 ≤ length out → Stores b i out (sets out (i * 6) (b.scope ∷ b.name ∷ b.variable ∷ b.kind ∷ 1 ∷ get_or out (i * 6 + 2) 0 ∷ [])) m m
   stored-again l room =
       record {
-        kept = length-sets out (i * 6) (s ∷ x ∷ v ∷ k ∷ 1 ∷ get_or out (i * 6 + 2) 0 ∷ []);
+        kept = length-sets out (i * 6) (b.scope ∷ b.name ∷ b.variable ∷ b.kind ∷ 1 ∷ get_or out (i * 6 + 2) 0 ∷ []);
         within = room;
-        holds = λ old es h p fits. binding-again s x v k i h p l room;
+        holds = λ old es h p fits. binding-again b.scope b.name b.variable b.kind i h p l room;
       }
 
-  pub stored-anew : i ≡ m → (m + 1) * 6 ≤ length out → Stores s x v k i out (sets out (m * 6) (s ∷ x ∷ v ∷ k ∷ 0 ∷ 0 ∷ [])) m (m + 1)
+  pub stored-anew : i ≡ m → (m + 1) * 6 ≤ length out → Stores b i out (sets out (m * 6) (b.scope ∷ b.name ∷ b.variable ∷ b.kind ∷ 0 ∷ 0 ∷ [])) m (m + 1)
   stored-anew e room =
       record {
-        kept = length-sets out (m * 6) (s ∷ x ∷ v ∷ k ∷ 0 ∷ 0 ∷ []);
+        kept = length-sets out (m * 6) (b.scope ∷ b.name ∷ b.variable ∷ b.kind ∷ 0 ∷ 0 ∷ []);
         within = room;
-        holds = λ old es h p fits. binding-anew s x v k i h p e room;
+        holds = λ old es h p fits. binding-anew b.scope b.name b.variable b.kind i h p e room;
       }
 
-  pub not-stored : i ≡ m → m * 6 ≤ length out → length out < (m + 1) * 6 → Stores s x v k i out out m m
+  pub not-stored : i ≡ m → m * 6 ≤ length out → length out < (m + 1) * 6 → Stores b i out out m m
   not-stored e room full =
       record {
         kept = refl;
         within = room;
-        holds = λ old es h p fits. absurd (no_room s x v k i h p e full fits);
+        holds = λ old es h p fits. absurd (no_room b.scope b.name b.variable b.kind i h p e full fits);
       }
 
-use-read : (id : ℕ) (w : Write) (rest : List ℕ) → eqb id (get_or (recorded_words w ++ rest) 0 0) ≡ is_use id w
+use-read : (id : ℕ) (w : Write) (rest : List ℕ) → begins (id ∷ []) (recorded_words w ++ rest) ≡ is_use id w
 unfolding recorded_words
-use-read id (write j b) rest = refl
+use-read id (write j b) rest = alone (eqb id j) true ∙ whole (eqb id j)
+  where
+    whole : (b : Bool) → (b && true) ≡ b
+    whole false = refl
+    whole true = refl
 
-pub answer-placed : (out : List ℕ) (m r id f v k : ℕ) (a : Answer) (i : ℕ) → answer_words a ≡ f ∷ v ∷ k ∷ 0 ∷ [] → (i ≤ m) × (i ≡ place (eqb id) (ids_of m out)) → (m + 1) * 5 ≤ length out → r ≡ suc i + (m - suc i) → Becomes 1 recorded_words (note (write id a)) out (set (set (set (set (set out (i * 5) id) (i * 5 + 1) f) (i * 5 + 2) v) (i * 5 + 3) k) (i * 5 + 4) 0) m r
-unfolding recorded_words
-answer-placed out m r id f v k a i e p room c = rw (add-one (i * 5), add-two, add-three, add-four) (rw e at (one_placed recorded_words 5 sized-recorded (λ ws. get_or ws 0 0) (eqb id) (is_use id) (use-read id) (write id a) i p (omega (arith, p.0)) c (λ old es w q. note-over id a es ∙ rw (← q))))
+pub answer-placed : {out : List ℕ} {m r : ℕ} (id : ℕ) (a : Answer) (i : ℕ) → (i ≤ m) × (i ≡ place (begins (id ∷ [])) (entries_of 5 (λ ws. ws) m out)) → (m + 1) * 5 ≤ length out → r ≡ suc i + (m - suc i) → Becomes 1 recorded_words (note (write id a)) out (sets out (i * 5) (recorded_words (write id a))) m r
+answer-placed id a i p room c =
+    one_set recorded_words 5 sized-recorded (write id a) i p.0 (omega (arith, p.0)) c
+    (λ old es h. note-over id a es ∙ rw (← p.1 ∙ placed recorded_words 5 sized-recorded (id ∷ []) (is_use id) (use-read id) h))

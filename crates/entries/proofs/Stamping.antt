@@ -1,7 +1,7 @@
 -- What the stamps tell, and bindings that are put one after another.
 --     new-place                 a scope's name that the stamps don't know of is not bound
 --     raised, marked            the stamps that come to know of one
---     none_made, more-made      no binding, and bindings after others
+--     none_made, more-made      no binding, and bindings after others; `fits-still`
 use Prim.Native.Nat.{ℕ, zero, suc, ◌+◌, ◌*◌, ◌<◌, ◌≤◌}
 use native.Mathlib.Numerals.{add-one}
 use native.Mathlib.Omega.{arith}
@@ -16,7 +16,8 @@ use Rattle.scope.specs.Graph.{Entry, entry}
 use Rattle.semantics.specs.Log.{Bound, bound}
 use Rattle.semantics.specs.Lists.{put, puts}
 use Rattle.entries.specs.Adding.{place, is_binding}
-use Rattle.entries.specs.Stamps.{Knows, Stamped, Marks, Finds, Stores, Makes}
+use Rattle.entries.specs.Stamps.{Knows, Stamped, Marks, Kept, Fits, Finds, Stores, Makes, bound_of}
+use Rattle.entries.specs.declared.Binding.{Binding}
 
 -- what the stamps don't know of is in no place
 not-both : (b c : Bool) → (b ≡ true → c ≡ true → ⊥) → (b && c) ≡ false
@@ -107,32 +108,36 @@ puts-append [] cs es = refl
 puts-append (b ∷ bs) cs es = puts-append bs cs (put b es)
 
 -- a binding whose place is found, with the stamps that know of it
-pub one-made : {s x v k i : ℕ} {out new stamps left : List ℕ} {m r : ℕ} → Finds s x out stamps m i → Marks s x stamps left → Stores s x v k i out new m r → Makes (bound s x v k ∷ []) out new stamps left m r
+pub one-made : (b : Binding) {i : ℕ} {out new stamps left : List ℕ} {m r : ℕ} → Finds b.scope b.name out stamps m i → Marks b.scope b.name stamps left → Stores b i out new m r → Makes (bound_of b ∷ []) (record { list = out; made = m; stamps = stamps }) (record { list = new; made = r; stamps = left })
 unfolding puts
-one-made {s} {x} {v} {k} f h st =
+one-made b f h st =
     record {
       kept = st.kept;
       marks = h.kept;
       within = st.within;
-      holds = λ old es b room. record {
-        list = st.holds old es b.list (f.found old es b) room;
-        stamped = stamped-put s x v k h es b.stamped;
+      holds = λ old es k room. record {
+        list = st.holds old es k.list (f.found old es k) room;
+        stamped = stamped-put b.scope b.name b.variable b.kind h es k.stamped;
       };
     }
 
 -- no binding, and bindings after others
-pub none_made : {out stamps : List ℕ} {m : ℕ} → m * 6 ≤ length out → Makes [] out out stamps stamps m m
+pub none_made : {a : Kept} → Fits a → Makes [] a a
 unfolding puts
-none_made h = record { kept = refl; marks = refl; within = h; holds = λ old es b room. b }
+none_made f = record { kept = refl; marks = refl; within = f.room; holds = λ old es b room. b }
 
-pub more-made : {bs cs : List Bound} {out mid new stamps between left : List ℕ} {m q r : ℕ} → Makes bs out mid stamps between m q → Makes cs mid new between left q r → Makes (bs ++ cs) out new stamps left m r
-more-made {bs} {cs} {out} {mid} f g =
+pub more-made : {bs cs : List Bound} {a b c : Kept} → Makes bs a b → Makes cs b c → Makes (bs ++ cs) a c
+more-made {bs} {cs} {a} f g =
     record {
       kept = g.kept ∙ f.kept;
       marks = g.marks ∙ f.marks;
       within = rw (← f.kept) g.within;
       holds = λ old es b room.
-          let all : length (puts cs (puts bs es)) * 6 ≤ length out = rw (puts-append bs cs es) at room in
-          let some' : length (puts bs es) * 6 ≤ length out = omega (arith, all, puts-grow cs (puts bs es)) in
+          let all : length (puts cs (puts bs es)) * 6 ≤ length a.list = rw (puts-append bs cs es) at room in
+          let some' : length (puts bs es) * 6 ≤ length a.list = omega (arith, all, puts-grow cs (puts bs es)) in
           rw (puts-append bs cs es) (g.holds old (puts bs es) (f.holds old es b some') (rw f.kept all));
     }
+
+-- what fits still does
+pub fits-still : {bs : List Bound} {a b : Kept} → Fits a → Makes bs a b → Fits b
+fits-still f m = record { room = omega (arith, m.within, m.kept); stamped = omega (arith, f.stamped, m.marks) }

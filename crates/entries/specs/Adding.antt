@@ -1,9 +1,11 @@
 -- What a lent list of flat words comes to have: its entries, and one more of them.
-use Rattle.std.specs.Prelude.{ℕ, suc, ◌+◌, ◌≤◌, ◌≡◌, Bool, cond, ◌&&◌, eqb, length, get_or}
+use Rattle.std.specs.Prelude.{ℕ, suc, ◌+◌, ◌≤◌, ◌≡◌, Bool, cond, ◌&&◌, eqb, length, Option, None, Some}
+use Rattle.std.specs.List.{starts_with}
 use mathlib.Core.List.{List, [], ◌∷◌, ◌++◌, flat_map}
-use Rattle.scope.specs.Flat.{entries_of}
 use Rattle.scope.specs.Graph.{Entry, entry}
+use Rattle.semantics.specs.Log.{Answer, found, missing}
 use Rattle.entries.specs.Filled.{filled}
+use Rattle.entries.specs.declared.Found.{Found}
 
 -- a list has m entries, and then what was there
 pub record Holds {A : Type 0} (words : A → List ℕ) (old out : List ℕ) (m : ℕ) (es : List A) : Type 0 where
@@ -26,9 +28,15 @@ unfoldable pub place : {A : Type 0} → (A → Bool) → List A → ℕ
 place fits [] = 0
 place fits (e ∷ es) = cond (fits e) 0 (suc (place fits es))
 
--- a binding of a name in a scope, and the use ids of recorded uses
+-- words that begin with a key
+abbrev pub begins : (key words : List ℕ) → Bool
+begins key words = starts_with eqb words key
+
+-- a binding of a name in a scope
 abbrev pub is_binding : ℕ → ℕ → Entry → Bool
 is_binding s x (entry t y u j r) = eqb s t && eqb x y
 
-abbrev pub ids_of : ℕ → List ℕ → List ℕ
-ids_of = entries_of 5 (λ ws. get_or ws 0 0)
+-- the answer to a use, which is found or missing; whether over a projection is not known
+abbrev pub answer : Option Found → Answer
+answer None = missing
+answer (Some f) = found f.variable f.kind 0

@@ -6,6 +6,8 @@ use Rattle.semantics.specs.Log.{Bound, bound}
 use Rattle.semantics.specs.Lists.{put, puts}
 use Rattle.entries.specs.Filled.{binding_words, carried_words}
 use Rattle.entries.specs.Adding.{Holds, Becomes, after, place, is_binding}
+use Rattle.entries.specs.declared.Binding.{Binding}
+use Rattle.entries.specs.declared.Bindings.{Bindings}
 
 -- the stamps know of a scope's name; nothing is said of the last number, which has no next one
 pub record Knows (stamps : List ℕ) (s x : ℕ) : Type 0 where
@@ -22,28 +24,51 @@ pub record Marks (s x : ℕ) (stamps new : List ℕ) : Type 0 where
   pub here : Knows new s x
   pub there : (t y : ℕ) → Knows stamps t y → Knows new t y
 
--- a list has these m bindings, and the stamps know of them
-pub record Binds (old out stamps : List ℕ) (m : ℕ) (es : List Entry) : Type 0 where
-  pub list : Holds binding_words old out m es
-  pub stamped : Stamped stamps es
+-- a list of bindings, how many are made in it, and the stamps that know of them
+pub record Kept : Type 0 where
+  pub list : List ℕ
+  pub made : ℕ
+  pub stamps : List ℕ
+
+abbrev pub kept : Bindings → Kept
+kept b = record { list = b.list.now; made = b.made; stamps = b.stamps.now }
+
+-- the same lent words
+pub record IsStill (old new : Bindings) : Type 0 where
+  pub list : new.list.ghost_name ≡ old.list.ghost_name
+  pub stamps : new.stamps.ghost_name ≡ old.stamps.ghost_name
+
+-- what is asked of them
+pub record Fits (a : Kept) : Type 0 where
+  pub room : a.made * 6 ≤ length a.list
+  pub stamped : 1 ≤ length a.stamps
+
+-- a list has these bindings, and the stamps know of them
+pub record Binds (old : List ℕ) (a : Kept) (es : List Entry) : Type 0 where
+  pub list : Holds binding_words old a.list a.made es
+  pub stamped : Stamped a.stamps es
 
 -- r is the place of a scope's name among m bindings
 pub record Finds (s x : ℕ) (out stamps : List ℕ) (m r : ℕ) : Type 0 where
   pub within : r ≤ m
-  pub found : (old : List ℕ) (es : List Entry) → Binds old out stamps m es → r ≡ place (is_binding s x) es
+  pub found : (old : List ℕ) (es : List Entry) → Binds old (record { list = out; made = m; stamps = stamps }) es → r ≡ place (is_binding s x) es
+
+-- a binding as the definition has it
+abbrev pub bound_of : Binding → Bound
+bound_of b = bound b.scope b.name b.variable b.kind
 
 -- where i is a binding's place, it is put there, if the list has room
-pub record Stores (s x v k i : ℕ) (out new : List ℕ) (m r : ℕ) : Type 0 where
+pub record Stores (b : Binding) (i : ℕ) (out new : List ℕ) (m r : ℕ) : Type 0 where
   pub kept : length new ≡ length out
   pub within : r * 6 ≤ length out
-  pub holds : (old : List ℕ) (es : List Entry) → Holds binding_words old out m es → i ≡ place (is_binding s x) es → length (put (bound s x v k) es) * 6 ≤ length out → Holds binding_words old new r (put (bound s x v k) es)
+  pub holds : (old : List ℕ) (es : List Entry) → Holds binding_words old out m es → i ≡ place (is_binding b.scope b.name) es → length (put (bound_of b) es) * 6 ≤ length out → Holds binding_words old new r (put (bound_of b) es)
 
 -- whatever bindings a list has, these are put into it, if it has room
-pub record Makes (bs : List Bound) (out new stamps left : List ℕ) (m r : ℕ) : Type 0 where
-  pub kept : length new ≡ length out
-  pub marks : length left ≡ length stamps
-  pub within : r * 6 ≤ length out
-  pub holds : (old : List ℕ) (es : List Entry) → Binds old out stamps m es → length (puts bs es) * 6 ≤ length out → Binds old new left r (puts bs es)
+pub record Makes (bs : List Bound) (a b : Kept) : Type 0 where
+  pub kept : length b.list ≡ length a.list
+  pub marks : length b.stamps ≡ length a.stamps
+  pub within : b.made * 6 ≤ length a.list
+  pub holds : (old : List ℕ) (es : List Entry) → Binds old a es → length (puts bs es) * 6 ≤ length a.list → Binds old b (puts bs es)
 
 -- a carried name is stored as the entry numbered n, if the list has room
 pub record Carries (c : Carried) (out new : List ℕ) (n : ℕ) : Type 0 where

@@ -2,18 +2,51 @@
 // last one the value.
 #![tactic(auto)]
 
-ghost use Rattle.std.specs.Prelude.{◌≡◌, true, [], ◌∷◌, ◌+◌, ◌*◌, ◌≤◌, eqb, length};
+ghost use Rattle.std.specs.Prelude.{◌≡◌, true, [], ◌∷◌, ◌+◌, ◌*◌, ◌≤◌, length};
 ghost use Rattle.std.proofs.lemmas.List.Edits.{sets};
-ghost use Rattle.scope.specs.Flat.{bindings_of};
+ghost use Rattle.scope.specs.Flat.{entries_of};
 ghost use Rattle.scope.specs.Graph.{carried};
-ghost use Rattle.semantics.specs.Log.{Answer, bound, write};
+ghost use Rattle.semantics.specs.Log.{write};
 ghost use Rattle.semantics.specs.Lists.{note};
-ghost use Rattle.entries.specs.Filled.{answer_words, recorded_words};
-ghost use Rattle.entries.specs.Adding.{Becomes, place, is_binding, ids_of};
-ghost use Rattle.entries.specs.Stamps.{Knows, Marks, Finds, Stores, Makes, Carries};
+ghost use Rattle.entries.specs.Filled.{recorded_words};
+ghost use Rattle.entries.specs.Adding.{Becomes, place, begins, answer};
+ghost use Rattle.entries.specs.Stamps.{Knows, Marks, Finds, Stores, Makes, Carries, Fits, IsStill, bound_of, kept};
 
 // The number that has no next one.
 const LAST: u32 = 4294967295;
+
+// A binding of a name in a scope.
+#[derive(Clone, Copy, Debug, PartialEq, Eq)]
+pub struct Binding {
+    pub scope: u32,
+    pub name: u32,
+    pub variable: u32,
+    pub kind: u32,
+}
+
+// A variable that a use has, and its kind.
+#[derive(Clone, Copy, Debug, PartialEq, Eq)]
+pub struct Found {
+    pub variable: u32,
+    pub kind: u32,
+}
+
+// A lent list of bindings, how many are made in it, and the stamps that know of them.
+#[derive(Drop)]
+pub struct Bindings<'a> {
+    pub list: &'a mut [u32],
+    pub made: usize,
+    pub stamps: &'a mut [u32],
+}
+
+// An entry's words as the entry numbered i.
+pub fn set_entry<const W: usize>(out: &mut [u32], i: usize, entry: [u32; W])
+    requires { (i + 1) * W ≤ length out.old }
+    ensures { out.new ≡ sets out.old (i * W) entry.entry }
+{
+    let p = i * W;
+    out[p..p + W].copy_from_slice(&entry);
+}
 
 // A carried name as the entry numbered n, where the list has room for it.
 pub fn put_carried(out: &mut [u32], n: u32, barrier: u32, x: u32, v: u32)
@@ -23,40 +56,18 @@ pub fn put_carried(out: &mut [u32], n: u32, barrier: u32, x: u32, v: u32)
     if out.len() < (i + 1) * 3 {
         return;
     }
-    let p = i * 3;
-    out[p] = barrier;
-    out[p + 1] = x;
-    out[p + 2] = v;
+    set_entry(out, i, [barrier, x, v]);
 }
 
-// Six words as the entry numbered i.
-pub fn set_six(out: &mut [u32], i: usize, a: u32, b: u32, c: u32, d: u32, e: u32, f: u32)
-    requires { (i + 1) * 6 ≤ length out.old }
-    ensures { out.new ≡ sets out.old (i * 6) (a ∷ b ∷ c ∷ d ∷ e ∷ f ∷ []) }
+// The place of the first of m entries of W words that begins with a key, or m.
+fn place_of<const W: usize>(out: &[u32], m: usize, key: &[u32]) -> usize
+    requires { m * W ≤ length out.now }
+    ensures { (result ≤ m) × (result ≡ place (begins key.now) (entries_of W (λ words. words) m out.now)) }
 {
-    let p = i * 6;
-    out[p] = a;
-    out[p + 1] = b;
-    out[p + 2] = c;
-    out[p + 3] = d;
-    out[p + 4] = e;
-    out[p + 5] = f;
-}
-
-// The place of the binding of a name in a scope among m, or m.
-fn place_of_binding(out: &[u32], m: usize, scope: u32, name: u32) -> usize
-    requires { m * 6 ≤ length out.now }
-    ensures { (result ≤ m) × (result ≡ place (is_binding scope name) (bindings_of m out.now)) }
-{
-    let mut i = 0;
-    while i < m {
-        let p = i * 6;
-        if out[p] == scope {
-            if out[p + 1] == name {
-                return i;
-            }
+    for i in 0..m {
+        if out[i * W..].starts_with(key) {
+            return i;
         }
-        i += 1;
     }
     m
 }
@@ -91,7 +102,7 @@ fn place_for(out: &[u32], m: usize, stamps: &[u32], scope: u32, name: u32) -> us
     if is_new(stamps, scope, name) {
         return m;
     }
-    place_of_binding(out, m, scope, name)
+    place_of::<6>(out, m, &[scope, name])
 }
 
 // The stamps with a scope's name.
@@ -113,75 +124,55 @@ fn mark(stamps: &mut [u32], scope: u32, name: u32)
     }
 }
 
-// A binding in its place among m, where the list has room for it.
-fn store_binding(
-    out: &mut [u32],
-    m: usize,
-    i: usize,
-    scope: u32,
-    name: u32,
-    v: u32,
-    kind: u32,
-) -> usize
+// A binding in its place i among m, where the list has room for it.
+fn store_binding(out: &mut [u32], m: usize, i: usize, b: Binding) -> usize
     requires { (i ≤ m) × (m * 6 ≤ length out.old) }
-    ensures { Stores scope name v kind i out.old out.new m result }
+    ensures { Stores b i out.old out.new m result }
 {
     if i < m {
-        let u = out[i * 6 + 2];
-        set_six(out, i, scope, name, v, kind, 1, u);
+        let replaced = out[i * 6 + 2];
+        set_entry(out, i, [b.scope, b.name, b.variable, b.kind, 1, replaced]);
         return m;
     }
     if out.len() < (m + 1) * 6 {
         return m;
     }
-    set_six(out, m, scope, name, v, kind, 0, 0);
+    set_entry(out, m, [b.scope, b.name, b.variable, b.kind, 0, 0]);
     m + 1
 }
 
-// A binding put among m, where the list has room for it; how many there are then.
-pub fn put_binding(
-    out: &mut [u32],
-    m: usize,
-    stamps: &mut [u32],
-    scope: u32,
-    name: u32,
-    v: u32,
-    kind: u32,
-) -> usize
-    requires { (m * 6 ≤ length out.old) × (1 ≤ length stamps.old) }
-    ensures { Makes (bound scope name v kind ∷ []) out.old out.new stamps.old stamps.new m result }
-{
-    let i = place_for(out, m, stamps, scope, name);
-    mark(stamps, scope, name);
-    store_binding(out, m, i, scope, name, v, kind)
+impl Bindings<'_> {
+    // A binding put into the list, where it has room for it.
+    pub fn put(&mut self, b: Binding)
+        requires { Fits (kept self.old) }
+        ensures still { IsStill self.old self.new }
+        ensures makes { Makes (bound_of b ∷ []) (kept self.old) (kept self.new) }
+    {
+        let list = &mut *self.list;
+        let stamps = &mut *self.stamps;
+        let i = place_for(list, self.made, stamps, b.scope, b.name);
+        mark(stamps, b.scope, b.name);
+        self.made = store_binding(list, self.made, i, b);
+    }
 }
 
-// The place of a use id among m, or m.
-fn place_of_use(out: &[u32], m: usize, id: u32) -> usize
-    requires { m * 5 ≤ length out.now }
-    ensures { (result ≤ m) × (result ≡ place (eqb id) (ids_of m out.now)) }
+// The words of an answer to a use.
+#[tactic(auto, unfolding(crate::specs::Filled::recorded_words))]
+fn answer_entry(id: u32, found: Option<Found>) -> [u32; 5]
+    ensures { result ≡ recorded_words (write id (answer found)) }
 {
-    let mut i = 0;
-    while i < m {
-        if out[i * 5] == id {
-            return i;
-        }
-        i += 1;
+    match found {
+        Some(f) => [id, 1, f.variable, f.kind, 0],
+        None => [id, 0, 0, 0, 0],
     }
-    m
 }
 
 // An answer in its place among m; how many there are then.
-pub fn put_answer(out: &mut [u32], m: usize, id: u32, found: u32, v: u32, kind: u32) -> usize
+pub fn put_answer(out: &mut [u32], m: usize, id: u32, found: Option<Found>) -> usize
     requires { (m + 1) * 5 ≤ length out.old }
-    ensures { (a : Answer) → answer_words a ≡ found ∷ v ∷ kind ∷ 0 ∷ [] → Becomes 1 recorded_words (note (write id a)) out.old out.new m result }
+    ensures { Becomes 1 recorded_words (note (write id (answer found))) out.old out.new m result }
 {
-    let i = place_of_use(out, m, id);
-    let p = i * 5;
-    out[p] = id;
-    out[p + 1] = found;
-    out[p + 2] = v;
-    out[p + 3] = kind;
-    out[p + 4] = 0;
+    let i = place_of::<5>(out, m, &[id]);
+    set_entry(out, i, answer_entry(id, found));
     if i < m { m } else { m + 1 }
 }

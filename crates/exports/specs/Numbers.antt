@@ -3,18 +3,24 @@ use Rattle.std.specs.Prelude.{ℕ, ◌+◌, List, [], ◌∷◌}
 use Rattle.scope.specs.Lookup.{Looked, at, nothing, refused}
 use Rattle.scope.specs.Offset.{Offset, in', nowhere}
 use Rattle.scope.specs.Offset as offsets
-use Rattle.checker.specs.declared.Checked.{Checked}
-use Rattle.checker.specs.declared.Checked.TheVariants as checked
+use Rattle.sheet.specs.Read.{Sheet, accepted}
+use Rattle.sheet.specs.Read as sheets
+use Rattle.checker.specs.Checked.{Lent}
+use Rattle.checker.specs.declared.Counts.{Counts}
+
+-- the five lent lists
+abbrev pub flat : (scopes bindings carried recorded findings : List ℕ) → Lent ℕ
+flat a b c d e = record { scopes = a; bindings = b; carried = c; recorded = d; findings = e }
 
 -- 256 where the lists are filled
-abbrev pub checked_number : Checked → ℕ
-checked_number (checked.Is c) = 256
-checked_number (checked.Refused n) = n
+abbrev pub checked_number : Sheet Counts → ℕ
+checked_number (accepted c) = 256
+checked_number (sheets.refused n) = n
 
 -- the five counts in the order of the lists; a refusal alters nothing
-abbrev pub with_counts : Checked → List ℕ → List ℕ
-with_counts (checked.Is c) l = c.scopes ∷ c.bindings ∷ c.carried ∷ c.recorded ∷ c.findings ∷ []
-with_counts (checked.Refused n) l = l
+abbrev pub with_counts : Sheet Counts → List ℕ → List ℕ
+with_counts (accepted c) l = c.scopes ∷ c.bindings ∷ c.carried ∷ c.recorded ∷ c.findings ∷ []
+with_counts (sheets.refused n) l = l
 
 -- 256 and the variable, or 0 for nothing
 abbrev pub looked_number : Looked → ℕ

@@ -5,9 +5,9 @@ ghost use Rattle.std.specs.Prelude.{◌≡◌, not, ◌/◌, eqb, length};
 ghost use Rattle.scope.specs.Lookup.{lookup};
 ghost use Rattle.scope.specs.Offset.{offset};
 ghost use Rattle.checker.specs.Checked.{answer_in, left_in};
-ghost use Rattle.exports.specs.Numbers.{checked_number, with_counts, looked_number, offset_number};
+ghost use Rattle.exports.specs.Numbers.{flat, checked_number, with_counts, looked_number, offset_number};
 
-use checker::{Checked, check_words};
+use checker::{Lists, check_words};
 use scope::{Looked, Standing, lookup, scope_at_offset};
 
 // The lists of a sheet and their five counts: 256, or the refusal's number.
@@ -22,21 +22,21 @@ pub extern "C" fn cenguatu_check(
     findings: &mut [u32],
     counts: &mut [usize; 5],
 ) -> u32
-    ensures { (result ≡ checked_number (answer_in (not (eqb warnings 0)) sheet.now (record { scopes = scopes.old; bindings = bindings.old; carried = carried.old; recorded = recorded.old; findings = findings.old }) (length findings.old / 6))) × ((record { scopes = scopes.new; bindings = bindings.new; carried = carried.new; recorded = recorded.new; findings = findings.new } ≡ left_in (not (eqb warnings 0)) sheet.now (record { scopes = scopes.old; bindings = bindings.old; carried = carried.old; recorded = recorded.old; findings = findings.old }) (length findings.old / 6)) × (counts.new ≡ with_counts (answer_in (not (eqb warnings 0)) sheet.now (record { scopes = scopes.old; bindings = bindings.old; carried = carried.old; recorded = recorded.old; findings = findings.old }) (length findings.old / 6)) counts.old)) }
+    ensures number { result ≡ checked_number (answer_in (not (eqb warnings 0)) sheet.now (flat scopes.old bindings.old carried.old recorded.old findings.old) (length findings.old / 6)) }
+    ensures lists { flat scopes.new bindings.new carried.new recorded.new findings.new ≡ left_in (not (eqb warnings 0)) sheet.now (flat scopes.old bindings.old carried.old recorded.old findings.old) (length findings.old / 6) }
+    ensures counts { counts.new ≡ with_counts (answer_in (not (eqb warnings 0)) sheet.now (flat scopes.old bindings.old carried.old recorded.old findings.old) (length findings.old / 6)) counts.old }
 {
     let room = findings.len() / 6;
-    match check_words(
-        sheet,
-        warnings != 0,
+    let mut lists = Lists {
         scopes,
         bindings,
         carried,
         recorded,
         findings,
-        room,
-    ) {
-        Checked::Refused(n) => n,
-        Checked::Is(c) => {
+    };
+    match check_words(sheet, warnings != 0, &mut lists, room) {
+        Err(cause) => cause,
+        Ok(c) => {
             *counts = [c.scopes, c.bindings, c.carried, c.recorded, c.findings];
             256
         }

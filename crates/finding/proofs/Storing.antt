@@ -1,26 +1,26 @@
--- Laws of the records that `into` stores: the list keeps its length (so does the flat list that `out_of` writes), and where the flat list begins with a list of findings, it begins with their records.
+-- Laws of what is stored in lists: words copied to a place are stored there one by one, and where a flat list begins with a list of
+-- findings, the records that `into` stores are theirs.
 use mathlib.Core.Path.{◌≡◌, refl, sym, ap, ◌∙◌}
 use Prim.Native.Nat.{ℕ, zero, suc, ◌+◌, ◌*◌, ◌<◌, ◌≤◌}
 use native.Mathlib.Nat.{not-suc-le-zero, le_of_suc-le-suc, le_of_lt, le_refl}
 use native.Mathlib.Omega.{arith}
-use mathlib.Core.List.{List, [], ◌∷◌, ◌++◌, map, flat_map}
-use lib.ListN.{length, get_or, set, take, drop, length-set, length-map}
-use lib.Seq.{length-take-le, take-length, take-suc, drop-cons, append_snoc, set_at, length-sets}
+use mathlib.Core.List.{List, [], ◌∷◌, ◌++◌, map, flat_map, append_assoc}
+use lib.ListN.{length, get_or, set, take, drop, length-map}
+use borrow.Rule.Slice.PartMut.{put_mid}
+use Rattle.std.proofs.lemmas.Slice.{put_mid-paste}
+use Rattle.std.proofs.lemmas.List.Edits.{paste_all}
+use lib.Seq.{sets, sets-eq, length-take-le, take-length, take-suc, drop-cons, append_snoc, set_at}
 use Rattle.semantics.specs.Log.{finding}
 use Rattle.semantics.specs.Log as log
 use Rattle.finding.specs.Flat.{finding_words}
 use Rattle.finding.specs.declared.Finding.{Finding}
-use Rattle.finding.specs.Records.{nothing, nth, record_of, record_at, into, words_of, out_of, with_records}
+use Rattle.finding.specs.Records.{nothing, nth, record_of, record_at, into, with_records}
 
-pub length-into : (fs : List Finding) (flat : List ℕ) (n : ℕ) → length (into fs flat n) ≡ length fs
-unfolding into
-length-into fs flat zero = refl
-length-into fs flat (suc n) = length-set (into fs flat n) n (record_at flat n) ∙ length-into fs flat n
-
-pub length-out : (flat : List ℕ) (fs : List Finding) (n : ℕ) → length (out_of flat fs n) ≡ length flat
-unfolding out_of
-length-out flat fs zero = refl
-length-out flat fs (suc n) = length-sets (out_of flat fs n) (n * 6) (words_of (nth fs n)) ∙ length-out flat fs n
+-- words that are copied over a part of a list are stored there one by one
+pub copied-sets : (at k : ℕ) (l ys vs : List ℕ) → ys ≡ vs → k ≡ length vs → at + k ≤ length l → put_mid at k l ys ≡ sets l at vs
+copied-sets at k l ys vs e n room =
+    let long : at + length vs ≤ length l = omega arith in
+    put_mid-paste at k l ys vs k e refl n ∙ paste_all l at vs k n ∙ rw n (sym (rw append_assoc at (sets-eq vs l at long)))
 
 -- the record after six words is the record of what follows them
 module _ (a b c d e f : ℕ) (l : List ℕ) where

@@ -1,7 +1,7 @@
 -- What is woven, a carried entry and an event at a time.
 --     Adopting                  what the loop over a barrier's entries keeps; `adopt-begin`, `adopt-turn`, `adopt-stop`, `adopt-done`
 --     woven-more, left-more     what one event more gives, and what it leaves of the carried entries
---     Weaving                   what the loop over the events keeps; `weave-begin`, `weave_turn`, `weave-done`
+--     Weaving                   what the loop over the events keeps; `weave-begin`, `weave_turn`
 use Prim.Native.Nat.{ℕ, suc, ◌+◌, ◌-◌, ◌*◌, ◌<◌, ◌≤◌}
 use native.Mathlib.Nat.{add-zero}
 use native.Mathlib.Omega.{arith}
@@ -10,8 +10,9 @@ use mathlib.Core.List.{List, [], ◌∷◌, ◌++◌, flat_map, append-nil, appe
 use borrow.Author.Tests.{eq-eqb, ne_eqb}
 use lib.ListN.{length, get_or, drop}
 use lib.Seq.{get_or-drop}
-use Rattle.scope.specs.Flat.{carried_of, carrieds_of, parent_of}
-use Rattle.scope.specs.Graph.{Carried, carried}
+use Rattle.scope.specs.Flat.{carried_of, carrieds_of}
+use Rattle.scope.specs.Graph.{carried}
+use Rattle.scope.specs.Graph as graph
 use Rattle.scope.proofs.Entries.{first, next, last}
 use Rattle.scope.proofs.Climbing.{parent-of}
 use Rattle.semantics.specs.Log.{Bound, bound, Event, open', bind, carry, answer, find, bind_of}
@@ -20,12 +21,13 @@ use Rattle.theorems.specs.Woven.{barrier_of, adopted, beyond, adopted_by, beyond
 use Rattle.steps.specs.Memory.{events, event_at}
 use Rattle.entries.specs.Filled.{binding_words}
 use Rattle.entries.specs.Adding.{Holds}
-use Rattle.entries.specs.Stamps.{Stamped, Makes}
+use Rattle.entries.specs.Stamps.{Kept, Fits, Stamped, Makes, bound_of}
+use Rattle.entries.specs.declared.Binding.{Binding}
 use Rattle.entries.proofs.Filling.{filled-nil}
-use Rattle.entries.proofs.Stamping.{none_made, more-made}
+use Rattle.entries.proofs.Stamping.{none_made, more-made, fits-still}
 use Rattle.lists_fill.specs.Said.{events_in}
-use Rattle.lists_fill.specs.Weaving.{carried_from, barrier_in, woven_one, Leaves}
-use Rattle.lists_fill.specs.declared.Reached.{Reached}
+use Rattle.lists_fill.specs.Weaving.{carried_from, barrier_in, kinds, rest, woven_one, Leaves, Adopts}
+use Rattle.lists_fill.specs.declared.Carried.{Carried}
 use Rattle.lists_fill.proofs.Adding.{next-event}
 
 -- the entry numbered p of a carried list
@@ -54,61 +56,61 @@ module _ (kind : ℕ → ℕ) (taken : ℕ) (l : List ℕ) where
   none-beyond b p h e = rw (next-carried p h, ne_eqb b (get_or l (p * 3) 0) (λ q. e (sym q)))
 
   -- The loop: of the entries from c on, those up to p are bound.
-  pub record Adopting (b c : ℕ) (stamps left out new : List ℕ) (m p n : ℕ) : Type 0 where
+  pub record Adopting (b c : ℕ) (a k : Kept) (p : ℕ) : Type 0 where
     pub done : List Bound
     pub within : p ≤ taken
     pub same : adopted kind b (carried_from taken l c) ≡ done ++ adopted kind b (carried_from taken l p)
     pub over : beyond kind b (carried_from taken l c) ≡ beyond kind b (carried_from taken l p)
-    pub makes : Makes done out new stamps left m n
+    pub makes : Makes done a k
 
-  module _ {stamps out : List ℕ} {c m : ℕ} where
-    pub adopt-begin : (b : ℕ) → c ≤ taken → m * 6 ≤ length out → Adopting b c stamps stamps out out m c m
-    adopt-begin b h room = record { done = []; within = h; same = refl; over = refl; makes = none_made room }
+  pub adopt-begin : {a : Kept} {c : ℕ} (b : ℕ) → c ≤ taken → Fits a → Adopting b c a a c
+  adopt-begin b h f = record { done = []; within = h; same = refl; over = refl; makes = none_made f }
 
-    -- without a barrier nothing is bound
-    pub adopt-none : (w : ℕ) → w ≡ 0 → c ≤ taken → m * 6 ≤ length out → Leaves (adopted_by kind (parent_of w) (carried_from taken l c)) (beyond_by kind (parent_of w) (carried_from taken l c)) l taken stamps stamps out out m (record { made = m; met = c })
-    adopt-none w e h room = rw e (record { makes = none_made room; met = h; next = refl })
+  pub adopt-turn : {a k m : Kept} {c w p : ℕ} {b : Binding} → Adopting (w - 1) c a k p → 1 ≤ w → p < taken → get_or l (p * 3) 0 ≡ w - 1 → bound_of b ≡ bound w (get_or l (p * 3 + 1) 0) (get_or l (p * 3 + 2) 0) (kind (get_or l (p * 3 + 2) 0)) → Makes (bound_of b ∷ []) k m → Adopting (w - 1) c a m (p + 1)
+  adopt-turn {c = c} {w = w} {p = p} {b = b} a some' h e same f =
+      let root : suc (w - 1) ≡ w = omega arith in
+      let one : adopted kind (w - 1) (carried_from taken l p) ≡ bound_of b ∷ adopted kind (w - 1) (carried_from taken l (p + 1)) = more-adopted (w - 1) p h e ∙ rw (root, same) in
+      record {
+        done = a.done ++ (bound_of b ∷ []);
+        within = omega arith;
+        same = a.same ∙ rw one (sym (append_assoc a.done (bound_of b ∷ []) (adopted kind (w - 1) (carried_from taken l (p + 1)))));
+        over = a.over ∙ more-beyond (w - 1) p h e;
+        makes = more-made a.makes f;
+      }
 
-    module _ {left new : List ℕ} {w p n : ℕ} (a : Adopting (w - 1) c stamps left out new m p n) where
-      pub adopt-turn : {more newer : List ℕ} {r k : ℕ} → 1 ≤ w → p < taken → get_or l (p * 3) 0 ≡ w - 1 → k ≡ kind (get_or l (p * 3 + 2) 0) → Makes (bound w (get_or l (p * 3 + 1) 0) (get_or l (p * 3 + 2) 0) k ∷ []) new newer left more n r → Adopting (w - 1) c stamps more out newer m (p + 1) r
-      adopt-turn {more} {newer} {r} {k} some' h e ke f =
-          let root : suc (w - 1) ≡ w = omega arith in
-          let this = bound w (get_or l (p * 3 + 1) 0) (get_or l (p * 3 + 2) 0) k in
-          let one : adopted kind (w - 1) (carried_from taken l p) ≡ this ∷ adopted kind (w - 1) (carried_from taken l (p + 1)) = more-adopted (w - 1) p h e ∙ rw (root, ke) in
-          record {
-            done = a.done ++ (this ∷ []);
-            within = omega arith;
-            same = a.same ∙ rw one (sym (append_assoc a.done (this ∷ []) (adopted kind (w - 1) (carried_from taken l (p + 1)))));
-            over = a.over ∙ more-beyond (w - 1) p h e;
-            makes = more-made a.makes f;
-          }
+module _ (w : Carried) where
+  -- without a barrier nothing is bound
+  pub adopt-none : {a : Kept} {c : ℕ} (root : ℕ) → root ≡ 0 → c ≤ w.taken → Fits a → Adopts w c root a a c
+  adopt-none root e h f = rw e (record { makes = none_made f; met = h; next = refl })
 
-      ended : 1 ≤ w → adopted kind (w - 1) (carried_from taken l p) ≡ [] → beyond kind (w - 1) (carried_from taken l p) ≡ carried_from taken l p → Leaves (adopted_by kind (parent_of w) (carried_from taken l c)) (beyond_by kind (parent_of w) (carried_from taken l c)) l taken stamps left out new m (record { made = n; met = p })
-      ended some' none' rest =
-          let all : adopted kind (w - 1) (carried_from taken l c) ≡ a.done = a.same ∙ rw none' (append-nil a.done) in
-          rw (parent-of w (λ e. omega arith), all)
-          (record { makes = a.makes; met = a.within; next = sym (a.over ∙ rest) })
+  module _ {a b : Kept} {root c p : ℕ} (k : Adopting (kinds w) w.taken w.list.now (root - 1) c a b p) (some' : 1 ≤ root) where
+    ended : adopted (kinds w) (root - 1) (rest w p) ≡ [] → beyond (kinds w) (root - 1) (rest w p) ≡ rest w p → Adopts w c root a b p
+    ended none' over =
+        let all : adopted (kinds w) (root - 1) (rest w c) ≡ k.done = k.same ∙ rw none' (append-nil k.done) in
+        rw (parent-of root (λ e. omega arith), all)
+        (record { makes = k.makes; met = k.within; next = sym (k.over ∙ over) })
 
-      pub adopt-stop : 1 ≤ w → p < taken → (get_or l (p * 3) 0 ≡ w - 1 → ⊥) → Leaves (adopted_by kind (parent_of w) (carried_from taken l c)) (beyond_by kind (parent_of w) (carried_from taken l c)) l taken stamps left out new m (record { made = n; met = p })
-      adopt-stop some' h e = ended some' (none-adopted (w - 1) p h e) (none-beyond (w - 1) p h e)
+    pub adopt-stop : p < w.taken → (get_or w.list.now (p * 3) 0 ≡ root - 1 → ⊥) → Adopts w c root a b p
+    adopt-stop h e = ended (none-adopted (kinds w) w.taken w.list.now (root - 1) p h e) (none-beyond (kinds w) w.taken w.list.now (root - 1) p h e)
 
-      pub adopt-done : 1 ≤ w → taken ≤ p → Leaves (adopted_by kind (parent_of w) (carried_from taken l c)) (beyond_by kind (parent_of w) (carried_from taken l c)) l taken stamps left out new m (record { made = n; met = p })
-      unfolding adopted beyond
-      adopt-done some' h =
-          let nothing = last 3 carried_of taken l p h in
-          ended some' (rw nothing) (rw nothing)
+    pub adopt-done : w.taken ≤ p → Adopts w c root a b w.taken
+    unfolding adopted beyond
+    adopt-done h =
+        let nothing = last 3 carried_of w.taken w.list.now p h in
+        let all : p ≡ w.taken = omega (arith, k.within) in
+        rw all at (ended (rw nothing) (rw nothing))
 
 -- bindings after those, with the same carried entries left
-pub leave-more : {bs cs : List Bound} {rest : List Carried} {l : List ℕ} {taken : ℕ} {stamps left more out new newer : List ℕ} {m n : ℕ} {r : Reached} → Leaves bs rest l taken stamps left out new m r → Makes cs new newer left more r.made n → Leaves (bs ++ cs) rest l taken stamps more out newer m (record { made = n; met = r.met })
+pub leave-more : {bs cs : List Bound} {left : List graph.Carried} {w : Carried} {a b k : Kept} {r : ℕ} → Leaves bs left w a b r → Makes cs b k → Leaves (bs ++ cs) left w a k r
 leave-more a f = record { makes = more-made a.makes f; met = a.met; next = a.next }
 
 -- One event more.
 module _ (kind : ℕ → ℕ) where
-  unfoldable pub left_over : List Event → List Carried → List Carried
+  unfoldable pub left_over : List Event → List graph.Carried → List graph.Carried
   left_over [] cs = cs
   left_over (e ∷ l) cs = left_over l (beyond_by kind (barrier_in e) cs)
 
-  woven-one : (e : Event) (l : List Event) (cs : List Carried) → woven kind (e ∷ l) cs ≡ woven_one kind e cs ++ woven kind l (beyond_by kind (barrier_in e) cs)
+  woven-one : (e : Event) (l : List Event) (cs : List graph.Carried) → woven kind (e ∷ l) cs ≡ woven_one kind e cs ++ woven kind l (beyond_by kind (barrier_in e) cs)
   unfolding woven barrier_in bind_of
   woven-one (open' s) l cs = rw (append-nil (adopted_by kind (barrier_of s) cs))
   woven-one (bind o g b) l cs = refl
@@ -116,66 +118,52 @@ module _ (kind : ℕ → ℕ) where
   woven-one (answer a) l cs = refl
   woven-one (find f) l cs = refl
 
-  none_more : (e : Event) (cs ds : List Carried) → woven_one kind e cs ++ woven kind [] ds ≡ woven kind [] cs ++ woven_one kind e cs
+  none_more : (e : Event) (cs ds : List graph.Carried) → woven_one kind e cs ++ woven kind [] ds ≡ woven kind [] cs ++ woven_one kind e cs
   unfolding woven
   none_more e cs ds = append-nil (woven_one kind e cs)
 
-  woven-more : (l : List Event) (e : Event) (cs : List Carried) → woven kind (l ++ (e ∷ [])) cs ≡ woven kind l cs ++ woven_one kind e (left_over l cs)
+  woven-more : (l : List Event) (e : Event) (cs : List graph.Carried) → woven kind (l ++ (e ∷ [])) cs ≡ woven kind l cs ++ woven_one kind e (left_over l cs)
   unfolding left_over
   woven-more [] e cs = woven-one e [] cs ∙ none_more e cs (beyond_by kind (barrier_in e) cs)
   woven-more (d ∷ l) e cs =
       let ds = beyond_by kind (barrier_in d) cs in
       woven-one d (l ++ (e ∷ [])) cs ∙ rw (woven-more l e ds, woven-one d l cs) (sym (append_assoc (woven_one kind d cs) (woven kind l ds) (woven_one kind e (left_over l ds))))
 
-  left-more : (l : List Event) (e : Event) (cs : List Carried) → left_over (l ++ (e ∷ [])) cs ≡ beyond_by kind (barrier_in e) (left_over l cs)
+  left-more : (l : List Event) (e : Event) (cs : List graph.Carried) → left_over (l ++ (e ∷ [])) cs ≡ beyond_by kind (barrier_in e) (left_over l cs)
   unfolding left_over
   left-more [] e cs = refl
   left-more (d ∷ l) e cs = left-more l e (beyond_by kind (barrier_in d) cs)
 
 -- bindings put into a list that had none
-made-of-none : {bs : List Bound} {stamps left out new : List ℕ} {r : ℕ} → Makes bs out new stamps left 0 r → length (puts bs []) * 6 ≤ length out → Holds binding_words out new r (puts bs [])
+pub made-of-none : {bs : List Bound} {a b : Kept} → a.made ≡ 0 → Makes bs a b → length (puts bs []) * 6 ≤ length a.list → Holds binding_words a.list b.list b.made (puts bs [])
 unfolding flat_map Stamped
-made-of-none {bs} {stamps} {left} {out} h room = (h.holds out [] (record { list = record { count = refl; wrote = sym (filled-nil out); kept = refl }; stamped = tt }) room).list
+made-of-none {a = a} e h room = (h.holds a.list [] (record { list = record { count = e; wrote = sym (filled-nil a.list); kept = refl }; stamped = tt }) room).list
 
--- The loop over n events: i are passed, c carried entries are met and m bindings made, whatever the use ids of names are.
-pub record Weaving (kind : ℕ → ℕ) (found : List ℕ) (n : ℕ) (l : List ℕ) (taken : ℕ) (stamps left out new : List ℕ) (i c m : ℕ) : Type 0 where
-  pub within : i ≤ n
-  pub met : c ≤ taken
-  pub kept : length new ≡ length out
-  pub marks : length left ≡ length stamps
-  pub room : m * 6 ≤ length new
-  pub next : (id : ℕ → ℕ) → carried_from taken l c ≡ left_over kind (events_in id i found) (carrieds_of taken l)
-  pub makes : (id : ℕ → ℕ) → Makes (woven kind (events_in id i found) (carrieds_of taken l)) out new stamps left 0 m
+-- The loop over n events: i are passed and c carried entries are met, whatever the use ids of names are.
+pub record Weaving (w : Carried) (found : List ℕ) (n : ℕ) (a b : Kept) (i c : ℕ) : Type 0 where
+  pub met : c ≤ w.taken
+  pub fits : Fits b
+  pub next : (id : ℕ → ℕ) → rest w c ≡ left_over (kinds w) (events_in id i found) (carrieds_of w.taken w.list.now)
+  pub makes : (id : ℕ → ℕ) → Makes (woven (kinds w) (events_in id i found) (carrieds_of w.taken w.list.now)) a b
 
-module _ {kind : ℕ → ℕ} {found : List ℕ} {n : ℕ} {l : List ℕ} {taken : ℕ} {stamps out : List ℕ} where
-  pub weave-begin : Weaving kind found n l taken stamps stamps out out 0 0 0
+module _ {w : Carried} {found : List ℕ} {n : ℕ} {a : Kept} where
+  pub weave-begin : Fits a → Weaving w found n a a 0 0
   unfolding events_in events left_over woven
-  weave-begin =
+  weave-begin f =
       record {
-        within = omega arith;
         met = omega arith;
-        kept = refl;
-        marks = refl;
-        room = omega arith;
-        next = λ id. first 3 carried_of taken l;
-        makes = λ id. none_made (omega arith);
+        fits = f;
+        next = λ id. first 3 carried_of w.taken w.list.now;
+        makes = λ id. none_made f;
       }
 
-  module _ {left new : List ℕ} {i c m : ℕ} (a : Weaving kind found n l taken stamps left out new i c m) where
-    pub weave_turn : {more newer : List ℕ} {r : Reached} → i < n → ((id : ℕ → ℕ) → Leaves (woven_one kind (event_at id found (i * 6)) (carried_from taken l c)) (beyond_by kind (barrier_in (event_at id found (i * 6))) (carried_from taken l c)) l taken left more new newer m r) → Weaving kind found n l taken stamps more out newer (i + 1) r.met r.made
-    weave_turn h f =
-        let one = f (λ x. x) in
-        record {
-          within = omega arith;
-          met = one.met;
-          kept = one.makes.kept ∙ a.kept;
-          marks = one.makes.marks ∙ a.marks;
-          room = rw one.makes.kept one.makes.within;
-          next = λ id. (f id).next ∙ rw (next-event id found i, left-more kind (events_in id i found) (event_at id found (i * 6)) (carrieds_of taken l), ← a.next id);
-          makes = λ id. rw (next-event id found i, woven-more kind (events_in id i found) (event_at id found (i * 6)) (carrieds_of taken l), ← a.next id) (more-made (a.makes id) (f id).makes);
-        }
-
-    pub weave-done : n ≤ i → (id : ℕ → ℕ) → length (puts (woven kind (events_in id n found) (carrieds_of taken l)) []) * 6 ≤ length out → Holds binding_words out new m (puts (woven kind (events_in id n found) (carrieds_of taken l)) [])
-    weave-done h id room =
-        let all : i ≡ n = omega (arith, a.within) in
-        made-of-none (rw all at (a.makes id)) room
+  pub weave_turn : {b k : Kept} {i c r : ℕ} → Weaving w found n a b i c → ((id : ℕ → ℕ) → Leaves (woven_one (kinds w) (event_at id found (i * 6)) (rest w c)) (beyond_by (kinds w) (barrier_in (event_at id found (i * 6))) (rest w c)) w b k r) → Weaving w found n a k (i + 1) r
+  weave_turn {i = i} o f =
+      let one = f (λ x. x) in
+      let cs = carrieds_of w.taken w.list.now in
+      record {
+        met = one.met;
+        fits = fits-still o.fits one.makes;
+        next = λ id. (f id).next ∙ rw (next-event id found i, left-more (kinds w) (events_in id i found) (event_at id found (i * 6)) cs, ← o.next id);
+        makes = λ id. rw (next-event id found i, woven-more (kinds w) (events_in id i found) (event_at id found (i * 6)) cs, ← o.next id) (more-made (o.makes id) (f id).makes);
+      }

@@ -1,66 +1,96 @@
-// Four of the five lists, filled from what both walks left in `found` and in the carried list: scopes and findings as they come, bindings and
+// Four of the five lists, filled from what both walks left in `found` and from the carried list: scopes and findings as they come, bindings and
 // recorded uses with the first making giving the place and the last one the value.
 #![tactic(auto)]
 
-ghost use Rattle.std.specs.Prelude.{◌≡◌, [], ◌++◌, ℕ, suc, ◌+◌, ◌-◌, ◌*◌, ◌≤◌, length};
-ghost use Rattle.words.specs.Words.{words};
+ghost use Rattle.std.specs.Prelude.{◌≡◌, [], ◌++◌, ℕ, ◌+◌, ◌*◌, ◌≤◌, length};
 ghost use Rattle.scope.specs.Flat.{parent_of};
 ghost use Rattle.semantics.specs.Log.{scope_of, bind_of, answer_of, find_of, scopes_in, answers_in, finds_in};
 ghost use Rattle.semantics.specs.Lists.{notes};
+ghost use Rattle.steps.specs.Memory.{answered, event_at};
 ghost use Rattle.finding.specs.Flat.{finding_words};
 ghost use Rattle.entries.specs.Filled.{scope_words, recorded_words};
-ghost use Rattle.entries.specs.Adding.{Holds, Becomes, after};
-ghost use Rattle.entries.specs.Stamps.{Makes};
+ghost use Rattle.entries.specs.Adding.{Holds, Becomes, after, answer};
+ghost use Rattle.entries.specs.Stamps.{Makes, Fits, IsStill, kept};
 ghost use Rattle.lists_fill.specs.Said.{id_in, events_in, told_in};
 ghost use Rattle.lists_fill.specs.Adding.{six_at, said};
-ghost use Rattle.lists_fill.specs.Weaving.{barrier_in, Ready, Adopts, Weaves, Weavable, Bindings};
+ghost use Rattle.lists_fill.specs.Weaving.{barrier_in, Ready, Adopts, Weaves, bound_in, Weavable, Makings};
 
-use entries::{put_answer, put_binding, set_six};
+use entries::{Binding, Bindings, Found, put_answer, set_entry};
+use finding::{Finding, words_at};
 use steps::kind_of;
 
 // The use id of no bytes.
 const NO_NAME: u32 = 4276314682;
 
-// An event: its sort, or a finding's code, and five words.
+// The kind of a Root.
+const ROOT: u32 = 1;
+
+// What the name walk left: a scope that it opened, a binding that it made, the use of a variable or of a name that it recorded, or a finding.
 #[derive(Clone, Copy)]
-struct Logged {
-    sort: u32,
-    a: u32,
-    b: u32,
-    c: u32,
-    d: u32,
-    e: u32,
+enum Logged {
+    Scope(u32, u32, u32, u32),
+    Binding(bool, Binding),
+    Variable(Found),
+    Name(u32, Option<Found>),
+    Finding(Finding),
 }
 
-// The six words from p on.
-fn six_at(found: &[u32], p: usize) -> Logged
-    requires { p + 6 ≤ length found.now }
-    ensures { result ≡ six_at found.now p }
+// A use that is found, where the flag is not 0.
+fn found_if(flag: u32, variable: u32, kind: u32) -> Option<Found>
+    ensures { answer result ≡ answered flag variable kind }
 {
-    Logged {
-        sort: found[p],
-        a: found[p + 1],
-        b: found[p + 2],
-        c: found[p + 3],
-        d: found[p + 4],
-        e: found[p + 5],
+    if flag == 0 {
+        return None;
+    }
+    Some(Found { variable, kind })
+}
+
+impl From<[u32; 6]> for Logged {
+    ghost from_gives = { λ words logged. (id : ℕ → ℕ) → said id logged ≡ event_at id words 0 };
+
+    fn from(words: [u32; 6]) -> Logged {
+        let [sort, a, b, c, d, _] = words;
+        let binding = Binding {
+            scope: a,
+            name: b,
+            variable: c,
+            kind: d,
+        };
+        match sort {
+            1 => Logged::Scope(a, b, c, d),
+            2 => Logged::Binding(false, binding),
+            3 => Logged::Binding(true, binding),
+            4 => Logged::Variable(Found {
+                variable: a,
+                kind: b,
+            }),
+            5 => Logged::Name(a, found_if(b, c, d)),
+            _ => Logged::Finding(Finding::from(words)),
+        }
     }
 }
 
-// The event numbered i.
-fn event_at(found: &[u32], i: usize) -> Logged
-    requires { (i + 1) * 6 ≤ length found.now }
-    ensures { result ≡ six_at found.now (i * 6) }
+// The six words from p on.
+fn six_at(found: &[u32], p: usize) -> [u32; 6]
+    requires { p + 6 ≤ length found.now }
+    ensures { result ≡ six_at found.now p }
 {
-    six_at(found, i * 6)
+    [
+        found[p],
+        found[p + 1],
+        found[p + 2],
+        found[p + 3],
+        found[p + 4],
+        found[p + 5],
+    ]
 }
 
-// The finding numbered i of those that stand at the back.
-fn told_at(found: &[u32], i: usize) -> Logged
+// What was left as the event numbered i.
+fn logged_at(found: &[u32], i: usize) -> Logged
     requires { (i + 1) * 6 ≤ length found.now }
-    ensures { result ≡ six_at found.now (length found.now - suc i * 6) }
+    ensures { (id : ℕ → ℕ) → said id result ≡ event_at id found.now (i * 6) }
 {
-    six_at(found, found.len() - (i + 1) * 6)
+    Logged::from(six_at(found, i * 6))
 }
 
 // The scope that an event opens, after m others; how many there are then.
@@ -68,15 +98,13 @@ fn add_scope(out: &mut [u32], m: usize, e: Logged) -> usize
     requires { (m + 1) * 4 ≤ length out.old }
     ensures { (id : ℕ → ℕ) → Becomes 1 scope_words (after (scope_of (said id e))) out.old out.new m result }
 {
-    if e.sort != 1 {
-        return m;
+    match e {
+        Logged::Scope(kind, parent, start, end) => {
+            set_entry(out, m, [kind, parent, start, end]);
+            m + 1
+        }
+        _ => m,
     }
-    let q = m * 4;
-    out[q] = e.a;
-    out[q + 1] = e.b;
-    out[q + 2] = e.c;
-    out[q + 3] = e.d;
-    m + 1
 }
 
 // The scopes of n events; how many there are.
@@ -84,12 +112,9 @@ pub fn fill_scopes(found: &[u32], n: usize, out: &mut [u32]) -> usize
     requires { (n * 6 ≤ length found.now) × (n * 4 ≤ length out.old) }
     ensures { (id : ℕ → ℕ) → Holds scope_words out.old out.new result (scopes_in (events_in id n found.now)) }
 {
-    let mut i = 0;
     let mut m = 0;
-    while i < n {
-        let e = event_at(found, i);
-        m = add_scope(out, m, e);
-        i += 1;
+    for i in 0..n {
+        m = add_scope(out, m, logged_at(found, i));
     }
     m
 }
@@ -99,13 +124,12 @@ fn add_finding(out: &mut [u32], m: usize, e: Logged) -> usize
     requires { (m + 1) * 6 ≤ length out.old }
     ensures { (id : ℕ → ℕ) → Becomes 1 finding_words (after (find_of (said id e))) out.old out.new m result }
 {
-    let sort = e.sort;
-    match sort {
-        1 | 2 | 3 | 4 | 5 => m,
-        _ => {
-            set_six(out, m, sort, e.a, e.b, e.c, e.d, e.e);
+    match e {
+        Logged::Finding(f) => {
+            words_at(out, m, f);
             m + 1
         }
+        _ => m,
     }
 }
 
@@ -114,12 +138,9 @@ fn fill_findings(found: &[u32], n: usize, out: &mut [u32]) -> usize
     requires { (n * 6 ≤ length found.now) × (n * 6 ≤ length out.old) }
     ensures { (result ≤ n) × ((id : ℕ → ℕ) → Holds finding_words out.old out.new result (finds_in (events_in id n found.now))) }
 {
-    let mut i = 0;
     let mut m = 0;
-    while i < n {
-        let e = event_at(found, i);
-        m = add_finding(out, m, e);
-        i += 1;
+    for i in 0..n {
+        m = add_finding(out, m, logged_at(found, i));
     }
     m
 }
@@ -128,118 +149,108 @@ fn fill_findings(found: &[u32], n: usize, out: &mut [u32]) -> usize
 fn root_of(e: Logged) -> u32
     ensures { (id : ℕ → ℕ) → parent_of result ≡ barrier_in (said id e) }
 {
-    if e.sort != 1 {
-        return 0;
-    }
-    if e.a != 1 {
-        return 0;
-    }
-    e.b
-}
-
-// How far the bindings are: how many are made, and how many entries of the carried list are met.
-#[derive(Clone, Copy)]
-struct Reached {
-    made: usize,
-    met: usize,
-}
-
-// What the barrier above a Root carries, of the carried list from c on, bound in the Root; nothing where there is none.
-fn adopt(
-    s: &[u8],
-    tab: &[u32],
-    carried: &[u32],
-    taken: usize,
-    c: usize,
-    root: u32,
-    stamps: &mut [u32],
-    out: &mut [u32],
-    m: usize,
-) -> Reached
-    requires { Ready (words s.now) tab.now carried.now taken c stamps.old out.old m }
-    ensures { Adopts (words s.now) tab.now carried.now taken c root stamps.old stamps.new out.old out.new m result }
-{
-    if root == 0 {
-        return Reached { made: m, met: c };
-    }
-    let mut p = c;
-    let mut n = m;
-    while p < taken {
-        let q = p * 3;
-        if carried[q] != root - 1 {
-            return Reached { made: n, met: p };
+    match e {
+        Logged::Scope(kind, parent, _, _) => {
+            if kind == ROOT {
+                return parent;
+            }
+            0
         }
-        let v = carried[q + 2];
-        let kind = kind_of(s, tab, v);
-        n = put_binding(out, n, stamps, root, carried[q + 1], v, kind);
-        p += 1;
+        _ => 0,
     }
-    Reached { made: n, met: p }
+}
+
+// The carried list of a sheet with its tables, and how many entries it has.
+#[derive(Clone, Copy)]
+pub struct Carried<'a> {
+    pub sheet: &'a [u8],
+    pub tab: &'a [u32],
+    pub list: &'a [u32],
+    pub taken: usize,
+}
+
+impl Carried<'_> {
+    // What the barrier above a Root carries, of the entries from c on, bound in the Root; nothing where there is none. How many are met then.
+    fn adopt(self, c: usize, root: u32, bindings: &mut Bindings) -> usize
+        requires { Ready self c (kept bindings.old) }
+        ensures still { IsStill bindings.old bindings.new }
+        ensures adopts { Adopts self.entry c root (kept bindings.old) (kept bindings.new) result }
+    {
+        if root == 0 {
+            return c;
+        }
+        for p in c..self.taken {
+            let q = p * 3;
+            if self.list[q] != root - 1 {
+                return p;
+            }
+            let variable = self.list[q + 2];
+            bindings.put(Binding {
+                scope: root,
+                name: self.list[q + 1],
+                variable,
+                kind: kind_of(self.sheet, self.tab, variable),
+            });
+        }
+        self.taken
+    }
+
+    // All that an event binds: what is carried over its barrier, or its own.
+    fn weave(self, c: usize, e: Logged, bindings: &mut Bindings) -> usize
+        requires { Ready self c (kept bindings.old) }
+        ensures still { IsStill bindings.old bindings.new }
+        ensures weaves { Weaves self.entry c e (kept bindings.old) (kept bindings.new) result }
+    {
+        let met = self.adopt(c, root_of(e), bindings);
+        add_binding(e, bindings);
+        met
+    }
+
+    // All that n events bind.
+    fn weave_all(self, found: &[u32], n: usize, bindings: &mut Bindings)
+        requires told { n * 6 ≤ length found.now }
+        requires ready { Ready self 0 (kept bindings.old) }
+        ensures still { IsStill bindings.old bindings.new }
+        ensures makes { (id : ℕ → ℕ) → Makes (bound_in self.entry n found.now id) (kept bindings.old) (kept bindings.new) }
+    {
+        let mut c = 0;
+        for i in 0..n {
+            c = self.weave(c, logged_at(found, i), bindings);
+        }
+    }
 }
 
 // The binding that an event makes.
-fn add_binding(out: &mut [u32], m: usize, stamps: &mut [u32], e: Logged) -> usize
-    requires { (m * 6 ≤ length out.old) × (1 ≤ length stamps.old) }
-    ensures { (id : ℕ → ℕ) → Makes (bind_of (said id e)) out.old out.new stamps.old stamps.new m result }
+fn add_binding(e: Logged, bindings: &mut Bindings)
+    requires { Fits (kept bindings.old) }
+    ensures still { IsStill bindings.old bindings.new }
+    ensures makes { (id : ℕ → ℕ) → Makes (bind_of (said id e)) (kept bindings.old) (kept bindings.new) }
 {
-    if e.sort != 2 {
-        if e.sort != 3 {
-            return m;
-        }
-    }
-    put_binding(out, m, stamps, e.a, e.b, e.c, e.d)
-}
-
-// All that an event binds: what is carried over its barrier, or its own.
-fn weave(
-    s: &[u8],
-    tab: &[u32],
-    carried: &[u32],
-    taken: usize,
-    c: usize,
-    e: Logged,
-    stamps: &mut [u32],
-    out: &mut [u32],
-    m: usize,
-) -> Reached
-    requires { Ready (words s.now) tab.now carried.now taken c stamps.old out.old m }
-    ensures { Weaves (words s.now) tab.now carried.now taken c e stamps.old stamps.new out.old out.new m result }
-{
-    let root = root_of(e);
-    let w = adopt(s, tab, carried, taken, c, root, stamps, out, m);
-    let n = add_binding(out, w.made, stamps, e);
-    Reached {
-        made: n,
-        met: w.met,
+    match e {
+        Logged::Binding(_, b) => bindings.put(b),
+        _ => (),
     }
 }
 
 // The bindings of n events, with what WITHs carry, where the list has room for them.
 pub fn fill_bindings(
-    s: &[u8],
-    tab: &[u32],
+    carried: Carried,
     found: &[u32],
     n: usize,
-    carried: &[u32],
-    taken: usize,
     stamps: &mut [u32],
     out: &mut [u32],
 ) -> usize
-    requires { Weavable (words s.now) tab.now found.now n carried.now taken stamps.old }
-    ensures { Bindings (words s.now) tab.now n found.now taken carried.now out.old out.new result }
+    requires { Weavable carried found.now n stamps.old }
+    ensures { Makings carried.entry n found.now out.old out.new result }
 {
     stamps[0] = 0;
-    let mut i = 0;
-    let mut c = 0;
-    let mut m = 0;
-    while i < n {
-        let e = event_at(found, i);
-        let w = weave(s, tab, carried, taken, c, e, stamps, out, m);
-        m = w.made;
-        c = w.met;
-        i += 1;
-    }
-    m
+    let mut bindings = Bindings {
+        list: out,
+        made: 0,
+        stamps,
+    };
+    carried.weave_all(found, n, &mut bindings);
+    bindings.made
 }
 
 // The use id of a name.
@@ -258,17 +269,11 @@ fn add_answer(out: &mut [u32], m: usize, uses: &[u32], e: Logged) -> usize
     requires { (m + 1) * 5 ≤ length out.old }
     ensures { Becomes 1 recorded_words (notes (answer_of (said (id_in uses.now) e))) out.old out.new m result }
 {
-    if e.sort == 4 {
-        return put_answer(out, m, e.a, 1, e.a, e.b);
+    match e {
+        Logged::Variable(f) => put_answer(out, m, f.variable, Some(f)),
+        Logged::Name(name, found) => put_answer(out, m, use_of(uses, name), found),
+        _ => m,
     }
-    if e.sort != 5 {
-        return m;
-    }
-    let id = use_of(uses, e.a);
-    if e.b == 0 {
-        return put_answer(out, m, id, 0, 0, 0);
-    }
-    put_answer(out, m, id, 1, e.c, e.d)
 }
 
 // The recorded uses of n events.
@@ -276,28 +281,22 @@ pub fn fill_recorded(found: &[u32], n: usize, uses: &[u32], out: &mut [u32]) -> 
     requires { (n * 6 ≤ length found.now) × (n * 5 ≤ length out.old) }
     ensures { Holds recorded_words out.old out.new result (notes (answers_in (events_in (id_in uses.now) n found.now)) []) }
 {
-    let mut i = 0;
     let mut m = 0;
-    while i < n {
-        let e = event_at(found, i);
-        m = add_answer(out, m, uses, e);
-        i += 1;
+    for i in 0..n {
+        m = add_answer(out, m, uses, logged_at(found, i));
     }
     m
 }
 
-// k findings of the kind walk, after m that there are; how many there are then.
+// k findings of the kind walk, which stand at the back, after m that there are; how many there are then.
 fn append_findings(found: &[u32], k: usize, out: &mut [u32], m: usize) -> usize
     requires { (k * 6 ≤ length found.now) × ((m + k) * 6 ≤ length out.old) }
     ensures { Becomes k finding_words (after (told_in k found.now)) out.old out.new m result }
 {
-    let mut i = 0;
     let mut n = m;
-    while i < k {
-        let e = told_at(found, i);
-        set_six(out, n, e.sort, e.a, e.b, e.c, e.d, e.e);
+    for i in 0..k {
+        set_entry(out, n, six_at(found, found.len() - (i + 1) * 6));
         n += 1;
-        i += 1;
     }
     n
 }

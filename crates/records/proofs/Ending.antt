@@ -23,22 +23,21 @@ use Rattle.finding.proofs.Storing.{into-records}
 use Rattle.entries.specs.Filled.{filled, with_findings}
 use Rattle.checker.specs.Room.{enough}
 use Rattle.checker.specs.Checked as core
-use Rattle.checker.specs.Checked.{each, counts_of, answer, answer_in, left_in, findings_in}
+use Rattle.checker.specs.Checked.{Lent, each, answered, counts_of, answer, answer_in, left_in, findings_in}
 use Rattle.checker.specs.declared.Counts.{Counts}
-use Rattle.checker.specs.declared.Checked.{Checked}
-use Rattle.checker.specs.declared.Checked.TheVariants as checked
-use Rattle.records.specs.Checked.{Lent, roomy, fits, filled_by, left, answer_for, left_for}
+use Rattle.std.specs.Prelude.{Result}
+use Rattle.records.specs.Checked.{roomy, fits, filled_by, left, answer_for, left_for}
 
-module _ (warns : Bool) (s : List ℕ) (l : Lent) (flat : List ℕ) (wide : length flat ≡ 12288) where
+module _ (warns : Bool) (s : List ℕ) (l : Lent Finding) (flat : List ℕ) (wide : length flat ≡ 12288) where
   abbrev n : ℕ
   n = length (words s)
 
   -- the lists as they are lent to `check_words`
-  abbrev flatly : core.Lent
+  abbrev flatly : Lent ℕ
   flatly = record { scopes = l.scopes; bindings = l.bindings; carried = l.carried; recorded = l.recorded; findings = flat }
 
   -- the lists as they stand once k records are stored
-  abbrev stored : core.Lent → ℕ → Lent
+  abbrev stored : Lent ℕ → ℕ → Lent Finding
   stored c k = record { scopes = c.scopes; bindings = c.bindings; carried = c.carried; recorded = c.recorded; findings = into l.findings c.findings k }
 
   -- the tests of cause 8 in `check_words` and in `check`, by what the answer needs
@@ -81,9 +80,9 @@ module _ (warns : Bool) (s : List ℕ) (l : Lent) (flat : List ℕ) (wide : leng
       × (stored (core.left warns x t flatly) (findings_in (answer warns x t)) ≡ left warns x u l)
 
   accepts : (st : Statement) → read_sheet s ≡ accepted st → (a b : Bool) → tests (counts_of warns st) ≡ a → a ≡ b →
-      (cond a (checked.Is (counts_of warns st)) (checked.Refused 8) ≡ cond b (checked.Is (counts_of warns st)) (checked.Refused 8))
-      × ((findings_in (cond a (checked.Is (counts_of warns st)) (checked.Refused 8)) ≤ length l.findings) × (findings_in (cond a (checked.Is (counts_of warns st)) (checked.Refused 8)) * 6 ≤ 12288))
-      × (stored (cond a (core.filled_by warns st flatly) flatly) (findings_in (cond a (checked.Is (counts_of warns st)) (checked.Refused 8))) ≡ cond b (filled_by warns st l) l)
+      (cond a (accepted (counts_of warns st)) (refused 8) ≡ cond b (accepted (counts_of warns st)) (refused 8))
+      × ((findings_in (cond a (accepted (counts_of warns st)) (refused 8)) ≤ length l.findings) × (findings_in (cond a (accepted (counts_of warns st)) (refused 8)) * 6 ≤ 12288))
+      × (stored (cond a (core.filled_by warns st flatly) flatly) (findings_in (cond a (accepted (counts_of warns st)) (refused 8))) ≡ cond b (filled_by warns st l) l)
   unfolding counts_of core.fits core.filled_by with_findings filled filled_by into
   accepts st e false b h q = rw (← q) (refl, (zero-le, zero-le), refl)
   accepts st e true b h q =
@@ -99,13 +98,16 @@ module _ (warns : Bool) (s : List ℕ) (l : Lent) (flat : List ℕ) (wide : leng
   ends (accepted st) e = accepts st e (tests (counts_of warns st)) (wants (counts_of warns st)) refl (same_tests st e)
   ends (refused c) e = (refl, (zero-le, zero-le), refl)
 
-  module _ {r : Checked} {k : ℕ} (e : r ≡ answer_in warns s flatly (length l.findings)) (f : k ≡ findings_in r) where
+  module _ (r : Result Counts ℕ) (k : ℕ) (e : answered r ≡ answer_in warns s flatly (length l.findings)) (f : k ≡ findings_in (answered r)) where
     pub within : (k ≤ length l.findings) × (k * 6 ≤ 12288)
     unfolding answer_in
     within = rw (f, e) (ends (read_sheet s) refl).1
 
     -- the lists that `check_words` left, with the records stored, and the answer
-    pub finished : {c : core.Lent} {fs : List Finding} → c ≡ left_in warns s flatly (length l.findings) → fs ≡ into l.findings c.findings k
-        → (r ≡ answer_for warns s l) × (record { scopes = c.scopes; bindings = c.bindings; carried = c.carried; recorded = c.recorded; findings = fs } ≡ left_for warns s l)
-    unfolding answer_in left_in answer_for left_for
-    finished g h = let x = ends (read_sheet s) refl in (e ∙ x.0, rw (h, f, e, g) x.2)
+    pub same-answer : answered r ≡ answer_for warns s l
+    unfolding answer_in answer_for
+    same-answer = e ∙ (ends (read_sheet s) refl).0
+
+    pub same_lists : {c : Lent ℕ} → c ≡ left_in warns s flatly (length l.findings) → stored c k ≡ left_for warns s l
+    unfolding answer_in left_in left_for
+    same_lists g = rw (f, e, g) (ends (read_sheet s) refl).2

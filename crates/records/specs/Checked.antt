@@ -8,31 +8,22 @@ use Rattle.finding.specs.declared.Finding.{Finding}
 use Rattle.finding.specs.Records.{with_records}
 use Rattle.entries.specs.Filled.{with_scopes, with_bindings, with_carried, with_recorded}
 use Rattle.checker.specs.Room.{enough}
-use Rattle.checker.specs.Checked.{each, counts_of, answer}
+use Rattle.checker.specs.Checked.{Lent, each, counts_of, answer}
 use Rattle.checker.specs.declared.Counts.{Counts}
-use Rattle.checker.specs.declared.Checked.{Checked}
-
--- the five lent lists
-pub record Lent : Type 0 where
-  pub scopes : List ℕ
-  pub bindings : List ℕ
-  pub carried : List ℕ
-  pub recorded : List ℕ
-  pub findings : List Finding
 
 -- room in each list for so many entries
-unfoldable pub roomy : Counts → Lent → Bool
+unfoldable pub roomy : Counts → Lent Finding → Bool
 roomy n l =
     enough n.scopes (length l.scopes) 4
     && (enough n.bindings (length l.bindings) 6
     && (enough n.carried (length l.carried) 3 && (enough n.recorded (length l.recorded) 5 && leb n.findings (length l.findings))))
 
 -- where 8 is not given: every list has as many entries as the sheet has words, and as many as the answer needs
-unfoldable pub fits : ℕ → Counts → Lent → Bool
+unfoldable pub fits : ℕ → Counts → Lent Finding → Bool
 fits n need l = roomy (each n) l && roomy need l
 
 -- each list filled, "entries past a count are untouched"
-unfoldable pub filled_by : Bool → Statement → Lent → Lent
+unfoldable pub filled_by : Bool → Statement → Lent Finding → Lent Finding
 filled_by warns st l =
     record {
       scopes = with_scopes l.scopes (scopes warns st);
@@ -43,13 +34,13 @@ filled_by warns st l =
     }
 
 -- the lists: filled, or "a refusal alters nothing"
-unfoldable pub left : Bool → Sheet Statement → (Counts → Bool) → Lent → Lent
+unfoldable pub left : Bool → Sheet Statement → (Counts → Bool) → Lent Finding → Lent Finding
 left warns (refused c) fit l = l
 left warns (accepted st) fit l = cond (fit (counts_of warns st)) (filled_by warns st l) l
 
 -- the answer and the lists for the bytes of a sheet
-unfoldable pub answer_for : Bool → List ℕ → Lent → Checked
+unfoldable pub answer_for : Bool → List ℕ → Lent Finding → Sheet Counts
 answer_for warns s l = answer warns (read_sheet s) (λ need. fits (length (words s)) need l)
 
-unfoldable pub left_for : Bool → List ℕ → Lent → Lent
+unfoldable pub left_for : Bool → List ℕ → Lent Finding → Lent Finding
 left_for warns s l = left warns (read_sheet s) (λ need. fits (length (words s)) need l) l

@@ -1,6 +1,5 @@
 -- A name that the stamps don't know of is in no place; else the search tells.
-use native.Mathlib.Omega.{arith}
-use mathlib.Core.Path.{◌∙◌, sym}
+use Rattle.std.proofs.Common.{◌∙◌, sym, arith}
 use Rattle.entries.proofs.Placing.{binding-place}
 use Rattle.entries.proofs.Stamping.{new-place}
 use Rattle.entries.proofs.place_for.Goals as goal
@@ -14,5 +13,5 @@ returns-then-is_new c =
 
 pub returns : goal.returns
 returns c =
-    let e = c.place_of_binding.ensures in
+    let e = c.place_of.ensures in
     record { within = e.0; found = λ old es b. e.1 ∙ binding-place _ _ b.list }

@@ -1,9 +1,7 @@
--- The loop's invariant: the first i findings stand after those that there were.
-use Prim.Native.Nat.{suc, ◌-◌, ◌*◌}
-use native.Mathlib.Omega.{arith}
-use mathlib.Core.List.{append-nil}
-use lib.ListN.{length}
-use Rattle.steps.specs.Memory.{findings}
+-- The oldest finding stands at the end, and each later one before it.
+use Rattle.std.proofs.Common.{suc, ◌+◌, ◌-◌, ◌*◌, ◌≤◌, [], ◌∷◌, length, append-nil, add-one, arith}
+use Rattle.steps.specs.Memory.{findings, finding_at}
+use Rattle.entries.specs.Adding.{after}
 use Rattle.lists_fill.specs.Said.{told_in}
 use Rattle.lists_fill.proofs.Adding.{begin, turn, finish, told-after}
 use Rattle.lists_fill.proofs.Sorts.{one_told}
@@ -17,9 +15,11 @@ loop-i-init c =
 pub loop-i-preserved : goal.loop-i-preserved
 loop-i-preserved c =
     let l = c.args.found.now in
-    turn c.loop-i.invariant c.loop-i-test.true (λ id. one_told l (length l - suc c.loop-i.i * 6) (omega (arith, c.loop-i.invariant.kept, c.loop-i.invariant.few)) c.told_at-e.ensures c.set_six.ensures) (λ id es. told-after _ _ es)
+    let p = length l - suc c.loop-i.i * 6 in
+    let room : (c.loop-i.n + 1) * 6 ≤ length c.loop-i.out = omega (arith, c.loop-i.invariant.kept, c.loop-i.invariant.few) in
+    turn {g = λ id. after (finding_at l p ∷ [])} c.loop-i.invariant c.loop-i-test.true
+    (λ id. rw (c.set_entry.ensures, c.six_at.ensures, add-one c.loop-i.i) (one_told _ _ l p room)) (λ id es. told-after _ _ es)
 
 pub returns : goal.returns
-unfolding told_in findings
 returns c =
     finish c.loop-i.invariant c.loop-i-test.false (λ x. x)

@@ -16,7 +16,7 @@ loop-i-init c =
 pub loop-i-preserved : goal.loop-i-preserved
 unfolding finds_in
 loop-i-preserved c =
-    turn c.loop-i.invariant c.loop-i-test.true (rw c.event_at-e.ensures at c.add_finding-m.ensures) (next-after find_of _ _)
+    turn c.loop-i.invariant c.loop-i-test.true (λ id. rw (c.logged_at.ensures id) at (c.add_finding-m.ensures id)) (next-after find_of _ _)
 
 pub returns : goal.returns
 unfolding events_in events flat_map finds_in

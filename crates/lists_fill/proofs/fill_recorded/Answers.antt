@@ -18,7 +18,7 @@ pub loop-i-preserved : goal.loop-i-preserved
 unfolding answers_in
 loop-i-preserved c =
     let s = c.args in
-    turn c.loop-i.invariant c.loop-i-test.true (λ id. rw c.event_at-e.ensures at c.add_answer-m.ensures) (λ id. next-answer s.found.now _ (id_in s.uses.now))
+    turn c.loop-i.invariant c.loop-i-test.true (λ id. rw (c.logged_at.ensures (id_in s.uses.now)) at c.add_answer-m.ensures) (λ id. next-answer s.found.now _ (id_in s.uses.now))
 
 pub returns : goal.returns
 unfolding events_in events flat_map answers_in notes

@@ -1,5 +1,4 @@
 -- The loop's invariant: the list has the answers of the events passed.
-use Prim.Native.Nat.{◌-◌}
 use Rattle.semantics.specs.Log.{answers_in}
 use Rattle.semantics.specs.Lists.{notes}
 use Rattle.entries.specs.Filled.{recorded_words}
@@ -9,6 +8,3 @@ use Rattle.lists_fill.proofs.fill_recorded.Given as goal
 
 abbrev pub invariant-loop-i : goal.invariant-loop-i
 invariant-loop-i l = Loop recorded_words (λ id k. notes (answers_in (events_in (id_in l.uses) k l.found))) l.n 0 l.initial.out l.out l.i l.m
-
-abbrev pub decreases-loop-i : goal.decreases-loop-i
-decreases-loop-i l = l.n - l.i

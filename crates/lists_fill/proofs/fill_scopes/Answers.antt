@@ -15,7 +15,7 @@ loop-i-init c =
 pub loop-i-preserved : goal.loop-i-preserved
 unfolding scopes_in
 loop-i-preserved c =
-    turn c.loop-i.invariant c.loop-i-test.true (rw c.event_at-e.ensures at c.add_scope-m.ensures) (next-after scope_of _ _)
+    turn c.loop-i.invariant c.loop-i-test.true (λ id. rw (c.logged_at.ensures id) at (c.add_scope-m.ensures id)) (next-after scope_of _ _)
 
 pub returns : goal.returns
 unfolding events_in events flat_map scopes_in

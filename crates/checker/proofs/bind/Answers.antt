@@ -1,0 +1,7 @@
+-- What is asked and given is what filling asks and gives.
+use Rattle.checker.proofs.bind.Goals as goal
+
+pub fill_bindings-requires : goal.fill_bindings-requires
+fill_bindings-requires c =
+    let a = c.requires in
+    record { fine = record { fine = a.fine; lent = a.lent }; told = a.told; stamped = a.stamped }
