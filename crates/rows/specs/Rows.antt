@@ -1,5 +1,6 @@
 -- A variable sought among the rows of the binding table, newest first, and the chains that find it.
-use Rattle.std.specs.Prelude.{ℕ, zero, suc, ◌+◌, ◌*◌, ◌<◌, ◌≤◌, ◌≡◌, Bool, true, cond, List, eqb, length, get_or, drop}
+use Rattle.std.specs.Prelude.{ℕ, zero, suc, ◌+◌, ◌*◌, ◌<◌, ◌≤◌, ◌≡◌, Bool, true, cond, List, eqb, length, get_or, drop, None, Some}
+use Rattle.std.specs.Prelude as code
 use Rattle.std.proofs.Math.Option.{Option, none, some}
 use Rattle.heads.specs.Answer.{row_ids, is_in}
 use Rattle.tables.specs.Distinct.{distinct}
@@ -14,6 +15,11 @@ id_at ws rows i = get_or ws (rows + i * 5) 0
 unfoldable pub seek : (ℕ → ℕ) → ℕ → ℕ → ℕ
 seek f v zero = 0
 seek f v (suc t) = cond (eqb (f t) v) (suc t) (seek f v t)
+
+-- such an answer of the code's
+abbrev pub number_of : code.Option ℕ → ℕ
+number_of None = 0
+number_of (Some i) = suc i
 
 -- the row that such an answer tells of
 abbrev pub row_at : List ℕ → ℕ → Row
