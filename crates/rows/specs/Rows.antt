@@ -38,16 +38,16 @@ pub record Chained (g : ℕ → ℕ) (m n : ℕ) (f : ℕ → ℕ) (tab : List �
   pub heads : (b : ℕ) → b < m → get_or tab b 0 ≡ seek (keyed g f) b n
   pub prevs : (i : ℕ) → i < n → get_or tab (m + i) 0 ≡ seek (keyed g f) (g (f i)) i
 
--- the same over the slots of a multiplier and a shift
+-- one more key is hung up, in the slot x
+pub record Hangs (m x n : ℕ) (old new : List ℕ) : Type 0 where
+  pub kept : length new ≡ length old
+  pub chained : (g f : ℕ → ℕ) → x ≡ g (f n) → Chained g m n f old → Chained g m (suc n) f new
+
+-- so over the slots of a multiplier and a shift
 pub record Hung (mult shift n : ℕ) (f : ℕ → ℕ) (tab : List ℕ) : Type 0 where
   pub low : 21 ≤ shift
   pub high : shift ≤ 31
   pub chained : Chained (slot_of mult shift) (slots shift) n f tab
-
--- one more is hung up, v, and whatever f makes of it is chained
-pub record Added (mult shift n v : ℕ) (old new : List ℕ) : Type 0 where
-  pub kept : length new ≡ length old
-  pub hung : (f : ℕ → ℕ) → f n ≡ v → Hung mult shift n f old → Hung mult shift (suc n) f new
 
 -- zeros for the slots, and room for n rows
 pub record Empty (shift n : ℕ) (tab : List ℕ) : Type 0 where

@@ -6,7 +6,7 @@
 ghost use Rattle.std.specs.Prelude.{◌≡◌, ◌+◌, ◌*◌, ◌%◌, ◌<◌, ◌≤◌, length};
 ghost use Rattle.words.specs.Words.{words};
 ghost use Rattle.rows.specs.Slot.{slots, slot_of};
-ghost use Rattle.rows.specs.Rows.{id_at, seek, number_of, Hung, Added, Empty, Indexed};
+ghost use Rattle.rows.specs.Rows.{id_at, seek, number_of, Hung, Hangs, Empty, Indexed};
 
 use words::word;
 
@@ -37,17 +37,16 @@ impl Slots {
         let mixed = (product ^ (product >> 15)).wrapping_mul(2654435769);
         (mixed >> self.shift) as usize
     }
+}
 
-    // The row n, of a variable, is hung up after the n before it.
-    fn hang(self, chains: &mut [u32], n: u32, variable: u32)
-        requires { (slots self.shift + n < length chains.old) × (n < 4294967295) }
-        ensures { Added self.mult self.shift n variable chains.old chains.new }
-    {
-        let slot = self.of(variable);
-        let before = chains[slot];
-        chains[self.count() + n as usize] = before;
-        chains[slot] = n + 1;
-    }
+// The key n is hung up in its slot, one of m, after the n before it.
+pub fn hang(chains: &mut [u32], m: usize, slot: usize, n: u32)
+    requires { (slot < m) × ((m + n < length chains.old) × (n < 4294967295)) }
+    ensures { Hangs m slot n chains.old chains.new }
+{
+    let before = chains[slot];
+    chains[m + n as usize] = before;
+    chains[slot] = n + 1;
 }
 
 // Rows of five words each, of which the first is the variable.
@@ -139,7 +138,7 @@ pub fn index_rows(s: &[u8], tab: &mut [u32], rows: usize, mult: u32, shift: u32,
         if before.find(slots, tab, variable).is_some() {
             return false;
         }
-        slots.hang(tab, i, variable);
+        hang(tab, slots.count(), slots.of(variable), i);
     }
     true
 }

@@ -4,7 +4,7 @@ use Rattle.std.proofs.lemmas.Bool.{false≢true}
 use Rattle.std.specs.Prelude as code
 use Rattle.std.specs.Prelude.{is_some}
 use Rattle.rows.specs.Rows.{id_at, seek, number_of}
-use Rattle.rows.proofs.Hanging.{none-hung}
+use Rattle.rows.proofs.Hanging.{added, none-hung}
 use Rattle.rows.proofs.Ids.{fresh, sought, fresh-all, fresh-none, fresh-more}
 use Rattle.rows.proofs.index_rows.Goals as goal
 
@@ -25,7 +25,7 @@ returns-then-is_some c =
 pub loop-i-preserved : goal.loop-i-preserved
 loop-i-preserved c =
     let new = rw (← c.is_some.ensures, c.if-is_some.false) at (turn _ _ _ _ _ _ c.requires.0 c.loop-i-test.true c.variable-variable.ensures c.find.ensures) in
-    record { hung = rw add-one (c.hang.ensures.hung _ (sym c.variable-variable.ensures) c.loop-i.invariant.hung); same = c.loop-i.invariant.same ∙ new }
+    record { hung = rw add-one (added c.count.ensures c.of.ensures.slot c.variable-variable.ensures c.hang.ensures c.loop-i.invariant.hung); same = c.loop-i.invariant.same ∙ new }
 
 pub returns : goal.returns
 returns c =
