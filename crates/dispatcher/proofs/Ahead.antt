@@ -2,9 +2,9 @@
 -- far ahead than before (`closer`).
 use Prim.Native.Nat.{ℕ, ◌+◌, ◌-◌, ◌%◌, ◌≤◌, ◌<◌}
 use mathlib.Core.Logic.{⊎_elim}
-use mathlib.Core.Option.{Option}
 use mathlib.Core.Path.{◌≡◌}
 use native.Mathlib.Omega.{arith}
+use Rattle.std.specs.Prelude.{Option}
 use Rattle.dispatcher.specs.Dispatcher.{begins}
 use Rattle.dispatcher.proofs.Lists.{split}
 use Rattle.dispatcher.proofs.Looking.{begins-below}

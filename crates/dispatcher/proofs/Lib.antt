@@ -1,7 +1,6 @@
 pub mod Ahead
 pub mod Lists
 pub mod Looking
-pub mod Numbers
 pub mod One
 pub mod Ring
 pub mod Round

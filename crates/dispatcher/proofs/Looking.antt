@@ -2,13 +2,12 @@
 use Prim.Native.Nat.{ℕ, zero, suc, ◌+◌, ◌%◌, ◌<◌}
 use mathlib.Core.List.{List, [], ◌∷◌}
 use mathlib.Core.Logic.{◌⊎◌, inl, inr}
-use mathlib.Core.Option.{Option, none, some}
 use mathlib.Core.Path.{◌≡◌, refl}
 use native.Mathlib.Omega.{arith}
 use lib.ListN.{set}
-use Rattle.dispatcher.specs.Dispatcher.{State, state, waiting, begins, serve_or, look}
+use Rattle.std.specs.Prelude.{Option, Some, None}
 use Rattle.dispatcher.specs.declared.Taken.{Taken}
-use Rattle.dispatcher.specs.declared.Taken.TheVariants.{Served, None}
+use Rattle.dispatcher.specs.Dispatcher.{taken_one, taken_none, State, state, waiting, begins, serve_or, look}
 
 -- the queue p, after i empty ones from q on, is served
 pub record Found (n k q : ℕ) (qs : List (List ℕ)) (r : Taken × State) : Type 0 where
@@ -20,16 +19,16 @@ pub record Found (n k q : ℕ) (qs : List (List ℕ)) (r : Taken × State) : Typ
   pub this : p ≡ (q + i) % 32
   pub passed : (j : ℕ) → j < i → waiting qs ((q + j) % 32) ≡ []
   pub waits : waiting qs p ≡ item ∷ rest
-  pub same : r ≡ (Served p item (suc (k + i)), state (set qs p rest) (some p))
+  pub same : r ≡ (taken_one p item (suc (k + i)), state (set qs p rest) (Some p))
 
 -- nothing waits in n queues from q on
 pub record Nothing (n k q : ℕ) (qs : List (List ℕ)) (last : Option ℕ) (r : Taken × State) : Type 0 where
   pub passed : (j : ℕ) → j < n → waiting qs ((q + j) % 32) ≡ []
-  pub same : r ≡ (None (k + n), state qs last)
+  pub same : r ≡ (taken_none (k + n), state qs last)
 
 pub begins-below : (last : Option ℕ) → begins last < 32
-begins-below none = omega arith
-begins-below (some q) = omega arith
+begins-below None = omega arith
+begins-below (Some q) = omega arith
 
 module _ (qs : List (List ℕ)) (last : Option ℕ) where
   -- the queue q is empty, and so are those passed after it

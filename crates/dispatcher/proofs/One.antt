@@ -3,17 +3,16 @@ use Prim.Native.Nat.{ℕ, suc, ◌+◌, ◌≤◌, ◌<◌}
 use mathlib.Core.Bool.{Bool, true, false, cond}
 use mathlib.Core.List.{List, [], ◌∷◌, ◌++◌, append-nil}
 use mathlib.Core.Logic.{◌⊎◌, inl, inr, ⊎_elim}
-use mathlib.Core.Option.{Option, some}
 use mathlib.Core.Path.{◌≡◌, refl, ◌∙◌, ap}
 use native.Mathlib.Omega.{arith}
 use borrow.Author.Tests.{ltb-false, leb-false, eqb-true}
 use lib.Dec.{eqb, ltb, leb}
 use lib.ListN.{length, set, length-set, length-append}
-use Rattle.dispatcher.specs.Dispatcher.{State, state, waiting, add, begins, take}
+use Rattle.std.specs.Prelude.{Option, Some, Err}
+use Rattle.dispatcher.specs.declared.error.AddError.{AddError}
+use Rattle.dispatcher.specs.declared.error.AddError.TheVariants.{NoQueue, Full}
+use Rattle.dispatcher.specs.Dispatcher.{Added, done, taken_one, taken_none, State, state, waiting, add, begins, take}
 use Rattle.dispatcher.specs.Turns.{Call, adds, takes, Event, added, taken, step, queues, in_of, out_of}
-use Rattle.dispatcher.specs.declared.Added.{Added}
-use Rattle.dispatcher.specs.declared.Added.TheVariants.{Done, Refused}
-use Rattle.dispatcher.specs.declared.Taken.TheVariants.{Served, None}
 use Rattle.dispatcher.proofs.Lists.{set-one}
 use Rattle.dispatcher.proofs.Looking.{begins-below, looks}
 
@@ -48,13 +47,13 @@ module _ (p x : ℕ) (qs : List (List ℕ)) (last : Option ℕ) where
   with-one = set qs p (waiting qs p ++ (x ∷ []))
 
   pub record Refusal (r : Added × State) : Type 0 where
-    pub number : ℕ
-    pub same : r ≡ (Refused number, state qs last)
+    pub cause : AddError
+    pub same : r ≡ (Err cause, state qs last)
 
   pub record Put (r : Added × State) : Type 0 where
     pub below : p < 32
     pub room : length (waiting qs p) < 16
-    pub same : r ≡ (Done, state with-one last)
+    pub same : r ≡ (done, state with-one last)
 
   -- an add is a refusal, or the item waits
   pub adding : Refusal (add p x (state qs last)) ⊎ Put (add p x (state qs last))
@@ -62,14 +61,14 @@ module _ (p x : ℕ) (qs : List (List ℕ)) (last : Option ℕ) where
   adding = by (ltb 31 p) refl (leb 16 (length (waiting qs p))) refl
     where
       by : (a : Bool) → ltb 31 p ≡ a → (b : Bool) → leb 16 (length (waiting qs p)) ≡ b → Refusal (add p x (state qs last)) ⊎ Put (add p x (state qs last))
-      by true d b e = inl (record { number = 13; same = rw d refl })
-      by false d true e = inl (record { number = 14; same = rw (d, e) refl })
+      by true d b e = inl (record { cause = NoQueue; same = rw d refl })
+      by false d true e = inl (record { cause = Full; same = rw (d, e) refl })
       by false d false e =
           let z = ltb-false 31 p d in
           inr (record { below = omega arith; room = leb-false 16 (length (waiting qs p)) e; same = rw (d, e) refl })
 
   module _ (h : Sound (state qs last)) where
-    one-put : p < 32 → length (waiting qs p) < 16 → One (state qs last) (added p x Done) (state with-one last)
+    one-put : p < 32 → length (waiting qs p) < 16 → One (state qs last) (added p x done) (state with-one last)
     one-put l m = record {
       sound = sound-set qs last last p (waiting qs p ++ (x ∷ [])) h l (omega (arith, length-append (waiting qs p) (x ∷ [])));
       order = λ q. rw (set-one qs p q (waiting qs p ++ (x ∷ [])) (omega (arith, h.size))) (by q (eqb p q) refl);
@@ -82,16 +81,16 @@ module _ (p x : ℕ) (qs : List (List ℕ)) (last : Option ℕ) where
     pub one-add : One (state qs last) (step (adds p x) (state qs last)).0 (step (adds p x) (state qs last)).1
     one-add =
         ⊎_elim
-        (λ r. rw r.same (idle (state qs last) (added p x (Refused r.number)) h (λ q. refl) (λ q. refl)))
+        (λ r. rw r.same (idle (state qs last) (added p x (Err r.cause)) h (λ q. refl) (λ q. refl)))
         (λ r. rw r.same (one-put r.below r.room))
         adding
 
 module _ (qs : List (List ℕ)) (last : Option ℕ) (h : Sound (state qs last)) where
-  pub one-served : (p x k : ℕ) (rest : List ℕ) → p < 32 → waiting qs p ≡ x ∷ rest → One (state qs last) (taken (Served p x k)) (state (set qs p rest) (some p))
+  pub one-served : (p x k : ℕ) (rest : List ℕ) → p < 32 → waiting qs p ≡ x ∷ rest → One (state qs last) (taken (taken_one p x k)) (state (set qs p rest) (Some p))
   one-served p x k rest l e =
       let m : length (waiting qs p) ≡ suc (length rest) = ap length e in
       record {
-        sound = sound-set qs last (some p) p rest h l (omega (arith, h.short p));
+        sound = sound-set qs last (Some p) p rest h l (omega (arith, h.short p));
         order = λ q. rw (set-one qs p q rest (omega (arith, h.size))) (by q (eqb p q) refl);
       }
     where
@@ -104,7 +103,7 @@ module _ (qs : List (List ℕ)) (last : Option ℕ) (h : Sound (state qs last)) 
   one-take =
       ⊎_elim
       (λ f. rw f.same (one-served f.p f.item (suc (0 + f.i)) f.rest (omega (arith, f.this)) f.waits))
-      (λ g. rw g.same (idle (state qs last) (taken (None (0 + 32))) h (λ q. refl) (λ q. refl)))
+      (λ g. rw g.same (idle (state qs last) (taken (taken_none (0 + 32))) h (λ q. refl) (λ q. refl)))
       (looks qs last 32 0 (begins last) (begins-below last))
 
 pub one : (c : Call) (s : State) → Sound s → One s (step c s).0 (step c s).1

@@ -9,9 +9,10 @@ use borrow.Author.Tests.{lt-ltb, le-ltb, le-leb, lt-leb, eqb-true, eqb-false}
 use lib.Dec.{eqb}
 use lib.ListN.{length, get_or, set, length-set}
 use lib.Seq.{get_or-set_same, get_or-set_other, ext_get_or}
-use Rattle.dispatcher.specs.Dispatcher.{waiting, add}
+use Rattle.std.specs.Prelude.{Err}
+use Rattle.dispatcher.specs.declared.error.AddError.TheVariants.{NoQueue, Full}
+use Rattle.dispatcher.specs.Dispatcher.{done, waiting, add}
 use Rattle.dispatcher.specs.Words.{items_from, count_of, queue_of, queues_from, Adds, Serves}
-use Rattle.dispatcher.specs.declared.Added.TheVariants.{Done, Refused}
 use Rattle.dispatcher.proofs.Lists.{set-one}
 
 pub length-items : (ws : List ℕ) (q f n : ℕ) → length (items_from ws q f n) ≡ n
@@ -83,7 +84,7 @@ apart : (f n i : ℕ) → i < n → n < 16 → (f + i) % 16 ≡ (f % 16 + n) % 1
 apart f n i l m e = omega arith
 
 -- a number above 31 is refused
-pub adds-nowhere : (ws : List ℕ) (q x : ℕ) → 31 < q → Adds q x ws ws (Refused 13)
+pub adds-nowhere : (ws : List ℕ) (q x : ℕ) → 31 < q → Adds q x ws ws (Err NoQueue)
 unfolding add
 adds-nowhere ws q x h = record { same = rw (lt-ltb 31 q h) refl; kept = refl }
 
@@ -92,7 +93,7 @@ module _ (ws : List ℕ) (q : ℕ) (long : length ws ≡ 577) (below : q < 32) w
   length_at = ap length (queue-at ws q below) ∙ length-items ws q (get_or ws (512 + q) 0) (count_of ws q)
 
   -- a full queue is refused
-  pub adds-full : (x : ℕ) → 16 ≤ get_or ws (544 + q) 0 → Adds q x ws ws (Refused 14)
+  pub adds-full : (x : ℕ) → 16 ≤ get_or ws (544 + q) 0 → Adds q x ws ws (Err Full)
   unfolding add
   adds-full x h = record { same = rw (le-ltb 31 q (omega arith), length_at, le-leb 16 (count_of ws q) (omega arith)) refl; kept = refl }
 
@@ -136,7 +137,7 @@ module _ (ws : List ℕ) (q : ℕ) (long : length ws ≡ 577) (below : q < 32) w
         let d : min n 16 ≡ n = omega arith in
         rw (a, b, c, d) (items_more with_item q f n ∙ rw (olds, new) refl)
 
-    pub adds-done : Adds q x ws with_item Done
+    pub adds-done : Adds q x ws with_item done
     unfolding add
     adds-done =
         let z : get_or with_item 576 0 ≡ get_or ws 576 0 = other_word 576 (λ e. omega arith) (λ e. omega arith) in

@@ -6,9 +6,8 @@ use mathlib.Core.Path.{◌≡◌, refl, sym, ◌∙◌}
 use native.Mathlib.Numerals.{add-one}
 use native.Mathlib.Omega.{arith}
 use lib.ListN.{get_or}
-use Rattle.dispatcher.specs.Dispatcher.{begins, serve_or, look, take}
+use Rattle.dispatcher.specs.Dispatcher.{taken_one, taken_none, begins, serve_or, look, take}
 use Rattle.dispatcher.specs.Words.{items_from, queues_from, queue_of, last_of, state_of, Takes, Serves}
-use Rattle.dispatcher.specs.declared.Taken.TheVariants.{Served, None}
 use Rattle.dispatcher.proofs.Ring.{queue-at, queues-set}
 
 -- the words are as they were, and what is left of the take is a look from the queue q on
@@ -43,13 +42,13 @@ module _ (ws us : List ℕ) (q steps : ℕ) (r : Round ws us q steps) where
     same = looked l ∙ rw (rw r.kept at e) refl;
   }
 
-  pub stops : (after : List ℕ) (item : ℕ) → steps < 32 → Serves q us after item → Takes ws after (Served q item (steps + 1))
+  pub stops : (after : List ℕ) (item : ℕ) → steps < 32 → Serves q us after item → Takes ws after (taken_one q item (steps + 1))
   stops after item l h =
       let s : Serves q ws after item = rw r.kept at h in
       record { same = sym (looked l ∙ rw (s.front, queues-set ws after q r.below s.others, s.last) refl); kept = tt }
 
-  pub ends : 32 ≤ steps → Takes ws us (None steps)
+  pub ends : 32 ≤ steps → Takes ws us (taken_none 32)
   unfolding look
   ends h =
-      let n : 32 - steps ≡ 0 = omega (arith, h) in
-      record { same = rw r.kept (sym (r.same ∙ rw n refl)); kept = r.kept }
+      let all : steps ≡ 32 = omega (arith, r.most) in
+      record { same = rw r.kept (sym (rw all at r.same)); kept = r.kept }

@@ -4,13 +4,13 @@ use Prim.Native.Nat.{ℕ, suc, ◌<◌}
 use mathlib.Core.Bool.{Bool, true, false, cond}
 use mathlib.Core.List.{List, [], ◌∷◌, ◌++◌}
 use mathlib.Core.Logic.{⊎_elim}
-use mathlib.Core.Option.{Option, some}
 use mathlib.Core.Path.{◌≡◌, refl, sym, ◌∙◌}
 use native.Mathlib.Omega.{arith}
 use borrow.Author.Tests.{eqb-true, eqb-false}
 use lib.Dec.{eqb}
 use lib.ListN.{length, set, get_or-eq_default}
 use lib.Seq.{get_or-set_other}
+use Rattle.std.specs.Prelude.{Option, Some}
 use Rattle.dispatcher.specs.Dispatcher.{State, state, waiting, add, begins, take}
 use Rattle.dispatcher.specs.Turns.{Call, adds, takes, Event, log, came_out, takes_in}
 use Rattle.dispatcher.proofs.Ahead.{ahead, there, closer}
@@ -43,7 +43,7 @@ later p y qs last q x xs h e =
     by false d f = record { after = with-one p y qs last; rest = xs; same = refl; waits = f ∙ e }
 
 -- a take serves the queue q, or another and q then lies less far ahead and waits as before
-nearer : (qs : List (List ℕ)) (last : Option ℕ) (q x : ℕ) (xs : List ℕ) → q < 32 → waiting qs q ≡ x ∷ xs → (f : Found 32 0 (begins last) qs (take (state qs last))) → (f.p ≡ q → ⊥) → ahead q (some f.p) < ahead q last
+nearer : (qs : List (List ℕ)) (last : Option ℕ) (q x : ℕ) (xs : List ℕ) → q < 32 → waiting qs q ≡ x ∷ xs → (f : Found 32 0 (begins last) qs (take (state qs last))) → (f.p ≡ q → ⊥) → ahead q (Some f.p) < ahead q last
 nearer qs last q x xs l e f n = closer (begins last) q f.i f.p (begins-below last) l f.this (below far other)
   where
     far : ahead q last < f.i → ⊥
@@ -78,7 +78,7 @@ module _ (cs : List Call) (rec : Serving cs) (qs : List (List ℕ)) (last : Opti
   by-served f n = rw f.same (by (eqb f.p q) refl)
     where
       after : State
-      after = state (set qs f.p f.rest) (some f.p)
+      after = state (set qs f.p f.rest) (Some f.p)
 
       by : (b : Bool) → eqb f.p q ≡ b → (more : List ℕ) × (cond b (f.item ∷ []) [] ++ came_out q (log cs after) ≡ x ∷ more)
       by true d =
@@ -89,7 +89,7 @@ module _ (cs : List Call) (rec : Serving cs) (qs : List (List ℕ)) (last : Opti
           let g : f.p ≡ q → ⊥ = eqb-false f.p q d in
           let s = (one-served qs last h f.p f.item 0 f.rest (omega (arith, f.this)) f.waits).sound in
           let w : waiting (set qs f.p f.rest) q ≡ x ∷ xs = get_or-set_other qs f.p q f.rest [] (λ z. g (sym z)) ∙ e in
-          rec (set qs f.p f.rest) (some f.p) q x xs s l w (omega (arith, nearer qs last q x xs l e f g))
+          rec (set qs f.p f.rest) (Some f.p) q x xs s l w (omega (arith, nearer qs last q x xs l e f g))
 
   by-take : ahead q last < suc (takes_in cs) → Comes q x (log (takes ∷ cs) (state qs last))
   unfolding take

@@ -1,5 +1,6 @@
 pub mod Cases
 pub mod Dispatcher
+pub mod ErrorNumber
 pub mod Numbers
 pub mod Turns
 pub mod Words

@@ -1,26 +1,31 @@
 -- The answers as numbers, for C.
-use Rattle.std.specs.Prelude.{ℕ, List, [], ◌∷◌, ◌≡◌}
-use Rattle.dispatcher.specs.Dispatcher.{add, take}
-use Rattle.dispatcher.specs.Words.{state_of, KeptBy, KeptIn}
-use Rattle.dispatcher.specs.declared.Added.{Added}
-use Rattle.dispatcher.specs.declared.Added.TheVariants.{Done, Refused}
+use Rattle.std.specs.Prelude.{ℕ, List, [], ◌∷◌, ◌≡◌, Option, Some, None, Ok, Err}
+use Rattle.dispatcher.specs.Dispatcher.{Added, add, take}
+use Rattle.dispatcher.specs.ErrorNumber.{number_of}
+use Rattle.dispatcher.specs.declared.Served.{Served}
 use Rattle.dispatcher.specs.declared.Taken.{Taken}
-use Rattle.dispatcher.specs.declared.Taken.TheVariants.{Served, None}
+use Rattle.dispatcher.specs.Words.{state_of, KeptBy, KeptIn}
 
--- 0 where the item waits, else document 02's number: 13 or 14
+-- 0 where the item waits, else the refusal's number
 abbrev pub added_number : Added → ℕ
-added_number Done = 0
-added_number (Refused number) = number
+added_number (Ok done) = 0
+added_number (Err cause) = number_of cause
 
 -- 1 where a queue was served, 0 where none waits
+abbrev pub served_number : Option Served → ℕ
+served_number (Some one) = 1
+served_number None = 0
+
 abbrev pub taken_number : Taken → ℕ
-taken_number (Served q item steps) = 1
-taken_number (None steps) = 0
+taken_number answer = served_number answer.served
 
 -- the queue, its item and the steps; with zeros for the first two where none waits
+abbrev pub served_words : Option Served → ℕ → List ℕ
+served_words (Some one) steps = one.queue ∷ one.item ∷ steps ∷ []
+served_words None steps = 0 ∷ 0 ∷ steps ∷ []
+
 abbrev pub taken_words : Taken → List ℕ
-taken_words (Served q item steps) = q ∷ item ∷ steps ∷ []
-taken_words (None steps) = 0 ∷ 0 ∷ steps ∷ []
+taken_words answer = served_words answer.served answer.steps
 
 -- an add on words is the definition's, by its number, and a refusal alters no word
 pub record AddsAs (q item : ℕ) (before after : List ℕ) (number : ℕ) : Type 0 where

@@ -1,11 +1,9 @@
 -- Document 02's sentences on all rows of adds and takes from the empty state. `proofs/Turns` proves the statements at the end.
-use Rattle.std.specs.Prelude.{ℕ, suc, ◌+◌, ◌-◌, ◌%◌, ◌≤◌, ◌<◌, cond, List, [], ◌∷◌, ◌++◌, ◌≡◌, eqb, length, replicate}
-use Rattle.dispatcher.specs.Dispatcher.{State, state, empty, waiting, add, begins, take}
-use Rattle.dispatcher.specs.Words.{state_of, Adds, Takes}
-use Rattle.dispatcher.specs.declared.Added.{Added}
-use Rattle.dispatcher.specs.declared.Added.TheVariants.{Done, Refused}
+use Rattle.std.specs.Prelude.{ℕ, suc, ◌+◌, ◌-◌, ◌%◌, ◌≤◌, ◌<◌, cond, List, [], ◌∷◌, ◌++◌, ◌≡◌, eqb, length, replicate, Option, Some, None, Ok, Err, MatchOption}
+use Rattle.dispatcher.specs.Dispatcher.{State, state, Added, empty, waiting, add, begins, take}
+use Rattle.dispatcher.specs.declared.Served.{Served}
 use Rattle.dispatcher.specs.declared.Taken.{Taken}
-use Rattle.dispatcher.specs.declared.Taken.TheVariants.{Served, None}
+use Rattle.dispatcher.specs.Words.{state_of, Adds, Takes}
 
 -- what is asked of a dispatcher
 pub data Call : Type 0 where
@@ -40,8 +38,8 @@ nth (state qs last) i = (begins last + i) % 32
 
 -- the items that went into the queue q, in order
 abbrev pub in_of : ℕ → Event → List ℕ
-in_of q (added p item Done) = cond (eqb p q) (item ∷ []) []
-in_of q (added p item (Refused number)) = []
+in_of q (added p item (Ok done)) = cond (eqb p q) (item ∷ []) []
+in_of q (added p item (Err cause)) = []
 in_of q (taken answer) = []
 
 unfoldable pub went_in : ℕ → List Event → List ℕ
@@ -49,10 +47,13 @@ went_in q [] = []
 went_in q (e ∷ es) = in_of q e ++ went_in q es
 
 -- the items that came out of it, in order
+abbrev pub served_of : ℕ → Option Served → List ℕ
+served_of q (Some one) = cond (eqb one.queue q) (one.item ∷ []) []
+served_of q None = []
+
 abbrev pub out_of : ℕ → Event → List ℕ
 out_of q (added p item answer) = []
-out_of q (taken (Served p item steps)) = cond (eqb p q) (item ∷ []) []
-out_of q (taken (None steps)) = []
+out_of q (taken answer) = served_of q answer.served
 
 unfoldable pub came_out : ℕ → List Event → List ℕ
 came_out q [] = []
@@ -81,8 +82,7 @@ pub record NoneWaits (s : State) (steps : ℕ) : Type 0 where
 
 -- what a take's answer says of the state that it was asked in
 abbrev pub Counted : State → Taken → Type 0
-Counted s (Served q item steps) = ServedAfter s q item steps
-Counted s (None steps) = NoneWaits s steps
+Counted s answer = MatchOption answer.served (NoneWaits s answer.steps) (λ one. ServedAfter s one.queue one.item answer.steps)
 
 -- "In every state that adds and takes make from the empty one, a theatre that waits is served within the next 32 takes, whatever others add
 -- in between": the oldest item of the queue q comes out of it, and before any other, in calls of which 32 are takes

@@ -1,13 +1,9 @@
 -- A state as 577 words: 16 places for each queue's items, used in a ring; the place of each queue's oldest item; how many wait in each;
 -- and the queue served last as its number + 1, or 0. Any words are some state: a place counts modulo 16, a queue has at most 16 items, the
 -- one served last counts modulo 32.
-use Rattle.std.specs.Prelude.{ℕ, zero, suc, ◌+◌, ◌*◌, ◌%◌, ◌<◌, min, List, [], ◌∷◌, ◌≡◌, get_or}
-use Rattle.std.proofs.Math.Option.{Option, none, some}
-use Rattle.dispatcher.specs.Dispatcher.{State, state, add, take}
-use Rattle.dispatcher.specs.declared.Added.{Added}
-use Rattle.dispatcher.specs.declared.Added.TheVariants.{Done, Refused}
+use Rattle.std.specs.Prelude.{ℕ, zero, suc, ◌+◌, ◌*◌, ◌%◌, ◌<◌, min, List, [], ◌∷◌, ◌≡◌, get_or, Option, Some, None, OnErr, IfNone}
+use Rattle.dispatcher.specs.Dispatcher.{State, state, Added, add, take}
 use Rattle.dispatcher.specs.declared.Taken.{Taken}
-use Rattle.dispatcher.specs.declared.Taken.TheVariants.{Served, None}
 
 -- n items of the queue q, from the place f on
 unfoldable pub items_from : List ℕ → (q f n : ℕ) → List ℕ
@@ -29,21 +25,19 @@ queues_from words q (suc n) = queue_of words q ∷ queues_from words (suc q) n
 
 -- the queue served last, from its number + 1 or 0
 abbrev pub last_of : ℕ → Option ℕ
-last_of zero = none
-last_of (suc q) = some (q % 32)
+last_of zero = None
+last_of (suc q) = Some (q % 32)
 
 abbrev pub state_of : List ℕ → State
 state_of words = state (queues_from words 0 32) (last_of (get_or words 576 0))
 
 -- a refusal alters no word
 abbrev pub KeptBy : Added → List ℕ → List ℕ → Type 0
-KeptBy Done before after = Unit {0}
-KeptBy (Refused number) before after = after ≡ before
+KeptBy answer before after = OnErr answer (after ≡ before)
 
 -- where none waits no word is altered
 abbrev pub KeptIn : Taken → List ℕ → List ℕ → Type 0
-KeptIn (Served q item steps) before after = Unit {0}
-KeptIn (None steps) before after = after ≡ before
+KeptIn answer before after = IfNone answer.served (after ≡ before)
 
 -- an add on words is the definition's
 pub record Adds (q item : ℕ) (before after : List ℕ) (answer : Added) : Type 0 where
@@ -59,4 +53,4 @@ pub record Takes (before after : List ℕ) (answer : Taken) : Type 0 where
 pub record Serves (q : ℕ) (before after : List ℕ) (item : ℕ) : Type 0 where
   pub front : queue_of before q ≡ item ∷ queue_of after q
   pub others : (i : ℕ) → i < 32 → (i ≡ q → ⊥) → queue_of after i ≡ queue_of before i
-  pub last : last_of (get_or after 576 0) ≡ some q
+  pub last : last_of (get_or after 576 0) ≡ Some q

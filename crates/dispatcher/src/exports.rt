@@ -1,7 +1,7 @@
 // The calls as C functions (include/cenguatu_dispatcher.h).
 ghost use Rattle.dispatcher.specs.Numbers.{AddsAs, TakesAs};
 
-use crate::{Added, Taken, add, take};
+use crate::{Served, add, take};
 
 // 0 where the item waits, else the refusal's number.
 #[unsafe(no_mangle)]
@@ -9,8 +9,8 @@ pub extern "C" fn cenguatu_add(words: &mut [u32; 577], queue: u32, item: u32) ->
     ensures { AddsAs queue item words.old words.new result }
 {
     match add(words, queue, item) {
-        Added::Done => 0,
-        Added::Refused(number) => number,
+        Ok(()) => 0,
+        Err(cause) => u32::from(cause),
     }
 }
 
@@ -19,13 +19,14 @@ pub extern "C" fn cenguatu_add(words: &mut [u32; 577], queue: u32, item: u32) ->
 pub extern "C" fn cenguatu_take(words: &mut [u32; 577], got: &mut [u32; 3]) -> u32
     ensures { TakesAs words.old words.new got.new result }
 {
-    match take(words) {
-        Taken::Served(queue, item, steps) => {
-            *got = [queue, item, steps];
+    let taken = take(words);
+    match taken.served {
+        Some(Served { queue, item }) => {
+            *got = [queue, item, taken.steps];
             1
         }
-        Taken::None(steps) => {
-            *got = [0, 0, steps];
+        None => {
+            *got = [0, 0, taken.steps];
             0
         }
     }

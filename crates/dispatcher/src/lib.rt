@@ -4,11 +4,13 @@
 // No public function here has a `requires`.
 #![tactic(auto)]
 
+mod error;
 mod exports;
 
 ghost use Rattle.std.specs.Prelude.{◌+◌, ◌<◌, get_or};
 ghost use Rattle.dispatcher.specs.Words.{Adds, Takes, Serves};
 
+pub use error::AddError;
 pub use exports::{cenguatu_add, cenguatu_take};
 
 // Where the words of a state begin, after 16 items for each queue: the place of each queue's oldest item, how many wait in each, and the
@@ -19,43 +21,36 @@ const COUNTS: usize = 544;
 
 const LAST: usize = 576;
 
-// The refusals.
-const NO_QUEUE: u32 = 13;
-
-const FULL: u32 = 14;
-
-// What an add answers: the item waits, or the refusal's number.
-#[derive(Drop)]
-pub enum Added {
-    Done,
-    Refused(u32),
+// A queue that was served, and its oldest item.
+#[derive(Clone, Copy, Debug, PartialEq, Eq)]
+pub struct Served {
+    pub queue: u32,
+    pub item: u32,
 }
 
-// What a take answers: the queue that is served, its oldest item and the queues looked at, the served one included; or that none waits,
-// and the queues looked at.
-#[derive(Drop)]
-pub enum Taken {
-    Served(u32, u32, u32),
-    None(u32),
+// What a take answers: what was served, if any queue waits, and how many queues were looked at, the served one included.
+#[derive(Clone, Copy, Debug, PartialEq, Eq)]
+pub struct Taken {
+    pub served: Option<Served>,
+    pub steps: u32,
 }
 
 // Puts an item behind those that wait in a queue.
-pub fn add(words: &mut [u32; 577], queue: u32, item: u32) -> Added
+pub fn add(words: &mut [u32; 577], queue: u32, item: u32) -> Result<(), AddError>
     ensures { Adds queue item words.old words.new result }
 {
     if 31 < queue {
-        return Added::Refused(NO_QUEUE);
+        return Err(AddError::NoQueue);
     }
     let q = queue as usize;
-    let w: &mut [u32] = words;
-    let n = w[COUNTS + q];
+    let n = words[COUNTS + q];
     if 16 <= n {
-        return Added::Refused(FULL);
+        return Err(AddError::Full);
     }
-    let place = (w[FIRSTS + q] % 16 + n) % 16;
-    w[q * 16 + place as usize] = item;
-    w[COUNTS + q] = n + 1;
-    Added::Done
+    let place = (words[FIRSTS + q] % 16 + n) % 16;
+    words[q * 16 + place as usize] = item;
+    words[COUNTS + q] = n + 1;
+    Ok(())
 }
 
 // Takes the oldest item of a queue out, which is then the one served last.
@@ -63,29 +58,31 @@ fn serve(words: &mut [u32; 577], q: usize) -> u32
     requires { (q < 32) × (0 < get_or words.old (544 + q) 0) }
     ensures { Serves q words.old words.new result }
 {
-    let w: &mut [u32] = words;
-    let n = w[COUNTS + q];
-    let count = if n < 16 { n } else { 16 };
-    let first = w[FIRSTS + q] % 16;
-    w[FIRSTS + q] = first + 1;
-    w[COUNTS + q] = count - 1;
-    w[LAST] = q as u32 + 1;
-    w[q * 16 + first as usize]
+    let count = words[COUNTS + q].min(16);
+    let first = words[FIRSTS + q] % 16;
+    words[FIRSTS + q] = first + 1;
+    words[COUNTS + q] = count - 1;
+    words[LAST] = q as u32 + 1;
+    words[q * 16 + first as usize]
 }
 
 // Serves the next waiting queue after the one served last, going round.
 pub fn take(words: &mut [u32; 577]) -> Taken
     ensures { Takes words.old words.new result }
 {
-    let mut q = (words[LAST] % 32) as usize;
-    let mut steps: u32 = 0;
-    while steps < 32 {
-        steps += 1;
-        if 0 < words[COUNTS + q] {
-            let item = serve(words, q);
-            return Taken::Served(q as u32, item, steps);
+    let mut queue = words[LAST] % 32;
+    for passed in 0..32 {
+        if 0 < words[COUNTS + queue as usize] {
+            let item = serve(words, queue as usize);
+            return Taken {
+                served: Some(Served { queue, item }),
+                steps: passed + 1,
+            };
         }
-        q = (q + 1) % 32;
+        queue = (queue + 1) % 32;
     }
-    Taken::None(steps)
+    Taken {
+        served: None,
+        steps: 32,
+    }
 }

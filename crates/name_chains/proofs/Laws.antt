@@ -1,23 +1,25 @@
 -- Laws of names in chains: only a text's chain matters (`skip`); a search in it begins (`from-head`), goes on (`from-prev`), and ends with
--- the answer (`found`, `missed`); one name more is hung up (`one_more`), and none yet (`none-hung`).
+-- the answer (`found`, `missed`); one name more is hung up (`one_more`), and none yet (`none-hung`). Two texts are the same where `==` says so
+-- (`same-pointwise`).
 use Prim.Native.Nat.{ℕ, zero, suc, ◌+◌, ◌-◌, ◌<◌, ◌≤◌}
 use native.Mathlib.Omega.{arith}
 use native.Mathlib.Nat.{mod-lt}
 use mathlib.Core.Path.{◌≡◌, refl, ap, sym, ◌∙◌}
-use mathlib.Core.Bool.{Bool, true, false, cond, ◌||◌}
+use mathlib.Core.Bool.{Bool, true, false, cond, ◌&&◌, ◌||◌}
 use mathlib.Core.List.{List, [], ◌∷◌, ◌++◌, map-append}
 use lib.Dec.{eqb}
 use lib.ListN.{length, get_or, set, length-set}
 use lib.Seq.{take-suc, get_or-set_same, get_or-set_other}
 use borrow.Author.Tests.{eqb-true, eqb-false}
 use mathlib.Core.Logic.{◌≢◌}
+use Rattle.std.specs.Str.{bytes_eq}
 use Rattle.tables.specs.Distinct.{same_bytes, name_in}
 use Rattle.tables.specs.Answer.{names_in}
 use Rattle.tables.proofs.Fresh.{is-not, same-eq}
-use Rattle.rows.specs.Rows.{seek}
-use Rattle.rows.proofs.Chains.{seek-le, seek_hit, more, none-chained}
+use Rattle.rows.specs.Rows.{seek, Hangs}
+use Rattle.rows.proofs.Chains.{seek-le, seek_hit, none-chained}
 use Rattle.name_chains.specs.Slot.{slot_of}
-use Rattle.name_chains.specs.Hung.{text_in, itself, slot_in, Cleared, Hung, Sought}
+use Rattle.name_chains.specs.Hung.{text_in, itself, slot_in, Cleared, Hung}
 
 pub slot-below : (mult m : ℕ) → 0 < m → (x : List ℕ) → slot_of mult m x < m
 unfolding slot_of
@@ -33,6 +35,13 @@ cleared_more {i} {old} {new} c h =
     go b l false e =
         let ne : b ≢ i = eqb-false b i e in
         get_or-set_other new i b 0 0 ne ∙ c.zeros b (omega arith)
+
+pub same-pointwise : (a b : List ℕ) → same_bytes a b ≡ bytes_eq a b
+unfolding same_bytes
+same-pointwise [] [] = refl
+same-pointwise [] (y ∷ b) = refl
+same-pointwise (x ∷ a) [] = refl
+same-pointwise (x ∷ a) (y ∷ b) = ap (◌&&◌ (eqb x y)) (same-pointwise a b)
 
 -- the names from the newest on
 unfoldable pub among : List ℕ → (ℕ → List ℕ) → ℕ → Bool
@@ -72,41 +81,31 @@ pub record Walked (slot : List ℕ → ℕ) (s places x : List ℕ) (n i : ℕ) 
   pub le : i ≤ n
   pub chain : (j : ℕ) → i ≡ suc j → slot_in slot s places j ≡ slot x
 
-module _ {s places : List ℕ} {m n : ℕ} {chains x : List ℕ} {b : ℕ} (w : Sought s places m n chains x b) where
+module _ {slot : List ℕ → ℕ} {s places : List ℕ} {m n : ℕ} {chains : List ℕ} (x : List ℕ) (w : Hung slot s places m n chains) (most : n ≤ length places) where
   abbrev At : ℕ → Type 0
-  At i = Walked w.slot s places x n i
+  At i = Walked slot s places x n i
 
   abbrev key : ℕ → ℕ
-  key = slot_in w.slot s places
+  key = slot_in slot s places
 
-  pub head_in_lem : b < length chains
-  head_in_lem = rw w.here (omega (arith, w.hung.below x, w.hung.chained.room))
-
-  pub from-head : At (get_or chains b 0)
+  pub from-head : At (get_or chains (slot x) 0)
   from-head =
-      let e : get_or chains b 0 ≡ seek key (w.slot x) n = rw w.here (w.hung.chained.heads (w.slot x) (w.hung.below x)) in
-      rw e
+      rw (w.chained.heads (slot x) (w.below x))
       (record {
-        same = among_in s places x n w.most ∙ skip w.slot (text_in s places) x n;
-        le = seek-le key (w.slot x) n;
-        chain = λ j q. seek_hit key (w.slot x) n j q;
+        same = among_in s places x n most ∙ skip slot (text_in s places) x n;
+        le = seek-le key (slot x) n;
+        chain = λ j q. seek_hit key (slot x) n j q;
       })
 
   module _ {i : ℕ} (l : At i) (h : 0 < i) where
     one : i ≡ suc (i - 1)
     one = omega arith
 
-    pub prev-in : m + (i - 1) < length chains
-    prev-in = omega (arith, l.le, w.hung.chained.room)
-
-    pub place_in : i - 1 < length places
-    place_in = omega (arith, l.le, w.most)
-
-    prev : get_or chains (m + (i - 1)) 0 ≡ seek key (w.slot x) (i - 1)
-    prev = rw (l.chain (i - 1) one) at (w.hung.chained.prevs (i - 1) (omega (arith, l.le)))
+    prev : get_or chains (m + (i - 1)) 0 ≡ seek key (slot x) (i - 1)
+    prev = rw (l.chain (i - 1) one) at (w.chained.prevs (i - 1) (omega (arith, l.le)))
 
     pub prev-less : get_or chains (m + (i - 1)) 0 < i
-    prev-less = rw prev (omega (arith, seek-le key (w.slot x) (i - 1)))
+    prev-less = rw prev (omega (arith, seek-le key (slot x) (i - 1)))
 
     pub found : same_bytes x (text_in s places (i - 1)) ≡ true → true ≡ name_in x (names_in s n places)
     unfolding among
@@ -117,9 +116,9 @@ module _ {s places : List ℕ} {m n : ℕ} {chains x : List ℕ} {b : ℕ} (w : 
     from-prev e =
         rw prev
         (record {
-          same = l.same ∙ ap (among x (text_in s places)) one ∙ rw e (skip w.slot (text_in s places) x (i - 1));
-          le = omega (arith, seek-le key (w.slot x) (i - 1), l.le);
-          chain = λ j q. seek_hit key (w.slot x) (i - 1) j q;
+          same = l.same ∙ ap (among x (text_in s places)) one ∙ rw e (skip slot (text_in s places) x (i - 1));
+          le = omega (arith, seek-le key (slot x) (i - 1), l.le);
+          chain = λ j q. seek_hit key (slot x) (i - 1) j q;
         })
 
   pub missed : {i : ℕ} → At i → i ≤ 0 → false ≡ name_in x (names_in s n places)
@@ -128,20 +127,9 @@ module _ {s places : List ℕ} {m n : ℕ} {chains x : List ℕ} {b : ℕ} (w : 
       let z : i ≡ 0 = omega arith in
       sym (l.same ∙ ap (among x (text_in s places)) z)
 
--- a search under way
-pub record Stands (s places : List ℕ) (m n : ℕ) (chains x : List ℕ) (b i : ℕ) : Type 0 where
-  pub sought : Sought s places m n chains x b
-  pub walked : Walked sought.slot s places x n i
-
--- a text's slot is one of them
-pub slot-in : {slot : List ℕ → ℕ} {s places : List ℕ} {m n : ℕ} {chains x : List ℕ} {b : ℕ} → Hung slot s places m n chains → b ≡ slot x → b < m
-slot-in {slot} {s} {places} {m} {n} {chains} {x} w e = rw e (w.below x)
-
--- one name more, in the slot b
-pub one_more : {slot : List ℕ → ℕ} {s places : List ℕ} {m n : ℕ} {old : List ℕ} (b : ℕ) → Hung slot s places m n old → m + n < length old → b ≡ slot_in slot s places n → Hung slot s places m (suc n) (set (set old (m + n) (get_or old b 0)) b (n + 1))
-one_more {slot} {s} {places} {m} {n} {old} b w r e =
-    let low : b < m = rw e (w.below (text_in s places n)) in
-    record { below = w.below; chained = more itself m n b b old r low refl (slot_in slot s places) (sym e) w.chained }
+-- one name more
+pub one_more : {slot : List ℕ → ℕ} {s places : List ℕ} {m n x : ℕ} {old new : List ℕ} → Hung slot s places m n old → x ≡ slot_in slot s places n → Hangs m x n old new → Hung slot s places m (suc n) new
+one_more {slot} {s} {places} w e a = record { below = w.below; chained = a.chained itself (slot_in slot s places) e w.chained }
 
 -- none yet
 pub none-hung : {m : ℕ} {old new : List ℕ} (mult : ℕ) (s places : List ℕ) → 0 < m → m ≤ length old → Cleared m old new → Hung (slot_of mult m) s places m 0 new

@@ -11,7 +11,7 @@ use lib.Dec.{eqb, ltb}
 use lib.ListN.{length, get_or, set, length-set}
 use lib.Seq.{get_or-set_same, get_or-set_other}
 use borrow.Author.Tests.{eq-eqb, ne_eqb, eqb-true, eqb-false, ltb-true, ltb-false}
-use Rattle.rows.specs.Rows.{seek, keyed, Chained}
+use Rattle.rows.specs.Rows.{seek, keyed, Chained, Hangs}
 
 cond-le : (b : Bool) (p q t : ℕ) → p ≤ t → q ≤ t → cond b p q ≤ t
 cond-le true p q t h k = h
@@ -98,8 +98,8 @@ seek-none {g} {f} {n} {v} {i} l h =
     let z : i ≡ 0 = omega arith in
     sym (l.same ∙ ap (λ (k : ℕ). seek f v k) z)
 
--- one more: v, in the slot x
-module _ (g : ℕ → ℕ) (m n v x : ℕ) (old : List ℕ) (r : m + n < length old) (b : x < m) (same : x ≡ g v) where
+-- one more, in the slot x
+module _ (m n x : ℕ) (old : List ℕ) (r : m + n < length old) (b : x < m) where
   abbrev mid : List ℕ
   mid = set old (m + n) (get_or old x 0)
 
@@ -109,16 +109,10 @@ module _ (g : ℕ → ℕ) (m n v x : ℕ) (old : List ℕ) (r : m + n < length 
   keep : (i : ℕ) → i < m + n → i ≢ x → get_or new i 0 ≡ get_or old i 0
   keep i h e = get_or-set_other mid x i _ 0 e ∙ get_or-set_other old (m + n) i _ 0 (λ z. omega arith)
 
-  pub new-length : length new ≡ length old
-  new-length = length-set mid x (n + 1) ∙ length-set old (m + n) (get_or old x 0)
-
-  module _ (f : ℕ → ℕ) (q : f n ≡ v) (w : Chained g m n f old) where
-    slot : g (f n) ≡ x
-    slot = ap g q ∙ sym same
-
+  module _ (g f : ℕ → ℕ) (same : x ≡ g (f n)) (w : Chained g m n f old) where
     head_more : (y : ℕ) → y < m → get_or new y 0 ≡ seek (keyed g f) y (suc n)
     unfolding seek
-    head_more y h = rw slot (go (eqb x y) refl)
+    head_more y h = rw (← same) (go (eqb x y) refl)
       where
         go : (c : Bool) → eqb x y ≡ c → get_or new y 0 ≡ cond c (suc n) (seek (keyed g f) y n)
         go true e = rw (← eqb-true x y e) (get_or-set_same mid x (n + 1) 0 (omega (arith, length-set old (m + n) (get_or old x 0))) ∙ add-one n)
@@ -131,10 +125,12 @@ module _ (g : ℕ → ℕ) (m n v x : ℕ) (old : List ℕ) (r : m + n < length 
         go true e = keep (m + i) (omega (arith, ltb-true i n e)) (λ z. omega arith) ∙ w.prevs i (ltb-true i n e)
         go false e =
             let z : i ≡ n = omega (arith, ltb-false i n e) in
-            rw (z, slot) (get_or-set_other mid x (m + n) _ 0 (λ z. omega arith) ∙ get_or-set_same old (m + n) _ 0 r ∙ w.heads x b)
+            rw (z, ← same) (get_or-set_other mid x (m + n) _ 0 (λ z. omega arith) ∙ get_or-set_same old (m + n) _ 0 r ∙ w.heads x b)
 
-    pub more : Chained g m (suc n) f new
-    more = record { room = omega (arith, new-length); heads = head_more; prevs = prev_more }
+  pub more : Hangs m x n old new
+  more =
+      let long : length new ≡ length old = length-set mid x (n + 1) ∙ length-set old (m + n) (get_or old x 0) in
+      record { kept = long; chained = λ g f e w. record { room = omega arith; heads = head_more g f e w; prevs = prev_more g f e w } }
 
 -- none yet
 pub none-chained : (g f : ℕ → ℕ) (m : ℕ) (tab : List ℕ) → m ≤ length tab → ((b : ℕ) → b < m → get_or tab b 0 ≡ 0) → Chained g m 0 f tab

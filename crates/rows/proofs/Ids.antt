@@ -1,5 +1,4 @@
--- Laws of the variables of the rows: one is found exactly where it is among them (`sought-in`, `sought-none`), and distinct ones differ
--- (`once`).
+-- Laws of the variables of the rows: one is found exactly where it is among them (`sought`), and distinct ones differ (`once`).
 use Prim.Native.Nat.{ℕ, zero, suc, ◌+◌, ◌-◌, ◌*◌, ◌<◌, ◌≤◌}
 use native.Mathlib.Omega.{arith}
 use native.Mathlib.Numerals.{add-one}
@@ -15,7 +14,9 @@ use Rattle.heads.proofs.Bindings.{rows_more}
 use Rattle.tables.specs.Distinct.{fresh_after, distinct}
 use Rattle.tables.proofs.Ids.{fresh-id}
 use Rattle.tables.proofs.Fresh.{both}
-use Rattle.rows.specs.Rows.{id_at, seek}
+use Rattle.std.specs.Prelude as code
+use Rattle.std.specs.Prelude.{None, Some, is_some}
+use Rattle.rows.specs.Rows.{id_at, seek, number_of}
 use Rattle.rows.proofs.Chains.{seek-le, seek_hit, seek-miss}
 
 -- the first row, and those after it
@@ -48,11 +49,18 @@ among_none ws p (suc n) v h k =
     ∙ rw (ne_eqb v (get_or ws p 0) (λ q. (rw z at (k 0 (omega arith))) (sym q)))
     (among_none ws (p + 5) n v (omega arith) (λ j l. let y : p + suc j * 5 ≡ p + 5 + j * 5 = omega arith in rw y at (k (suc j) (omega arith))))
 
+-- whether the variable i stands among those before it, and whether from i on none does
+abbrev among : List ℕ → ℕ → ℕ → Bool
+among ws rows i = is_in (id_at ws rows i) (row_ids i (drop rows ws))
+
+abbrev pub fresh : List ℕ → (rows n : ℕ) → ℕ → Bool
+fresh ws rows n i = fresh_after is_in (row_ids i (drop rows ws)) (row_ids (n - i) (drop (rows + i * 5) ws))
+
 module _ (ws : List ℕ) (rows n : ℕ) (fit : rows + n * 5 ≤ length ws) where
-  pub sought-none : (v : ℕ) → seek (id_at ws rows) v n ≡ 0 → is_in v (row_ids n (drop rows ws)) ≡ false
+  sought-none : (v : ℕ) → seek (id_at ws rows) v n ≡ 0 → is_in v (row_ids n (drop rows ws)) ≡ false
   sought-none v e = among_none ws rows n v fit (λ j l. seek-miss (id_at ws rows) v n j e l)
 
-  pub sought-in : (v : ℕ) → 0 < seek (id_at ws rows) v n → is_in v (row_ids n (drop rows ws)) ≡ true
+  sought-in : (v : ℕ) → 0 < seek (id_at ws rows) v n → is_in v (row_ids n (drop rows ws)) ≡ true
   sought-in v h = go (is_in v (row_ids n (drop rows ws))) refl
     where
       go : (b : Bool) → is_in v (row_ids n (drop rows ws)) ≡ b → b ≡ true
@@ -61,37 +69,35 @@ module _ (ws : List ℕ) (rows n : ℕ) (fit : rows + n * 5 ≤ length ws) where
           let s : seek (id_at ws rows) v n ≡ suc (seek (id_at ws rows) v n - 1) = omega arith in
           absurd (not-among ws rows n v (seek (id_at ws rows) v n - 1) fit e (omega (arith, seek-le (id_at ws rows) v n)) (seek_hit (id_at ws rows) v n _ s))
 
-  -- whether the variable i stands among those before it, and whether from i on none does
-  abbrev among : ℕ → Bool
-  among i = is_in (id_at ws rows i) (row_ids i (drop rows ws))
+  -- so the code's answer says whether it is among them
+  pub sought : (v : ℕ) (r : code.Option ℕ) → number_of r ≡ seek (id_at ws rows) v n → is_in v (row_ids n (drop rows ws)) ≡ is_some r
+  sought v None e = sought-none v (sym e)
+  sought v (Some i) e = sought-in v (omega arith)
 
-  abbrev pub fresh : ℕ → Bool
-  fresh i = fresh_after is_in (row_ids i (drop rows ws)) (row_ids (n - i) (drop (rows + i * 5) ws))
-
-  pub fresh-all : distinct is_in (row_ids n (drop rows ws)) ≡ fresh 0
+  pub fresh-all : distinct is_in (row_ids n (drop rows ws)) ≡ fresh ws rows n 0
   unfolding distinct row_ids
   fresh-all =
       let a : n - 0 ≡ n = omega arith in
       let b : rows + 0 * 5 ≡ rows = omega arith in
       rw (a, b)
 
-  pub fresh-none : (i : ℕ) → n ≤ i → fresh i ≡ true
+  pub fresh-none : (i : ℕ) → n ≤ i → fresh ws rows n i ≡ true
   unfolding fresh_after row_ids
   fresh-none i h = let a : n - i ≡ 0 = omega arith in rw a
 
-  pub fresh-more : (i : ℕ) → i < n → fresh i ≡ (not (among i) && fresh (i + 1))
+  pub fresh-more : (i : ℕ) → i < n → fresh ws rows n i ≡ (not (among ws rows i) && fresh ws rows n (i + 1))
   fresh-more i h = fresh-id ws rows n i h (omega arith)
 
   module _ (d : distinct is_in (row_ids n (drop rows ws)) ≡ true) where
-    step : (i : ℕ) → i < n → fresh i ≡ true → (not (among i) ≡ true) × (fresh (i + 1) ≡ true)
-    step i h e = both (not (among i)) (fresh (i + 1)) (sym (fresh-more i h) ∙ e)
+    step : (i : ℕ) → i < n → fresh ws rows n i ≡ true → (not (among ws rows i) ≡ true) × (fresh ws rows n (i + 1) ≡ true)
+    step i h e = both (not (among ws rows i)) (fresh ws rows n (i + 1)) (sym (fresh-more i h) ∙ e)
 
-    fresh_at : (i : ℕ) → i ≤ n → fresh i ≡ true
+    fresh_at : (i : ℕ) → i ≤ n → fresh ws rows n i ≡ true
     fresh_at zero h = sym fresh-all ∙ d
     fresh_at (suc i) h = rw (add-one i) at (step i (omega arith) (fresh_at i (omega arith))).1
 
-    new-at : (j : ℕ) → j < n → among j ≡ false
-    new-at j h = go (among j) (step j h (fresh_at j (omega arith))).0
+    new-at : (j : ℕ) → j < n → among ws rows j ≡ false
+    new-at j h = go (among ws rows j) (step j h (fresh_at j (omega arith))).0
       where
         go : (b : Bool) → not b ≡ true → b ≡ false
         go true e = absurd (false≢true e)

@@ -16,3 +16,5 @@ slot-below mult shift v h =
     let all : 32 - shift + shift ≡ 32 = omega arith in
     let product = mixed ((v * mult) % 2 ^ 32) * 2654435769 in
     shr_lt (32 - shift) shift (rw all (mod-lt product (omega arith)))
+
+pub ruleset spread = (shifted, slot-below)

@@ -1,5 +1,6 @@
 -- A variable sought among the rows of the binding table, newest first, and the chains that find it.
-use Rattle.std.specs.Prelude.{ℕ, zero, suc, ◌+◌, ◌*◌, ◌<◌, ◌≤◌, ◌≡◌, Bool, true, cond, List, eqb, length, get_or, drop}
+use Rattle.std.specs.Prelude.{ℕ, zero, suc, ◌+◌, ◌*◌, ◌<◌, ◌≤◌, ◌≡◌, Bool, true, cond, List, eqb, length, get_or, drop, None, Some}
+use Rattle.std.specs.Prelude as code
 use Rattle.std.proofs.Math.Option.{Option, none, some}
 use Rattle.heads.specs.Answer.{row_ids, is_in}
 use Rattle.tables.specs.Distinct.{distinct}
@@ -14,6 +15,11 @@ id_at ws rows i = get_or ws (rows + i * 5) 0
 unfoldable pub seek : (ℕ → ℕ) → ℕ → ℕ → ℕ
 seek f v zero = 0
 seek f v (suc t) = cond (eqb (f t) v) (suc t) (seek f v t)
+
+-- such an answer of the code's
+abbrev pub number_of : code.Option ℕ → ℕ
+number_of None = 0
+number_of (Some i) = suc i
 
 -- the row that such an answer tells of
 abbrev pub row_at : List ℕ → ℕ → Row
@@ -32,16 +38,16 @@ pub record Chained (g : ℕ → ℕ) (m n : ℕ) (f : ℕ → ℕ) (tab : List �
   pub heads : (b : ℕ) → b < m → get_or tab b 0 ≡ seek (keyed g f) b n
   pub prevs : (i : ℕ) → i < n → get_or tab (m + i) 0 ≡ seek (keyed g f) (g (f i)) i
 
--- the same over the slots of a multiplier and a shift
+-- one more key is hung up, in the slot x
+pub record Hangs (m x n : ℕ) (old new : List ℕ) : Type 0 where
+  pub kept : length new ≡ length old
+  pub chained : (g f : ℕ → ℕ) → x ≡ g (f n) → Chained g m n f old → Chained g m (suc n) f new
+
+-- so over the slots of a multiplier and a shift
 pub record Hung (mult shift n : ℕ) (f : ℕ → ℕ) (tab : List ℕ) : Type 0 where
   pub low : 21 ≤ shift
   pub high : shift ≤ 31
   pub chained : Chained (slot_of mult shift) (slots shift) n f tab
-
--- one more is hung up, v, and whatever f makes of it is chained
-pub record Added (mult shift n v : ℕ) (old new : List ℕ) : Type 0 where
-  pub kept : length new ≡ length old
-  pub hung : (f : ℕ → ℕ) → f n ≡ v → Hung mult shift n f old → Hung mult shift (suc n) f new
 
 -- zeros for the slots, and room for n rows
 pub record Empty (shift n : ℕ) (tab : List ℕ) : Type 0 where

@@ -3,10 +3,9 @@ use Prim.Native.Nat.{ℕ, zero, suc, ◌+◌, ◌*◌, ◌-◌, ◌<◌, ◌≤�
 use mathlib.Core.Path.{◌≡◌, refl, ap}
 use mathlib.Core.List.{List, [], ◌∷◌}
 use native.Mathlib.Omega.{arith}
-use lib.ListN.{length, get_or, drop}
-use lib.Seq.{drop-drop, get_or-drop}
-use Rattle.scope.specs.Flat.{entries_of, scopes_of, parent_of}
-use Rattle.scope.specs.Lookup.{kind_at, parent_at}
+use lib.ListN.{length, drop}
+use lib.Seq.{drop-drop}
+use Rattle.scope.specs.Flat.{entries_of}
 
 module _ {A : Type 0} (width : ℕ) (one : List ℕ → A) where
   pub length-entries : (n : ℕ) (ws : List ℕ) → length (entries_of width one n ws) ≡ n
@@ -36,13 +35,3 @@ module _ {A : Type 0} (width : ℕ) (one : List ℕ → A) where
     last i h =
         let none : n - i ≡ 0 = omega arith in
         rw none
-
--- the kind and the parent of a scope
-pub scope-at : (s n : ℕ) (ws : List ℕ) → s < n → (kind_at (scopes_of n ws) s ≡ get_or ws (s * 4) 0) × (parent_at (scopes_of n ws) s ≡ parent_of (get_or ws (s * 4 + 1) 0))
-unfolding entries_of kind_at parent_at
-scope-at s zero ws h = absurd (omega arith)
-scope-at zero (suc n) ws h = (refl, refl)
-scope-at (suc s) (suc n) ws h =
-    let at : suc s * 4 ≡ 4 + s * 4 = omega arith in
-    let after : suc s * 4 + 1 ≡ 4 + (s * 4 + 1) = omega arith in
-    rw (after, at, ← get_or-drop 4 ws (s * 4) 0, ← get_or-drop 4 ws (s * 4 + 1) 0) (scope-at s n (drop 4 ws) (omega arith))

@@ -1,4 +1,3 @@
 pub mod Entries
-pub mod Fitting
 pub mod Climbing
-pub mod Narrowest
+pub mod Listed

@@ -1,26 +1,39 @@
--- What the code's answers say, in the definition's terms.
-use Rattle.std.specs.Prelude.{ℕ}
+-- What the code's lists and answers say, in the definition's terms.
+use Rattle.std.specs.Prelude.{ℕ, List, map, Some, None, Ok, Err, Result}
+use Rattle.std.specs.Prelude as code
 use Rattle.std.proofs.Math.Option.{Option, none, some}
+use Rattle.refusal.specs.Number.{number_of}
+use Rattle.refusal.specs.declared.Refusal.{Refusal}
+use Rattle.scope.specs.Flat.{scope_of, binding_of, carried_of}
+use Rattle.scope.specs.Graph.{Scope, Entry, Carried}
 use Rattle.scope.specs.Lookup.{Looked, at, nothing, refused}
-use Rattle.scope.specs.Offset.{Offset, in', nowhere}
+use Rattle.scope.specs.Offset.{Best, none', best, Offset, in', nowhere}
 use Rattle.scope.specs.Offset as offsets
-use Rattle.scope.specs.declared.Bound.{Bound}
-use Rattle.scope.specs.declared.Bound.TheVariants as bound
-use Rattle.scope.specs.declared.Looked as answers
-use Rattle.scope.specs.declared.Looked.TheVariants as answer
-use Rattle.scope.specs.declared.Standing.{Standing}
-use Rattle.scope.specs.declared.Standing.TheVariants as standing
+use Rattle.scope.specs.declared.Graph.{Graph}
 
-abbrev pub bound_as : Bound → Option ℕ
-bound_as (bound.Var v) = some v
-bound_as bound.Nothing = none
+abbrev pub scopes_in : Graph → List Scope
+scopes_in g = map scope_of g.scopes.now
 
-abbrev pub looked_as : answers.Looked → Looked
-looked_as (answer.Var v) = at v
-looked_as answer.Nothing = nothing
-looked_as (answer.Refused c) = refused c
+abbrev pub bindings_in : Graph → List Entry
+bindings_in g = map binding_of g.bindings.now
 
-abbrev pub offset_as : Standing → Offset
-offset_as (standing.Scope s) = in' s
-offset_as standing.Nowhere = nowhere
-offset_as (standing.Refused c) = offsets.refused c
+abbrev pub carried_in : Graph → List Carried
+carried_in g = map carried_of g.carried.now
+
+abbrev pub bound_as : code.Option ℕ → Option ℕ
+bound_as (Some v) = some v
+bound_as None = none
+
+abbrev pub looked_as : Result (code.Option ℕ) Refusal → Looked
+looked_as (Ok (Some v)) = at v
+looked_as (Ok None) = nothing
+looked_as (Err cause) = refused (number_of cause)
+
+abbrev pub best_as : code.Option (ℕ × ℕ) → Best
+best_as (Some held) = best held.0 held.1
+best_as None = none'
+
+abbrev pub offset_as : Result (code.Option ℕ) Refusal → Offset
+offset_as (Ok (Some s)) = in' s
+offset_as (Ok None) = nowhere
+offset_as (Err cause) = offsets.refused (number_of cause)

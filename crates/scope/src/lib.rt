@@ -3,122 +3,108 @@
 // 0), carried 3 (barrier, name, variable); a count says how many entries are in use.
 #![tactic(auto)]
 
-ghost use Rattle.std.specs.Prelude.{◌≡◌, Bool, ℕ, suc, ◌*◌, ◌<◌, ◌≤◌, length};
-ghost use Rattle.scope.specs.Flat.{scopes_of, bindings_of, carrieds_of};
-ghost use Rattle.scope.specs.Lookup.{bound_in, carries, lets_on, climb, lookup};
-ghost use Rattle.scope.specs.Offset.{offset};
-ghost use Rattle.scope.specs.Answer.{bound_as, looked_as, offset_as};
+ghost use Rattle.std.specs.Prelude.{◌≡◌, suc, ◌/◌, ◌<◌, ◌≤◌, length, map, MatchResult};
+ghost use Rattle.std.specs.Simd.{first_chunks};
+ghost use Rattle.refusal.specs.declared.Refusal.TheVariants.{Asked};
+ghost use Rattle.scope.specs.Flat.{scope_of};
+ghost use Rattle.scope.specs.Graph.{scope};
+ghost use Rattle.scope.specs.Lookup.{bound_in, carries, lets_on, climb, lookup, lookup_in};
+ghost use Rattle.scope.specs.Offset.{offset, better, scope_at_offset};
+ghost use Rattle.scope.specs.Answer.{bound_as, looked_as, offset_as, best_as, scopes_in, bindings_in, carried_in};
+
+use refusal::Refusal;
 
 // The kind of a WithBarrier.
 const WITH_BARRIER: u32 = 7;
 
-// What a scope itself binds a name to.
-#[derive(Drop)]
-pub enum Bound {
-    Var(u32),
-    Nothing,
+// The entries in use of the three lists.
+#[derive(Clone, Copy)]
+pub struct Graph<'a> {
+    pub scopes: &'a [[u32; 4]],
+    pub bindings: &'a [[u32; 6]],
+    pub carried: &'a [[u32; 3]],
 }
 
-// What lookup finds: the variable, nothing, or the refusal's number.
-#[derive(Drop)]
-pub enum Looked {
-    Var(u32),
-    Nothing,
-    Refused(u32),
-}
-
-// Where an offset stands: the scope's number, nowhere, or the refusal's number.
-#[derive(Drop)]
-pub enum Standing {
-    Scope(usize),
-    Nowhere,
-    Refused(u32),
-}
-
-// The first of n bindings that fits the scope and the name.
-fn bound_in(bindings: &[u32], n: usize, scope: u32, name: u32) -> Bound
-    requires { n * 6 ≤ length bindings.now }
-    ensures { bound_as result ≡ bound_in (bindings_of n bindings.now) scope name }
+// The first entries of a list of flat words; Asked where it has fewer.
+fn in_use<const WIDTH: usize>(words: &[u32], count: usize) -> Result<&[[u32; WIDTH]], Refusal>
+    requires { 0 < WIDTH }
+    ensures { MatchResult result (λ list. (count ≤ length words.now / WIDTH) × (list.now ≡ first_chunks WIDTH count words.now)) (λ cause. (length words.now / WIDTH < count) × (cause ≡ Asked)) }
 {
-    let mut i = 0;
-    while i < n {
-        let p = i * 6;
-        if bindings[p] == scope {
-            if bindings[p + 1] == name {
-                return Bound::Var(bindings[p + 2]);
+    let (all, _) = words.as_chunks::<WIDTH>();
+    if all.len() < count {
+        return Err(Refusal::Asked);
+    }
+    Ok(&all[..count])
+}
+
+impl Graph<'_> {
+    // The variable of the first binding that fits the scope and the name.
+    fn bound_in(&self, scope: u32, name: u32) -> Option<u32>
+        ensures { bound_as result ≡ bound_in (bindings_in self.now) scope name }
+    {
+        for binding in self.bindings {
+            let [of, called, variable, _, _, _] = *binding;
+            if of == scope && called == name {
+                return Some(variable);
             }
         }
-        i += 1;
+        None
     }
-    Bound::Nothing
-}
 
-// Whether the barrier carries the name, by n entries.
-fn carried_by(carried: &[u32], n: usize, barrier: u32, name: u32) -> bool
-    requires { n * 3 ≤ length carried.now }
-    ensures { result ≡ carries (carrieds_of n carried.now) barrier name }
-{
-    let mut i = 0;
-    while i < n {
-        let p = i * 3;
-        if carried[p] == barrier {
-            if carried[p + 1] == name {
+    // Whether the barrier carries the name.
+    fn carried_by(&self, barrier: u32, name: u32) -> bool
+        ensures { result ≡ carries (carried_in self.now) barrier name }
+    {
+        for carried in self.carried {
+            let [past, called, _] = *carried;
+            if past == barrier && called == name {
                 return true;
             }
         }
-        i += 1;
+        false
     }
-    false
-}
 
-// Whether a name may go on from a scope of the kind to its parent: not past a WithBarrier that doesn't carry it.
-fn passes(kind: u32, carried: &[u32], n: usize, scope: u32, name: u32) -> bool
-    requires { n * 3 ≤ length carried.now }
-    ensures { result ≡ lets_on kind (carries (carrieds_of n carried.now) scope name) }
-{
-    if kind == WITH_BARRIER {
-        return carried_by(carried, n, scope, name);
+    // Whether a name may go on from a scope of the kind to its parent: not past a WithBarrier that doesn't carry it.
+    fn passes(&self, kind: u32, scope: u32, name: u32) -> bool
+        ensures { result ≡ lets_on kind (carries (carried_in self.now) scope name) }
+    {
+        kind != WITH_BARRIER || self.carried_by(scope, name)
     }
-    true
-}
 
-// From a scope up its parents, each of which lies below its child.
-fn climb_from(
-    scopes: &[u32],
-    a: usize,
-    bindings: &[u32],
-    b: usize,
-    carried: &[u32],
-    c: usize,
-    from: u32,
-    name: u32,
-) -> Looked
-    requires { (a * 4 ≤ length scopes.now) × (b * 6 ≤ length bindings.now) × (c * 3 ≤ length carried.now) × (from < a) }
-    ensures { looked_as result ≡ climb (scopes_of a scopes.now) (bindings_of b bindings.now) (carrieds_of c carried.now) (suc from) from name }
-{
-    let mut scope = from;
-    loop {
-        let r = bound_in(bindings, b, scope, name);
-        if let Bound::Var(v) = r {
-            return Looked::Var(v);
+    // From a scope up its parents, each of which lies below its child.
+    fn climb(&self, from: u32, name: u32) -> Result<Option<u32>, Refusal>
+        requires { from < length self.now.scopes.now }
+        ensures { looked_as result ≡ climb (scopes_in self.now) (bindings_in self.now) (carried_in self.now) (suc from) from name }
+    {
+        let mut scope = from;
+        loop {
+            if let Some(variable) = self.bound_in(scope, name) {
+                return Ok(Some(variable));
+            }
+            let [kind, parent, _, _] = self.scopes[scope as usize];
+            if parent == 0 || !self.passes(kind, scope, name) {
+                return Ok(None);
+            }
+            if scope <= parent - 1 {
+                return Err(Refusal::Asked);
+            }
+            scope = parent - 1;
         }
-        let p = (scope as usize) * 4;
-        if !passes(scopes[p], carried, c, scope, name) {
-            return Looked::Nothing;
+    }
+
+    // The variable that a name has in a scope: the first binding on the way up; a WithBarrier lets through only names that it carries.
+    // Asked where there is no such scope, or a parent on the way is not below its child.
+    pub fn lookup(&self, scope: u32, name: u32) -> Result<Option<u32>, Refusal>
+        ensures { looked_as result ≡ lookup_in (scopes_in self.now) (bindings_in self.now) (carried_in self.now) scope name }
+    {
+        if self.scopes.len() <= scope as usize {
+            return Err(Refusal::Asked);
         }
-        let parent = scopes[p + 1];
-        if parent == 0 {
-            return Looked::Nothing;
-        }
-        if scope <= parent - 1 {
-            return Looked::Refused(9);
-        }
-        scope = parent - 1;
+        self.climb(scope, name)
     }
 }
 
-// The variable that a name has in a scope: the first binding on the way up; a WithBarrier lets through only names that it carries.
-// Cause 9 where a count is above its list's entries, the scope not below the count, or a parent on the way not below its child.
+// Lookup on lent lists; Asked also where a count is above its list's entries.
 pub fn lookup(
     scopes: &[u32],
     a: usize,
@@ -128,50 +114,45 @@ pub fn lookup(
     c: usize,
     scope: u32,
     name: u32,
-) -> Looked
+) -> Result<Option<u32>, Refusal>
     ensures { looked_as result ≡ lookup a scopes.now b bindings.now c carried.now scope name }
 {
-    if scopes.len() / 4 < a {
-        return Looked::Refused(9);
-    }
-    if bindings.len() / 6 < b {
-        return Looked::Refused(9);
-    }
-    if carried.len() / 3 < c {
-        return Looked::Refused(9);
-    }
-    if a <= scope as usize {
-        return Looked::Refused(9);
-    }
-    climb_from(scopes, a, bindings, b, carried, c, scope, name)
+    let graph = Graph {
+        scopes: in_use(scopes, a)?,
+        bindings: in_use(bindings, b)?,
+        carried: in_use(carried, c)?,
+    };
+    graph.lookup(scope, name)
 }
 
-// The scope whose span covers an offset: ends included, empty spans skipped, the narrowest, then the highest number. Cause 9 where the
-// count is above the list's entries.
-pub fn scope_at_offset(scopes: &[u32], n: usize, o: u32) -> Standing
+// The scope i takes the place of the best so far, a scope's number and the width of its span, where it covers the offset and is no wider.
+fn better(o: u32, i: usize, entry: &[u32; 4], best: Option<(usize, u32)>) -> Option<(usize, u32)>
+    ensures { best_as result ≡ better o i (scope_of entry.now) (best_as best) }
+{
+    let [_, _, start, end] = *entry;
+    if end <= start || o < start || end < o {
+        return best;
+    }
+    match best {
+        Some((_, width)) if width < end - start => best,
+        _ => Some((i, end - start)),
+    }
+}
+
+// The scope whose span covers an offset: ends included, empty spans skipped, the narrowest, then the highest number.
+fn narrowest(scopes: &[[u32; 4]], o: u32) -> Option<usize>
+    ensures { bound_as result ≡ scope_at_offset (map scope_of scopes.now) o }
+{
+    let mut best = None;
+    for (i, entry) in scopes.iter().enumerate() {
+        best = better(o, i, entry, best);
+    }
+    best.map(|(i, _)| i)
+}
+
+// The scope at an offset on a lent list; Asked where the count is above the list's entries.
+pub fn scope_at_offset(scopes: &[u32], n: usize, o: u32) -> Result<Option<usize>, Refusal>
     ensures { offset_as result ≡ offset n scopes.now o }
 {
-    if scopes.len() / 4 < n {
-        return Standing::Refused(9);
-    }
-    let mut best = Standing::Nowhere;
-    let mut width = 4294967295;
-    let mut i = 0;
-    while i < n {
-        let p = i * 4;
-        let start = scopes[p + 2];
-        let end = scopes[p + 3];
-        if start < end {
-            if start <= o {
-                if o <= end {
-                    if end - start <= width {
-                        width = end - start;
-                        best = Standing::Scope(i);
-                    }
-                }
-            }
-        }
-        i += 1;
-    }
-    best
+    Ok(narrowest(in_use(scopes, n)?, o))
 }

@@ -1,4 +1,3 @@
-pub mod Laying
+pub mod Digits
 pub mod Long
-pub mod Reading
-pub mod Replying
+pub mod Strip

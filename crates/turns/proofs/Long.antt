@@ -4,7 +4,7 @@ use Prim.Native.Nat.{ℕ, suc, ◌+◌, ◌*◌, ◌-◌, ◌^◌, ◌≤◌, �
 use mathlib.Core.Bool.{Bool, true, false, cond, ◌&&◌, false≢true}
 use mathlib.Core.List.{List, [], ◌∷◌}
 use mathlib.Core.Logic.{◌⊎◌, inl, inr, ⊎_elim}
-use mathlib.Core.Option.{Option, none, some}
+use Rattle.std.specs.Prelude.{Option, Some, None}
 use mathlib.Core.Path.{◌≡◌, refl, sym, ◌∙◌}
 use native.Mathlib.Nat.{pow-suc, pow-le-pow_right}
 use native.Mathlib.Omega.{arith}
@@ -15,7 +15,7 @@ use lib.Seq.{take_all}
 use Rattle.turns.specs.Command.{bytes, strip, digits_from, zero_alone, number_of, before_blank, adding, pair_of, taking, pair_in, command_of}
 use Rattle.turns.specs.declared.line.Command.TheVariants.{Unread}
 
-nothing : {A B : Type 0} {x : A} → none ≡ some x → B
+nothing : {A B : Type 0} {x : A} → None ≡ Some x → B
 nothing e = let z : ◌≡◌ {A = ℕ} 0 1 = cc in absurd (omega arith)
 
 -- d is a digit that may stand behind those of v
@@ -34,7 +34,7 @@ fits_below : (v d : ℕ) → fits v d ≡ true → v * 10 + (d - 48) < 2 ^ 32
 fits_below v d t = ltb-true (v * 10 + (d - 48)) (2 ^ 32) (both (leb 48 d) (leb d 57) (ltb (v * 10 + (d - 48)) (2 ^ 32)) t).1
 
 -- what digits behind those of v make: no less than v with as many zeros behind it, and less than 2 ^ 32
-digits-large : (ds : List ℕ) (v n k : ℕ) → 10 ^ k ≤ v → v < 2 ^ 32 → digits_from v ds ≡ some n → (10 ^ (k + length ds) ≤ n) × (n < 2 ^ 32)
+digits-large : (ds : List ℕ) (v n k : ℕ) → 10 ^ k ≤ v → v < 2 ^ 32 → digits_from v ds ≡ Some n → (10 ^ (k + length ds) ≤ n) × (n < 2 ^ 32)
 unfolding digits_from
 digits-large [] v n k h l e =
     let z : v ≡ n = cc in
@@ -43,7 +43,7 @@ digits-large [] v n k h l e =
 digits-large (d ∷ ds) v n k h l e =
     by (fits v d) refl e (digits-large ds (v * 10 + (d - 48)) n (suc k) (rw (pow-suc 10 k) (omega arith)))
   where
-    by : (b : Bool) → fits v d ≡ b → cond b (digits_from (v * 10 + (d - 48)) ds) none ≡ some n → (v * 10 + (d - 48) < 2 ^ 32 → digits_from (v * 10 + (d - 48)) ds ≡ some n → (10 ^ (suc k + length ds) ≤ n) × (n < 2 ^ 32)) → (10 ^ (k + suc (length ds)) ≤ n) × (n < 2 ^ 32)
+    by : (b : Bool) → fits v d ≡ b → cond b (digits_from (v * 10 + (d - 48)) ds) None ≡ Some n → (v * 10 + (d - 48) < 2 ^ 32 → digits_from (v * 10 + (d - 48)) ds ≡ Some n → (10 ^ (suc k + length ds) ≤ n) × (n < 2 ^ 32)) → (10 ^ (k + suc (length ds)) ≤ n) × (n < 2 ^ 32)
     by true t f g =
         let z : k + suc (length ds) ≡ suc k + length ds = omega arith in
         rw z (g (fits_below v d t) f)
@@ -60,16 +60,16 @@ few m n h l = ⊎_elim (λ k. absurd (omega (arith, pow-le-pow_right {n = 10} (o
         by false e = inr (ltb-false a b e)
 
 -- a number has at most ten digits
-short-number : (s : List ℕ) (n : ℕ) → number_of s ≡ some n → length s ≤ 10
+short-number : (s : List ℕ) (n : ℕ) → number_of s ≡ Some n → length s ≤ 10
 unfolding number_of digits_from
 short-number [] n e = nothing e
 short-number (d ∷ ds) n e = by (eqb d 48) refl e
   where
-    alone : (l : List ℕ) → zero_alone l ≡ some n → suc (length l) ≤ 10
+    alone : (l : List ℕ) → zero_alone l ≡ Some n → suc (length l) ≤ 10
     alone [] f = omega arith
     alone (x ∷ xs) f = nothing f
 
-    after : (b : Bool) → fits 0 d ≡ b → (d ≡ 48 → ⊥) → cond b (digits_from (0 * 10 + (d - 48)) ds) none ≡ some n → suc (length ds) ≤ 10
+    after : (b : Bool) → fits 0 d ≡ b → (d ≡ 48 → ⊥) → cond b (digits_from (0 * 10 + (d - 48)) ds) None ≡ Some n → suc (length ds) ≤ 10
     after true t k f =
         let h = fits-from 0 d t in
         let large = digits-large ds (0 * 10 + (d - 48)) n 0 (omega arith) (fits_below 0 d t) f in
@@ -77,7 +77,7 @@ short-number (d ∷ ds) n e = by (eqb d 48) refl e
         omega arith
     after false t k f = nothing f
 
-    by : (b : Bool) → eqb d 48 ≡ b → cond b (zero_alone ds) (digits_from 0 (d ∷ ds)) ≡ some n → suc (length ds) ≤ 10
+    by : (b : Bool) → eqb d 48 ≡ b → cond b (zero_alone ds) (digits_from 0 (d ∷ ds)) ≡ Some n → suc (length ds) ≤ 10
     by true t f = alone ds f
     by false t f = after (fits 0 d) refl (eqb-false d 48 t) f
 
@@ -86,9 +86,9 @@ unfolding pair_of
 short-pair s = by (number_of (take (before_blank s) s)) (number_of (drop (before_blank s + 1) s)) refl refl
   where
     by : (q item : Option ℕ) → number_of (take (before_blank s) s) ≡ q → number_of (drop (before_blank s + 1) s) ≡ item → (adding q item ≡ Unread) ⊎ (length s ≤ 21)
-    by none item e f = inl refl
-    by (some q) none e f = inl refl
-    by (some q) (some item) e f =
+    by None item e f = inl refl
+    by (Some q) None e f = inl refl
+    by (Some q) (Some item) e f =
         inr
         (omega (
           arith,
@@ -98,7 +98,7 @@ short-pair s = by (number_of (take (before_blank s) s)) (number_of (drop (before
           length-drop (before_blank s + 1) s,
         ))
 
-strip-size : (text s rest : List ℕ) → strip text s ≡ some rest → length s ≡ length text + length rest
+strip-size : (text s rest : List ℕ) → strip text s ≡ Some rest → length s ≡ length text + length rest
 unfolding strip
 strip-size [] s rest e =
     let z : s ≡ rest = cc in
@@ -106,7 +106,7 @@ strip-size [] s rest e =
 strip-size (t ∷ ts) [] rest e = nothing e
 strip-size (t ∷ ts) (b ∷ s) rest e = by (eqb t b) e (strip-size ts s rest)
   where
-    by : (f : Bool) → cond f (strip ts s) none ≡ some rest → (strip ts s ≡ some rest → length s ≡ length ts + length rest) → suc (length s) ≡ suc (length ts) + length rest
+    by : (f : Bool) → cond f (strip ts s) None ≡ Some rest → (strip ts s ≡ Some rest → length s ≡ length ts + length rest) → suc (length s) ≡ suc (length ts) + length rest
     by true g h = let z = h g in omega arith
     by false g h = nothing g
 
@@ -116,10 +116,10 @@ unfolding command_of
 short-line line = by (strip (bytes "take") line) (strip (bytes "add ") line) refl refl
   where
     by : (t a : Option (List ℕ)) → strip (bytes "take") line ≡ t → strip (bytes "add ") line ≡ a → (taking t (pair_in a) ≡ Unread) ⊎ (length line ≤ 25)
-    by none none e f = inl refl
-    by none (some s) e f = ⊎_elim inl (λ l. inr (omega (arith, strip-size (bytes "add ") line s f))) (short-pair s)
-    by (some []) a e f = inr (omega (arith, strip-size (bytes "take") line [] e))
-    by (some (b ∷ s)) a e f = inl refl
+    by None None e f = inl refl
+    by None (Some s) e f = ⊎_elim inl (λ l. inr (omega (arith, strip-size (bytes "add ") line s f))) (short-pair s)
+    by (Some []) a e f = inr (omega (arith, strip-size (bytes "take") line [] e))
+    by (Some (b ∷ s)) a e f = inl refl
 
 -- the first 32 bytes of a line ask what it asks
 pub first-32 : (line : List ℕ) → command_of (take 32 line) ≡ command_of line

@@ -4,84 +4,91 @@
 
 mod line;
 mod reply;
+mod text;
+
+ghost use Rattle.std.specs.Prelude.{◌≡◌, [], OnOk};
 
 use reply::reply;
 use std::io;
 use std::io::{Read, Write};
+use text::Text;
 
 // Of a line that is being read the first 32 bytes are kept, which ask what the line asks (proofs/Long.antt).
 const KEPT: usize = 32;
 
-// Answers the first n bytes of a line, at a place of the page, and says where the next answer goes; a page without room is written first.
-fn answer<W: Write>(
-    out: &mut W,
-    begun: &[u8],
-    n: usize,
-    words: &mut [u32; 577],
-    page: &mut [u8],
-    at: usize,
-) -> io::Result<usize> {
-    if begun.len() < n {
-        return Ok(at);
-    }
-    if page.len() < 40 {
-        return Ok(at);
-    }
-    if at <= page.len() - 40 {
-        return Ok(reply(&begun[0..n], words, page, at));
-    }
-    if at <= page.len() {
-        out.write_all(&page[0..at])?;
-    }
-    Ok(reply(&begun[0..n], words, page, 0))
+// How many bytes of answers are gathered before they are written, and how many an answer has at most.
+const PAGE: usize = 4096;
+
+const ANSWER: usize = 40;
+
+// The state of the queues, the line that is being read, and the answers that are not written yet.
+#[derive(Drop)]
+struct Turns {
+    words: [u32; 577],
+    line: Text<KEPT>,
+    page: Text<PAGE>,
 }
 
-// Takes more bytes in: those of a line are kept behind the n that have begun it, and its line feed answers it. Says how many have begun the
-// next line.
-fn feed<W: Write>(
-    out: &mut W,
-    more: &[u8],
-    begun: &mut [u8; 32],
-    n: usize,
-    words: &mut [u32; 577],
-) -> io::Result<usize> {
-    let mut page = [0u8; 4096];
-    let mut at: usize = 0;
-    let mut k = n;
-    for i in 0..more.len() {
-        let b = more[i];
-        if b == 10 {
-            at = answer(out, begun, k, words, &mut page, at)?;
-            k = 0;
-        } else {
-            if k < KEPT {
-                begun[k] = b;
-                k += 1;
-            }
+impl Turns {
+    fn new() -> Self {
+        Turns {
+            words: [0; 577],
+            line: Text::new(),
+            page: Text::new(),
         }
     }
-    if at <= 4096 {
-        out.write_all(&page[0..at])?;
+
+    // Writes the answers.
+    fn flush<W: Write>(&mut self, out: &mut W) -> io::Result<()>
+        ensures { OnOk result (self.new.page ≡ []) }
+    {
+        out.write_all(self.page.as_bytes())?;
+        self.page.clear();
+        Ok(())
     }
-    Ok(k)
+
+    // Answers the line; a page without room is written first.
+    fn answer<W: Write>(&mut self, out: &mut W) -> io::Result<()> {
+        if self.page.room() < ANSWER {
+            self.flush(out)?;
+        }
+        reply(self.line.as_bytes(), &mut self.words, &mut self.page);
+        self.line.clear();
+        Ok(())
+    }
+
+    // Takes more bytes in: a line feed ends a line, and what is answered is written.
+    fn feed<W: Write>(&mut self, out: &mut W, more: &[u8]) -> io::Result<()> {
+        for byte in more {
+            if *byte == b'\n' {
+                self.answer(out)?;
+            } else if 0 < self.line.room() {
+                self.line.put(&[*byte]);
+            }
+        }
+        self.flush(out)
+    }
+
+    // Whether a line has begun.
+    fn is_within_line(&self) -> bool {
+        !self.line.as_bytes().is_empty()
+    }
 }
 
 fn main(rt: HostRuntime) -> io::Result<()> {
     let mut from = rt.stdin();
     let mut out = rt.stdout();
-    let mut words = [0u32; 577];
-    let mut begun = [0u8; 32];
-    let mut n: usize = 0;
-    let mut input = [0u8; 4096];
-    for _ in 0..18446744073709551615u64 {
+    let mut turns = Turns::new();
+    let mut input = [0; 4096];
+    for _ in 0..u64::MAX {
         let got = from.read(&mut input)?;
         if got == 0 {
-            if 0 < n {
-                feed(&mut out, b"\n", &mut begun, n, &mut words)?;
-            }
-            return Ok(());
+            break;
         }
-        n = feed(&mut out, &input[..got], &mut begun, n, &mut words)?;
+        turns.feed(&mut out, &input[..got])?;
+    }
+    if turns.is_within_line() {
+        turns.feed(&mut out, b"\n")?;
     }
     Ok(())
 }

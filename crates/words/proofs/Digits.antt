@@ -29,6 +29,8 @@ unfolding width width_within
 width-more zero h = omega arith
 width-more (suc n) h = rw (le-ltb (suc n) 10 h, fuel n (suc n / 10) (suc n / 10) (omega arith) (omega arith))
 
+pub ruleset widths = (width_one, width-more)
+
 more-le : (b : Bool) (w k : ℕ) → w ≤ k → cond b 1 (suc w) ≤ suc k
 more-le true w k h = omega arith
 more-le false w k h = omega arith
@@ -60,3 +62,5 @@ digits-put zero n page p h = absurd (omega arith)
 digits-put (suc i) n page p h =
     rw
     (sub-one (suc i), append_snoc, drop-cons (set page i (48 + n % 10)) i 0 (simp length-set h), get_or-set_same, drop-set-lt (suc i) page i (48 + n % 10) (omega arith))
+
+pub ruleset written = (length-decimal, digits-put)

@@ -22,6 +22,7 @@ pub fn join(a: u8, b: u8, c: u8, d: u8) -> u32
 }
 
 // How many whole words s has.
+#[tactic(auto, using(crate::proofs::Words::word_laws))]
 pub fn count(s: &[u8]) -> usize
     ensures { result ≡ length (words s.now) }
 {
@@ -29,6 +30,7 @@ pub fn count(s: &[u8]) -> usize
 }
 
 // The word number at of s; 0 past the last.
+#[tactic(auto, using(crate::proofs::Words::word_laws))]
 pub fn word(s: &[u8], at: usize) -> u32
     ensures { result ≡ get_or (words s.now) at 0 }
 {

@@ -11,70 +11,42 @@ pub struct Pending {
     pub hi: u8,
 }
 
-// After a byte: what is to come, or no sequence has that byte there.
-#[derive(Drop)]
-pub enum Stepped {
-    To(Pending),
-    No,
-}
-
 // The answer that `left` bytes are to come, the next in lo to hi.
-fn to_come(left: u8, lo: u8, hi: u8) -> Stepped
+fn to_come(left: u8, lo: u8, hi: u8) -> Option<Pending>
     ensures { to result ≡ some (ranges left lo hi) }
 {
-    Stepped::To(Pending { left, lo, hi })
+    Some(Pending { left, lo, hi })
 }
 
-// A sequence's first byte: the rows of table 3-7 in their order.
-fn begin(b: u8) -> Stepped
+// A sequence's first byte, by table 3-7: what is to come after it, if it begins one.
+#[tactic(auto, using(std::proofs::lemmas::Bool::Decides::nat_tests), unfolding(crate::specs::Utf8::step, crate::specs::Utf8::after))]
+fn begin(b: u8) -> Option<Pending>
     ensures { to result ≡ step [] b }
 {
-    if b < 0x80 {
-        return to_come(0, 0x80, 0xBF);
+    match b {
+        0x00..=0x7F => to_come(0, 0x80, 0xBF),
+        0xC2..=0xDF => to_come(1, 0x80, 0xBF),
+        0xE0 => to_come(2, 0xA0, 0xBF),
+        0xE1..=0xEC => to_come(2, 0x80, 0xBF),
+        0xED => to_come(2, 0x80, 0x9F),
+        0xEE..=0xEF => to_come(2, 0x80, 0xBF),
+        0xF0 => to_come(3, 0x90, 0xBF),
+        0xF1..=0xF3 => to_come(3, 0x80, 0xBF),
+        0xF4 => to_come(3, 0x80, 0x8F),
+        _ => None,
     }
-    if b < 0xC2 {
-        return Stepped::No;
-    }
-    if b < 0xE0 {
-        return to_come(1, 0x80, 0xBF);
-    }
-    if b < 0xE1 {
-        return to_come(2, 0xA0, 0xBF);
-    }
-    if b < 0xED {
-        return to_come(2, 0x80, 0xBF);
-    }
-    if b < 0xEE {
-        return to_come(2, 0x80, 0x9F);
-    }
-    if b < 0xF0 {
-        return to_come(2, 0x80, 0xBF);
-    }
-    if b < 0xF1 {
-        return to_come(3, 0x90, 0xBF);
-    }
-    if b < 0xF4 {
-        return to_come(3, 0x80, 0xBF);
-    }
-    if b < 0xF5 {
-        return to_come(3, 0x80, 0x8F);
-    }
-    Stepped::No
 }
 
-// The next byte.
-fn next(p: Pending, b: u8) -> Stepped
+// The next byte: what is to come after it, if it may stand there.
+fn next(p: Pending, b: u8) -> Option<Pending>
     ensures { to result ≡ step (waiting p) b }
 {
     let left = p.left;
     if left == 0 {
         return begin(b);
     }
-    if b < p.lo {
-        return Stepped::No;
-    }
-    if p.hi < b {
-        return Stepped::No;
+    if b < p.lo || p.hi < b {
+        return None;
     }
     to_come(left - 1, 0x80, 0xBF)
 }
@@ -88,13 +60,11 @@ pub fn is_utf8(s: &[u8]) -> bool
         lo: 0x80,
         hi: 0xBF,
     };
-    let mut i = 0;
-    while i < s.len() {
-        let Stepped::To(q) = next(p, s[i]) else {
+    for b in s {
+        let Some(q) = next(p, *b) else {
             return false;
         };
         p = q;
-        i += 1;
     }
     p.left == 0
 }

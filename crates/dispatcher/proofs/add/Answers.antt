@@ -1,6 +1,5 @@
 -- Each return is a case of the definition: a number above 31, a full queue, or an item at the first free place of the ring.
 use native.Mathlib.Omega.{arith}
-use lib.ListN.{length-set}
 use Rattle.dispatcher.proofs.Ring.{adds-nowhere, adds-full, adds-done}
 use Rattle.dispatcher.proofs.add.Goals as goal
 
@@ -11,10 +10,6 @@ returns-then-queue-gt31 c =
 pub returns-then-n-ge16 : goal.returns-then-n-ge16
 returns-then-n-ge16 c =
     adds-full _ _ (omega arith) (omega arith) _ (omega arith)
-
-pub bounds-w-q-4 : goal.bounds-w-q-4
-bounds-w-q-4 c =
-    simp length-set (omega arith)
 
 pub returns : goal.returns
 returns c =

@@ -1,10 +1,9 @@
--- The loop's invariant: so many slots have room. They double while that stays so.
-use Prim.Native.Nat.{◌-◌}
-use Rattle.name_chains.specs.Hung.{Slots}
+-- The loop's invariant: so many slots have room.
+use Rattle.std.proofs.Common.{◌-◌, ◌<◌, ◌≤◌}
 use Rattle.name_chains.proofs.slots_in.Given as goal
 
 abbrev pub invariant-loop-m : goal.invariant-loop-m
-invariant-loop-m l = Slots l.room l.m
+invariant-loop-m l = (0 < l.m) × (l.m ≤ l.room)
 
 abbrev pub decreases-loop-m : goal.decreases-loop-m
 decreases-loop-m l = l.n - l.m

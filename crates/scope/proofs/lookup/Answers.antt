@@ -1,30 +1,30 @@
--- The four refusals are the definition's tests; past them `climb_from` answers.
-use borrow.Author.Tests.{le-leb, lt-leb, lt-ltb, le-ltb}
-use Rattle.scope.specs.Lookup.{lookup, lookup_in}
-use Rattle.scope.proofs.Entries.{length-entries}
+-- Each list has as many entries as its count says, or the call is refused.
+use Rattle.std.proofs.Common.{◌≡◌, ◌∙◌, Err, rules, arith}
+use Rattle.std.proofs.lemmas.Bool.Decides.{nat_tests}
+use Rattle.refusal.specs.declared.Refusal.TheVariants.{Asked}
+use Rattle.scope.specs.Lookup.{lookup}
+use Rattle.scope.proofs.Listed.{scopes_listed, bindings_listed, carried_listed}
 use Rattle.scope.proofs.lookup.Goals as goal
 
-pub returns-then-scopes-a : goal.returns-then-scopes-a
-unfolding lookup lookup_in
-returns-then-scopes-a c =
-    rw (lt-leb _ _ c.if-scopes-a.true)
+pub returns-in_err-in_use : goal.returns-in_err-in_use
+unfolding lookup
+returns-in_err-in_use c =
+    let e : c.from_residual.result ≡ Err Asked = search rules in
+    rw e (grind (arith, nat_tests, c.in_err-in_use.ensures))
 
-pub returns-then-bindings-b : goal.returns-then-bindings-b
-unfolding lookup lookup_in
-returns-then-bindings-b c =
-    rw (le-leb _ _ c.if-scopes-a.false, lt-leb _ _ c.if-bindings-b.true)
+pub returns-in_err-in_use-2 : goal.returns-in_err-in_use-2
+unfolding lookup
+returns-in_err-in_use-2 c =
+    let e : c.from_residual-in_err-in_use-2.result ≡ Err Asked = search rules in
+    rw e (grind (arith, nat_tests, c.in_err-in_use-2.ensures))
 
-pub returns-then-carried-c : goal.returns-then-carried-c
-unfolding lookup lookup_in
-returns-then-carried-c c =
-    rw (le-leb _ _ c.if-scopes-a.false, le-leb _ _ c.if-bindings-b.false, lt-leb _ _ c.if-carried-c.true)
-
-pub returns-then-a-scope : goal.returns-then-a-scope
-unfolding lookup lookup_in
-returns-then-a-scope c =
-    rw (le-leb _ _ c.if-scopes-a.false, le-leb _ _ c.if-bindings-b.false, le-leb _ _ c.if-carried-c.false, length-entries, le-ltb _ _ c.if-a-scope.true)
+pub returns-in_err-in_use-3 : goal.returns-in_err-in_use-3
+unfolding lookup
+returns-in_err-in_use-3 c =
+    let e : c.from_residual-in_err-in_use-3.result ≡ Err Asked = search rules in
+    rw e (grind (arith, nat_tests, c.in_err-in_use-3.ensures))
 
 pub returns : goal.returns
-unfolding lookup lookup_in
+unfolding lookup
 returns c =
-    rw (le-leb _ _ c.if-scopes-a.false, le-leb _ _ c.if-bindings-b.false, le-leb _ _ c.if-carried-c.false, length-entries, lt-ltb _ _ c.if-a-scope.false) c.climb_from.ensures
+    c.lookup.ensures ∙ rw (c.in_ok-in_use.ensures.1, c.in_ok-in_use-2.ensures.1, c.in_ok-in_use-3.ensures.1, scopes_listed, bindings_listed, carried_listed) (grind (arith, nat_tests))

@@ -1,36 +1,26 @@
--- The loop's invariant: the answer for all scopes is the one for those from the number i on, with the best so far (`Holds`).
-use Prim.Native.Nat.{◌+◌, ◌*◌}
-use native.Mathlib.Omega.{arith}
-use borrow.Author.Tests.{lt-leb}
-use Rattle.scope.specs.Offset.{offset}
-use Rattle.scope.proofs.Narrowest.{begins, takes, keeps, ends}
+-- The list has as many entries as the count says, or the call is refused.
+use Rattle.std.proofs.Common.{◌≡◌, ℕ, ◌/◌, ◌≤◌, List, length, Some, None, Ok, Err, rules, arith}
+use borrow.Author.Tests.{le-leb}
+use Rattle.std.specs.Prelude as code
+use Rattle.std.proofs.lemmas.Bool.Decides.{nat_tests}
+use Rattle.refusal.specs.declared.Refusal.TheVariants.{Asked}
+use Rattle.scope.specs.Answer.{bound_as, offset_as}
+use Rattle.scope.specs.Flat.{scopes_of}
+use Rattle.scope.specs.Offset.{offset, scope_at_offset}
+use Rattle.scope.proofs.Listed.{scopes_listed}
 use Rattle.scope.proofs.scope_at_offset.Goals as goal
-use Rattle.scope.proofs.scope_at_offset.Goals.{then-start-end+then-start-o+then-o-end+then-end-start, then-start-end+then-start-o+then-o-end+else-end-start, then-start-end+then-start-o+else-o-end, then-start-end+else-start-o, else-start-end}
 
-pub returns-then-scopes-n : goal.returns-then-scopes-n
+pub returns-in_err-in_use : goal.returns-in_err-in_use
 unfolding offset
-returns-then-scopes-n c =
-    rw (lt-leb _ _ c.if-scopes-n.true)
+returns-in_err-in_use c =
+    let e : c.from_residual.result ≡ Err Asked = search rules in
+    rw e (grind (arith, nat_tests, c.in_err-in_use.ensures))
 
-pub loop-i-init : goal.loop-i-init
+placed : (n : ℕ) (ws : List ℕ) (o : ℕ) (r : code.Option ℕ) → n ≤ length ws / 4 → bound_as r ≡ scope_at_offset (scopes_of n ws) o → offset_as (Ok r) ≡ offset n ws o
 unfolding offset
-loop-i-init c =
-    begins _ _ _
-
-pub loop-i-preserved : goal.loop-i-preserved
-loop-i-preserved c =
-    let a = c.args in
-    let l = c.loop-i in
-    let keep = keeps a.n a.scopes.now a.o l.i (omega arith) l.best l.width l.invariant (omega (arith, c.type_inv.scopes (l.i * 4 + 3))) in
-    elim c.if-start-end.branch [
-      | then-start-end+then-start-o+then-o-end+then-end-start w ↦ rw (w.best-is, w.width-is) (takes _ _ _ l.i (omega arith) _ _ l.invariant (omega arith) (omega arith) (omega arith) (omega arith))
-      | then-start-end+then-start-o+then-o-end+else-end-start w ↦ rw (w.best-is, w.width-is) (keep (λ d e f g. omega arith))
-      | then-start-end+then-start-o+else-o-end w ↦ rw (w.best-is, w.width-is) (keep (λ d e f g. omega arith))
-      | then-start-end+else-start-o w ↦ rw (w.best-is, w.width-is) (keep (λ d e f g. omega arith))
-      | else-start-end w ↦ rw (w.best-is, w.width-is) (keep (λ d e f g. omega arith))
-    ]
+placed n ws o None h e = rw (le-leb n _ h, ← e)
+placed n ws o (Some s) h e = rw (le-leb n _ h, ← e)
 
 pub returns : goal.returns
-unfolding offset
 returns c =
-    ends _ _ _ _ _ _ c.loop-i.invariant (omega arith) (omega arith)
+    placed _ _ _ c.narrowest.result c.in_ok-in_use.ensures.0 (rw (c.in_ok-in_use.ensures.1, scopes_listed) at c.narrowest.ensures)

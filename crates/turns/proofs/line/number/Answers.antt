@@ -1,41 +1,32 @@
--- The loop's invariant: the number is what the digits from i on write behind those of v, which is below 2 ^ 32 (`Told`).
-use mathlib.Core.Path.{sym}
-use native.Mathlib.Omega.{arith}
-use Rattle.turns.proofs.Reading.{no-digits, one-zero, more-than-zero, told, under-digits, over-digits, too_large, next-digit, all_told}
+-- A zero stands alone, and other digits write the number.
+use Rattle.std.proofs.Common.{◌≡◌, ◌≢◌, ℕ, Bool, cond, List, [], ◌∷◌, length, eqb, Some, None, refl, ◌∙◌, arith}
+use Rattle.std.proofs.lemmas.Bool.Decides.{nat_tests}
+use Rattle.turns.specs.Command.{number_of, digits_from}
 use Rattle.turns.proofs.line.number.Goals as goal
 
-pub returns-then-s-eq0 : goal.returns-then-s-eq0
-returns-then-s-eq0 c =
-    sym (no-digits _ c.if-s-eq0.true)
+nothing : (s : List ℕ) → length s ≡ 0 → None ≡ number_of s
+unfolding number_of
+nothing [] h = refl
+nothing (d ∷ ds) h = absurd (omega arith)
 
-pub returns-then-s-eq1 : goal.returns-then-s-eq1
-returns-then-s-eq1 c =
-    sym (one-zero _ c.if-s-eq48.true c.if-s-eq1.true)
+module _ (s : List ℕ) (d : ℕ) (ds : List ℕ) (e : s ≡ d ∷ ds) where
+  digits : d ≢ 48 → digits_from 0 s ≡ number_of s
+  unfolding number_of
+  digits h = rw e (grind (arith, nat_tests))
 
-pub returns-then-s-eq48 : goal.returns-then-s-eq48
-returns-then-s-eq48 c =
-    sym (more-than-zero _ c.if-s-eq48.true c.if-s-eq1.false)
+alone : (ds : List ℕ) (b : Bool) → b ≡ eqb (length ds) 0 → cond b (Some 0) None ≡ number_of (48 ∷ ds)
+unfolding number_of
+alone [] b h = rw h
+alone (x ∷ ds) b h = rw h (grind (arith, nat_tests))
 
-pub loop-i-init : goal.loop-i-init
-loop-i-init c =
-    told _ c.if-s-eq0.false c.if-s-eq48.false
+pub returns-in_err-first : goal.returns-in_err-first
+returns-in_err-first c = c.from_residual.ensures ∙ nothing _ c.in_err-first.ensures.cases
 
-pub returns-then-d-lt48 : goal.returns-then-d-lt48
-returns-then-d-lt48 c =
-    sym (under-digits _ _ _ c.loop-i.invariant (omega arith) c.if-d-lt48.true)
+pub returns-then-first-ne48 : goal.returns-then-first-ne48
+returns-then-first-ne48 c = c.value.ensures ∙ digits _ _ _ c.in_ok-first.ensures.cases.0 c.if-first-ne48.true
 
-pub returns-then-d-gt57 : goal.returns-then-d-gt57
-returns-then-d-gt57 c =
-    sym (over-digits _ _ _ c.loop-i.invariant (omega arith) c.if-d-lt48.false c.if-d-gt57.true)
+pub returns-then-is_empty : goal.returns-then-is_empty
+returns-then-is_empty c = rw (c.in_ok-first.ensures.cases.0, c.if-first-ne48.false) (alone _ _ c.if-is_empty.ensures)
 
-pub returns-then-v-gt4294967295 : goal.returns-then-v-gt4294967295
-returns-then-v-gt4294967295 c =
-    sym (too_large _ _ _ c.loop-i.invariant (omega arith) c.if-d-lt48.false c.if-d-gt57.false c.if-v-gt4294967295.true)
-
-pub loop-i-preserved : goal.loop-i-preserved
-loop-i-preserved c =
-    next-digit _ _ _ c.loop-i.invariant (omega arith) c.if-d-lt48.false c.if-d-gt57.false c.if-v-gt4294967295.false
-
-pub returns : goal.returns
-returns c =
-    sym (all_told _ _ _ c.loop-i.invariant (omega arith))
+pub returns-else-is_empty : goal.returns-else-is_empty
+returns-else-is_empty c = rw (c.in_ok-first.ensures.cases.0, c.if-first-ne48.false) (alone _ _ c.if-is_empty.ensures)

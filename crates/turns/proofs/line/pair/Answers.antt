@@ -1,21 +1,54 @@
 -- The numbers are those of the bytes before the blank and after it; where either is none, so is the pair.
-use mathlib.Core.Path.{sym, ◌∙◌, ap}
-use Rattle.turns.specs.Decimal.{decimal_is}
-use Rattle.turns.proofs.Reading.{pair_is, pair-first, pair-short}
+use Rattle.std.proofs.Common.{◌≡◌, ℕ, ◌+◌, ◌-◌, ◌<◌, ◌≤◌, Bool, true, false, cond, eqb, ltb, List, length, take, drop, length-drop, Option, Some, None, refl, ap, arith}
+use borrow.Author.Tests.{ltb-true, ltb-false}
+use Rattle.std.specs.Prelude.{MatchOption}
+use Rattle.std.specs.List.{position, position_or_len}
+use Rattle.std.proofs.lemmas.List.{take_all}
+use Rattle.std.proofs.lemmas.List.Recursion.{is_position_or_len}
+use Rattle.words.proofs.Words.{drop-none}
+use Rattle.turns.specs.Command.{before_blank, number_of, adding, pair_of}
+use Rattle.turns.specs.declared.line.Command.TheVariants.{Unread}
 use Rattle.turns.proofs.line.pair.Goals as goal
 
-pub returns-then-s-k : goal.returns-then-s-k
-returns-then-s-k c =
-    pair-short _ _ c.before_blank-k.ensures c.if-s-k.true
+blank_is : (s : List ℕ) → before_blank s ≡ position_or_len (λ b. eqb b 32) s
+unfolding before_blank
+blank_is = is_position_or_len before_blank (λ b. eqb b 32) refl (λ b s. ap (λ (n : ℕ). cond (eqb b 32) 0 n) (omega arith))
+
+at_blank : (s : List ℕ) (r : Option ℕ) → r ≡ position (λ b. eqb b 32) s → MatchOption r (length s ≤ before_blank s) (λ k. (k ≡ before_blank s) × (k < length s))
+at_blank s r e = rw (e, blank_is s) (by (ltb (position_or_len (λ b. eqb b 32) s) (length s)) refl)
+  where
+    by : (t : Bool) → ltb (position_or_len (λ b. eqb b 32) s) (length s) ≡ t → MatchOption (cond t (Some (position_or_len (λ b. eqb b 32) s)) None) (length s ≤ position_or_len (λ b. eqb b 32) s) (λ k. (k ≡ position_or_len (λ b. eqb b 32) s) × (k < length s))
+    by true t = (refl, ltb-true _ _ t)
+    by false t = ltb-false _ _ t
+
+short : (s : List ℕ) → length s ≤ before_blank s → Unread ≡ pair_of s
+unfolding pair_of number_of
+short s h = rw (drop-none s (before_blank s + 1) (omega arith)) (by (number_of (take (before_blank s) s)))
+  where
+    by : (q : Option ℕ) → Unread ≡ adding q None
+    by None = refl
+    by (Some q) = refl
+
+parts : (s : List ℕ) (k : ℕ) (q item : Option ℕ) → k ≡ before_blank s → q ≡ number_of (take k s) → item ≡ number_of (take (length s - (k + 1)) (drop (k + 1) s)) → adding q item ≡ pair_of s
+unfolding pair_of
+parts s k q item e f g =
+    let rest = take_all (length s - (k + 1)) (drop (k + 1) s) (simp length-drop (omega arith)) in
+    rw (f, g, rest, e)
 
 pub returns-in_default : goal.returns-in_default
-returns-in_default c =
-    pair-first _ _ c.before_blank-k.ensures (sym (ap decimal_is c.in_default.is) ∙ c.number.ensures)
+returns-in_default c = short _ (at_blank c.args.text.now None c.in_default.ensures)
 
 pub returns-in_default-number : goal.returns-in_default-number
 returns-in_default-number c =
-    pair_is _ _ c.before_blank-k.ensures _ _ (sym (ap decimal_is c.in-Is.is) ∙ c.number.ensures) (sym (ap decimal_is c.in_default-number.is) ∙ c.number-2.ensures)
+    let k = at_blank c.args.text.now (Some c.in-Some.blank) c.in-Some.ensures in
+    parts _ _ _ _ k.0 c.in_default-number.ensures refl
+
+pub returns-in_default-number-2 : goal.returns-in_default-number-2
+returns-in_default-number-2 c =
+    let k = at_blank c.args.text.now (Some c.in-Some.blank) c.in-Some.ensures in
+    parts _ _ _ _ k.0 c.in-Some-number.ensures c.in_default-number-2.ensures
 
 pub returns : goal.returns
 returns c =
-    pair_is _ _ c.before_blank-k.ensures _ _ (sym (ap decimal_is c.in-Is.is) ∙ c.number.ensures) (sym (ap decimal_is c.in-Is-number.is) ∙ c.number-2.ensures)
+    let k = at_blank c.args.text.now (Some c.in-Some.blank) c.in-Some.ensures in
+    parts _ _ _ _ k.0 c.in-Some-number.ensures c.in-Some-number-2.ensures

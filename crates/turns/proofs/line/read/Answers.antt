@@ -1,32 +1,42 @@
--- What the line begins with decides, by the definition's strip; one that begins with a text is as long as it.
-use Prim.Native.Nat.{◌≤◌}
-use mathlib.Core.Path.{◌∙◌}
-use lib.ListN.{length}
-use Rattle.turns.proofs.Reading.{strip-length, is-take, past-take, is-pair, is-neither}
+-- What the line is, or begins with, decides.
+use Rattle.std.proofs.Common.{◌≡◌, ◌≢◌, ℕ, List, [], ◌∷◌, ◌++◌, Option, Some, None, refl, sym, ◌∙◌}
+use Rattle.std.proofs.lemmas.Bool.{false≢true}
+use Rattle.std.proofs.lemmas.Bool.Decides.{Decides-eqb}
+use Rattle.std.proofs.lemmas.Slice.Eq.{slice_eq-Decides, strip_prefix_is}
+use Rattle.turns.specs.Command.{bytes, strip, taking, pair_in, pair_of, command_of}
+use Rattle.turns.specs.declared.line.Command.TheVariants.{Take, Unread}
+use Rattle.turns.proofs.Strip.{strip_is}
 use Rattle.turns.proofs.line.read.Goals as goal
 
-pub returns-then-line-eq4 : goal.returns-then-line-eq4
-returns-then-line-eq4 c =
-    is-take _ (rw c.if-begins.true at c.begins.ensures) c.if-line-eq4.true
+neither : (line : List ℕ) → line ≢ bytes "take" → ((rest : List ℕ) → line ≢ bytes "add " ++ rest) → Unread ≡ command_of line
+unfolding command_of
+neither line t a = by (strip (bytes "take") line) refl (strip (bytes "add ") line) refl
+  where
+    by : (x : Option (List ℕ)) → strip (bytes "take") line ≡ x → (y : Option (List ℕ)) → strip (bytes "add ") line ≡ y → Unread ≡ taking x (pair_in y)
+    by None e None f = refl
+    by None e (Some s) f = absurd (a s (strip_is (bytes "add ") line s f))
+    by (Some []) e y f = absurd (t (strip_is (bytes "take") line [] e))
+    by (Some (b ∷ s)) e y f = refl
 
-pub returns-then-begins : goal.returns-then-begins
-returns-then-begins c =
-    past-take _ (rw c.if-begins.true at c.begins.ensures) c.if-line-eq4.false
+module _ (line : List ℕ) where
+  is-take : line ≡ bytes "take" → Take ≡ command_of line
+  unfolding command_of strip
+  is-take e = rw e
 
-pub slice_bounds-pair-count : goal.slice_bounds-pair-count
-slice_bounds-pair-count c =
-    let long : 4 ≤ length c.args.line.now = strip-length _ _ _ (rw c.if-begins-2.true at c.begins-2.ensures) in
-    long
+  is-pair : (rest : List ℕ) → line ≡ bytes "add " ++ rest → pair_of rest ≡ command_of line
+  unfolding command_of strip
+  is-pair rest e = rw e
 
-pub slice_bounds-pair-start : goal.slice_bounds-pair-start
-slice_bounds-pair-start c =
-    let long : 4 ≤ length c.args.line.now = strip-length _ _ _ (rw c.if-begins-2.true at c.begins-2.ensures) in
-    long
+pub returns-then-eq : goal.returns-then-eq
+returns-then-eq c =
+    is-take _ ((slice_eq-Decides Decides-eqb _ _ _ c.eq.ensures).0 c.if-eq.true ∙ c.as_slice.ensures)
 
-pub returns-then-begins-2 : goal.returns-then-begins-2
-returns-then-begins-2 c =
-    c.pair.ensures ∙ is-pair _ (rw c.if-begins.false at c.begins.ensures) (rw c.if-begins-2.true at c.begins-2.ensures)
+pub returns-in-Some : goal.returns-in-Some
+returns-in-Some c =
+    let begun = rw c.in-Some.is at (strip_prefix_is Decides-eqb c.args.line.now (bytes "add ") c.strip_prefix.result c.strip_prefix.ensures.cases) in
+    c.pair.ensures ∙ is-pair _ _ begun
 
-pub returns : goal.returns
-returns c =
-    is-neither _ (rw c.if-begins.false at c.begins.ensures) (rw c.if-begins-2.false at c.begins-2.ensures)
+pub returns-in-None : goal.returns-in-None
+returns-in-None c =
+    let other = rw c.in-None.is at (strip_prefix_is Decides-eqb c.args.line.now (bytes "add ") c.strip_prefix.result c.strip_prefix.ensures.cases) in
+    neither _ (λ e. false≢true (sym c.if-eq.false ∙ (slice_eq-Decides Decides-eqb _ _ _ c.eq.ensures).1 (e ∙ sym c.as_slice.ensures))) other

@@ -1,28 +1,16 @@
--- The loop's invariant: the hash of the whole is the hash of what is left, from h on.
-use Prim.Native.Nat.{ℕ, ◌+◌}
-use mathlib.Core.Path.{refl, ◌∙◌, sym, ap}
-use native.Mathlib.Omega.{arith}
-use lib.ListN.{drop}
-use Rattle.words.specs.Fnv.{fnv_from, fnv1_of}
-use Rattle.words.proofs.Words.{drop-word, drop-none}
+-- The hash is a fold of the step, from the offset basis.
+use Rattle.std.proofs.Common.{◌≡◌, ℕ, List, [], ◌∷◌, refl, ◌∙◌, rules}
+use Rattle.std.specs.List.{fold}
+use Rattle.words.specs.Fnv.{fnv_step, fnv_from, fnv1_of}
 use Rattle.words.proofs.fnv.fnv1.Goals as goal
 
-pub loop-i-init : goal.loop-i-init
-unfolding fnv1_of
-loop-i-init c =
-    (omega arith, refl)
-
-pub loop-i-preserved : goal.loop-i-preserved
+folded : (h : ℕ) (s : List ℕ) → fold fnv_step h s ≡ fnv_from h s
 unfolding fnv_from
-loop-i-preserved c =
-    let s = c.args.s.now in
-    let l = c.loop-i in (
-      omega arith,
-      l.invariant.1 ∙ ap (fnv_from l.h) (drop-word s l.i (omega arith)) ∙ ap (λ (x : ℕ). fnv_from x (drop (l.i + 1) s)) (sym c.fnv_step-h.ensures),
-    )
+folded h [] = refl
+folded h (b ∷ s) = folded (fnv_step h b) s
 
 pub returns : goal.returns
-unfolding fnv_from
+unfolding fnv1_of
 returns c =
-    let l = c.loop-i in
-    sym (l.invariant.1 ∙ ap (fnv_from l.h) (drop-none c.args.s.now l.i (omega arith)))
+    let e : c.fold.result ≡ fold fnv_step 2166136261 c.args.s.now = search rules in
+    e ∙ folded 2166136261 c.args.s.now

@@ -1,13 +1,8 @@
--- The loop's invariant: the bytes of s from i on, where p is to come, say whether s is well-formed.
-use Prim.Native.Nat.{◌-◌}
-use mathlib.Core.Option.{some}
-use lib.ListN.{length}
-use Rattle.words.specs.Utf8.{waiting}
-use Rattle.words.proofs.Utf8Laws.{Rest}
+-- The loop's invariant: the bytes of s that are left, where p is to come, say whether s is well-formed.
+use Rattle.std.proofs.Common.{◌≡◌, drop}
+use Rattle.std.proofs.Math.Option.{some}
+use Rattle.words.specs.Utf8.{is_utf8, goes_on, waiting}
 use Rattle.words.proofs.utf8.is_utf8.Given as goal
 
-abbrev pub invariant-loop-i : goal.invariant-loop-i
-invariant-loop-i l = Rest l.s l.i (some (waiting l.p))
-
-abbrev pub decreases-loop-i : goal.decreases-loop-i
-decreases-loop-i l = length l.s - l.i
+abbrev pub invariant-loop-b : goal.invariant-loop-b
+invariant-loop-b l = is_utf8 l.s ≡ goes_on (drop l.b-index l.s) (some (waiting l.p))

@@ -1,0 +1,33 @@
+-- The entries of a list: those in use are arrays of a flat list's words, and a loop comes to them one after another.
+use Rattle.std.proofs.Common.{◌≡◌, ℕ, zero, suc, ◌+◌, ◌<◌, ◌≤◌, List, [], ◌∷◌, length, get_or, take, drop, map, refl, get_or-take, arith}
+use Rattle.std.proofs.Math.ListN.{drop_of_length-le}
+use Rattle.std.proofs.Math.Numerals.{add-one}
+use Rattle.std.proofs.Math.Seq.{drop-cons}
+use Rattle.std.specs.Simd.{first_chunks}
+use Rattle.scope.specs.Flat.{entries_of, scope_of, scopes_of, binding_of, bindings_of, carried_of, carrieds_of}
+
+module _ {A : Type 0} (one : List ℕ → A) where
+  module _ (es : List (List ℕ)) (i : ℕ) where
+    pub next_listed : i < length es → map one (drop i es) ≡ one (get_or es i []) ∷ map one (drop (i + 1) es)
+    next_listed h = rw (add-one, drop-cons es i [])
+
+    pub none_listed : length es ≤ i → map one (drop i es) ≡ []
+    none_listed h = rw (drop_of_length-le es h)
+
+  listed : (width : ℕ) → ((ws : List ℕ) → one (take width ws) ≡ one ws) → (n : ℕ) (ws : List ℕ) → map one (first_chunks width n ws) ≡ entries_of width one n ws
+  unfolding entries_of
+  listed width same zero ws = refl
+  listed width same (suc n) ws = rw (same ws, listed width same n (drop width ws))
+
+-- an entry is made of its own words
+word : (width i : ℕ) (ws : List ℕ) → i < width → get_or (take width ws) i 0 ≡ get_or ws i 0
+word width i ws h = rw get_or-take
+
+pub scopes_listed : (n : ℕ) (ws : List ℕ) → map scope_of (first_chunks 4 n ws) ≡ scopes_of n ws
+scopes_listed = listed scope_of 4 (λ ws. rw (word 4 0 ws (omega arith), word 4 1 ws (omega arith), word 4 2 ws (omega arith), word 4 3 ws (omega arith)))
+
+pub bindings_listed : (n : ℕ) (ws : List ℕ) → map binding_of (first_chunks 6 n ws) ≡ bindings_of n ws
+bindings_listed = listed binding_of 6 (λ ws. rw (word 6 0 ws (omega arith), word 6 1 ws (omega arith), word 6 2 ws (omega arith), word 6 3 ws (omega arith), word 6 4 ws (omega arith), word 6 5 ws (omega arith)))
+
+pub carried_listed : (n : ℕ) (ws : List ℕ) → map carried_of (first_chunks 3 n ws) ≡ carrieds_of n ws
+carried_listed = listed carried_of 3 (λ ws. rw (word 3 0 ws (omega arith), word 3 1 ws (omega arith), word 3 2 ws (omega arith)))
