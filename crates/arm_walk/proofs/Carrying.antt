@@ -1,11 +1,11 @@
 -- What a clause carries (`clause-carries`): nothing, or, if it is a WITH, all that is visible after it, oldest first, by the scope before the
 -- current one. `oldest` is what a log, newest first, carries, oldest first (`oldest-as`), and `oldest-count` how much that is.
+use Rattle.std.specs.Prelude.{Option, None, Some}
 use Prim.Native.Nat.{ℕ, suc, ◌+◌, ◌-◌, ◌<◌}
 use native.Mathlib.Omega.{arith}
 use mathlib.Core.Path.{◌≡◌, refl, sym, ◌∙◌, ap}
 use mathlib.Core.Bool.{Bool, true, false, not, ◌&&◌}
 use mathlib.Core.List.{List, [], ◌∷◌, ◌++◌, reverse, reverse_aux, append_assoc, append-nil}
-use mathlib.Core.Option.{Option, none, some}
 use lib.ListN.{length, length-append}
 use Rattle.scope.specs.Graph.{root_scope, with_barrier, comprehension_scope, return_scope, call_scope, Carried, carried}
 use Rattle.expr.specs.Tree.{Expr, var, unresolved, node, predicate, comprehension, Exprs, done, more, mark, Steps, end, part, elem}
@@ -56,14 +56,14 @@ module _ (w : World) where
 
   var-none : (v : ℕ) (r : Option Row) (s : State) → oldest (use_var w v r s).log ≡ oldest s.log
   unfolding use_var oldest
-  var-none v none s = refl
-  var-none v (some (row i x k a b)) s = refl
+  var-none v None s = refl
+  var-none v (Some (row i x k a b)) s = refl
 
   visit-none : (hushed : Bool) (x : ℕ) (o : Option ℕ) (s : State) → oldest (visit w hushed x o s).log ≡ oldest s.log
   unfolding visit use_name oldest
   visit-none true x o s = refl
-  visit-none false x (some v) s = refl
-  visit-none false x none s = find_none (not (w.is_star x)) (finding e1001 0 0 (suc x) 0 0) _
+  visit-none false x (Some v) s = refl
+  visit-none false x None s = find_none (not (w.is_star x)) (finding e1001 0 0 (suc x) 0 0) _
 
   anew-none : (a b x v k : ℕ) (s : State) → oldest (bind_anew w a b x v k s).log ≡ oldest s.log
   unfolding bind_anew oldest
@@ -71,18 +71,18 @@ module _ (w : World) where
 
   path-none : (o : Option ℕ) (s : State) → oldest (bind_path w o s).log ≡ oldest s.log
   unfolding bind_path
-  path-none none s = refl
-  path-none (some v) s = anew-none 0 0 (name_of w v) v path_kind s
+  path-none None s = refl
+  path-none (Some v) s = anew-none 0 0 (name_of w v) v path_kind s
 
   new_none : (o : Option ℕ) (x v k : ℕ) (s : State) → oldest (bind_new w o x v k s).log ≡ oldest s.log
   unfolding bind_new oldest
-  new_none none x v k s = refl
-  new_none (some u) x v k s = refl
+  new_none None x v k s = refl
+  new_none (Some u) x v k s = refl
 
   elem-none : (k : ℕ) (o : Option ℕ) (s : State) → oldest (bind_elem w k o s).log ≡ oldest s.log
   unfolding bind_elem
-  elem-none k none s = refl
-  elem-none k (some v) s = new_none (lookup (name_of w v) s.visible) (name_of w v) v k s
+  elem-none k None s = refl
+  elem-none k (Some v) s = new_none (lookup (name_of w v) s.visible) (name_of w v) v k s
 
   mutual
     unfolding resolve oldest

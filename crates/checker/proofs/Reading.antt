@@ -1,8 +1,8 @@
 -- Entries that are written as words at the front of a list read back: of scopes, bindings, carried names, recorded uses and findings.
+use Rattle.std.specs.Prelude.{None, Some}
 use Prim.Native.Nat.{ℕ}
 use mathlib.Core.Path.{◌≡◌, refl, ap₂}
 use mathlib.Core.List.{List, [], ◌∷◌, ◌++◌, flat_map, append_assoc}
-use mathlib.Core.Option.{none, some}
 use lib.ListN.{length, drop}
 use Rattle.scope.specs.Graph.{Scope, scope, Entry, entry, Carried, carried}
 use Rattle.scope.specs.Flat.{entries_of, scope_of, binding_of, carried_of}
@@ -26,8 +26,8 @@ module _ {A : Type 0} (width : ℕ) (one : List ℕ → A) (words : A → List �
 
 scope-back : (a : Scope) (r : List ℕ) → scope_of (scope_words a ++ r) ≡ a
 unfolding scope_words
-scope-back (scope k none a b) r = refl
-scope-back (scope k (some p) a b) r = refl
+scope-back (scope k None a b) r = refl
+scope-back (scope k (Some p) a b) r = refl
 
 scope-past : (a : Scope) (r : List ℕ) → drop 4 (scope_words a ++ r) ≡ r
 unfolding scope_words
@@ -35,13 +35,13 @@ scope-past (scope k p a b) r = refl
 
 binding-back : (a : Entry) (r : List ℕ) → binding_of (binding_words a ++ r) ≡ a
 unfolding binding_words
-binding-back (entry s x v k none) r = refl
-binding-back (entry s x v k (some u)) r = refl
+binding-back (entry s x v k None) r = refl
+binding-back (entry s x v k (Some u)) r = refl
 
 binding-past : (a : Entry) (r : List ℕ) → drop 6 (binding_words a ++ r) ≡ r
 unfolding binding_words
-binding-past (entry s x v k none) r = refl
-binding-past (entry s x v k (some u)) r = refl
+binding-past (entry s x v k None) r = refl
+binding-past (entry s x v k (Some u)) r = refl
 
 carried-back : (a : Carried) (r : List ℕ) → carried_of (carried_words a ++ r) ≡ a
 unfolding carried_words

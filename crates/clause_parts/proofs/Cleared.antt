@@ -1,11 +1,11 @@
 -- Of the visible names the first `top` stay (`cut-numbers`, `cut_fits`, `cut_holds`; they descend as all of them did: `below-descends`), or none
 -- (`cleared-fits`, `cleared`: an arm, a WITH); a step in a mode that resolves names is one of names alone (`names-step`).
+use Rattle.std.specs.Prelude.{None}
 use Prim.Native.Nat.{ℕ, zero, suc, ◌+◌, ◌-◌, ◌≤◌}
 use native.Mathlib.Omega.{arith}
 use mathlib.Core.Path.{◌≡◌, refl, ◌∙◌}
 use mathlib.Core.Bool.{Bool, true, false}
 use mathlib.Core.List.{List, [], ◌∷◌}
-use mathlib.Core.Option.{none}
 use lib.ListN.{length, drop}
 use Rattle.semantics.specs.Resolve.{State, Seen, seen, standing}
 use Rattle.fused.specs.Fused.{Both, Mode, step, told}
@@ -58,7 +58,7 @@ pub cleared-fits : {ws tab m vis found m' vis' : List ℕ} {i k cur : ℕ} → F
 unfolding seens Descends
 cleared-fits g p l = cut_fits g p (omega arith) tt l
 
-pub cleared : {j : ℕ} {ws tab m₀ vis₀ found₀ : List ℕ} {G : Goer} {c : ℕ} {m vis found m' vis' : List ℕ} (K : Rest) → Left tab m vis m' vis' 0 0 → Stage none j ws tab m₀ vis₀ found₀ G c m vis found (λ id s t. K id s (on_names (standing [] 0) t)) → Stage none j ws tab m₀ vis₀ found₀ G c m' vis' found K
+pub cleared : {j : ℕ} {ws tab m₀ vis₀ found₀ : List ℕ} {G : Goer} {c : ℕ} {m vis found m' vis' : List ℕ} (K : Rest) → Left tab m vis m' vis' 0 0 → Stage None j ws tab m₀ vis₀ found₀ G c m vis found (λ id s t. K id s (on_names (standing [] 0) t)) → Stage None j ws tab m₀ vis₀ found₀ G c m' vis' found K
 unfolding seens
 cleared K p o =
     let q = cut-numbers o.size p in

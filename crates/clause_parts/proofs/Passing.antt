@@ -3,12 +3,12 @@
 -- asks) or refused (`halted`, `stopped`, `stays`); at the end stands the answer (`passed`, `refused`). A loop is a walk of which rounds are left
 -- (`begun`, `turn`, `fall`, `over`). `lend` and `still-held` put the same with other pairs held. Where no
 -- name is marked none is hushed (`none-hushed`).
+use Rattle.std.specs.Prelude.{Option, None}
 use Prim.Native.Nat.{ℕ, zero, suc, ◌+◌, ◌-◌, ◌<◌, ◌≤◌}
 use native.Mathlib.Omega.{arith}
 use mathlib.Core.Path.{◌≡◌, refl, ap, ◌∙◌}
 use mathlib.Core.Bool.{Bool, true, false, ◌&&◌}
 use mathlib.Core.List.{List}
-use mathlib.Core.Option.{Option, none}
 use lib.Dec.{eqb, ltb}
 use lib.ListN.{length, get_or, set, drop}
 use borrow.Author.Tests.{ltb-true}
@@ -43,7 +43,7 @@ lend l x = record { sized = x.sized; seen = x.seen; wrote = x.wrote; kept = refl
 
 -- ---- the end
 module _ {j : ℕ} {ws tab m₀ vis₀ found₀ : List ℕ} {G : Goer} {c : ℕ} {m vis found held held' : List ℕ} where
-  pub passed : Stage none j ws tab m₀ vis₀ found₀ G c m vis found (λ id s t. last (ok t)) → length held' ≡ length held → Passes j ws tab m₀ vis₀ found₀ held m vis found held' G 0
+  pub passed : Stage None j ws tab m₀ vis₀ found₀ G c m vis found (λ id s t. last (ok t)) → length held' ≡ length held → Passes j ws tab m₀ vis₀ found₀ held m vis found held' G 0
   passed o e =
       record {
         sized = o.sized;
@@ -57,7 +57,7 @@ module _ {j : ℕ} {ws tab m₀ vis₀ found₀ : List ℕ} {G : Goer} {c : ℕ}
         };
       }
 
-  pub refused : {K : Rest} (a : ℕ) → (a ≡ 0 → ⊥) → Stage none j ws tab m₀ vis₀ found₀ G c m vis found K → length held' ≡ length held → Refuses ws tab m₀ vis₀ found₀ G a → Passes j ws tab m₀ vis₀ found₀ held m vis found held' G a
+  pub refused : {K : Rest} (a : ℕ) → (a ≡ 0 → ⊥) → Stage None j ws tab m₀ vis₀ found₀ G c m vis found K → length held' ≡ length held → Refuses ws tab m₀ vis₀ found₀ G a → Passes j ws tab m₀ vis₀ found₀ held m vis found held' G a
   refused zero q o e g = absurd (q refl)
   refused (suc a) q o e g = record { sized = o.sized; seen = o.seen; wrote = o.wrote; kept = e; passes = g.same }
 
@@ -71,8 +71,8 @@ bind_ok (ok u r) = refl
 bind_ok (no e) = refl
 
 module _ {j : ℕ} {ws tab m₀ vis₀ found₀ : List ℕ} {G : Goer} {c : ℕ} {m vis found : List ℕ} {i : ℕ} {H : Goer} {held m' vis' found' held' : List ℕ} where
-  pub went : {K : Rest} {a : ℕ} (e : ℕ) → a ≡ 0 → i + e ≤ c → Stage none j ws tab m₀ vis₀ found₀ G c m vis found (λ id s t. step (H id t) (K id s)) → Passes i ws tab m vis found held m' vis' found' held' H a →
-      Stage none j ws tab m₀ vis₀ found₀ G e m' vis' found' K
+  pub went : {K : Rest} {a : ℕ} (e : ℕ) → a ≡ 0 → i + e ≤ c → Stage None j ws tab m₀ vis₀ found₀ G c m vis found (λ id s t. step (H id t) (K id s)) → Passes i ws tab m vis found held m' vis' found' held' H a →
+      Stage None j ws tab m₀ vis₀ found₀ G e m' vis' found' K
   went e q l o x =
       let y = rw q at x.passes in
       record {
@@ -87,7 +87,7 @@ module _ {j : ℕ} {ws tab m₀ vis₀ found₀ : List ℕ} {G : Goer} {c : ℕ}
             record { state = z.state; holds = z.holds; same = rw (n.same, z.same) };
       }
 
-  pub fell : {K : Rest} {held₀ : List ℕ} (a : ℕ) → (a ≡ 0 → ⊥) → length held ≡ length held₀ → Stage none j ws tab m₀ vis₀ found₀ G c m vis found (λ id s t. step (H id t) (K id s)) → Passes i ws tab m vis found held m' vis' found' held' H a →
+  pub fell : {K : Rest} {held₀ : List ℕ} (a : ℕ) → (a ≡ 0 → ⊥) → length held ≡ length held₀ → Stage None j ws tab m₀ vis₀ found₀ G c m vis found (λ id s t. step (H id t) (K id s)) → Passes i ws tab m vis found held m' vis' found' held' H a →
       Passes j ws tab m₀ vis₀ found₀ held₀ m' vis' found' held' G a
   fell zero q e o x = absurd (q refl)
   fell (suc a) q e o x =
@@ -99,7 +99,7 @@ module _ {j : ℕ} {ws tab m₀ vis₀ found₀ : List ℕ} {G : Goer} {c : ℕ}
         passes = λ id s h. let n = o.on id s h in rw (n.same, (refusal (suc a) q x).same id n.state n.holds);
       }
 
-  pub last_one : {held₀ : List ℕ} (a : ℕ) → i ≤ c → length held ≡ length held₀ → Stage none j ws tab m₀ vis₀ found₀ G c m vis found (λ id s t. last (H id t)) → Passes i ws tab m vis found held m' vis' found' held' H a →
+  pub last_one : {held₀ : List ℕ} (a : ℕ) → i ≤ c → length held ≡ length held₀ → Stage None j ws tab m₀ vis₀ found₀ G c m vis found (λ id s t. last (H id t)) → Passes i ws tab m vis found held m' vis' found' held' H a →
       Passes j ws tab m₀ vis₀ found₀ held₀ m' vis' found' held' G a
   last_one zero l e o x = passed (went {K = λ id s u. last (ok u)} 0 refl (omega arith) (recast (λ id s t. step (H id t) (λ u. last (ok u))) o (λ id s t r. bind_ok (H id t r))) x) (x.kept ∙ e)
   last_one (suc a) l e o x = fell {K = λ id s u. last (ok u)} (suc a) (λ q. never (cc)) e (recast (λ id s t. step (H id t) (λ u. last (ok u))) o (λ id s t r. bind_ok (H id t r))) x
@@ -125,7 +125,7 @@ module _ {keep : Option ℕ} {j : ℕ} {ws tab m₀ vis₀ found₀ : List ℕ} 
   stopped q = stop o (rw q at n.got)
 
 module _ {j : ℕ} {ws tab m₀ vis₀ found₀ : List ℕ} {G : Goer} {c : ℕ} {m vis found : List ℕ} {lo hi : ℕ} {K : (ℕ → ℕ) → ℕ → Both → Both → Chain Both} {m' : List ℕ} {r : Word} {held held' : List ℕ}
-    (o : Stage none j ws tab m₀ vis₀ found₀ G c m vis found (λ id s t. step (word_in lo hi) (λ x. K id x s t))) (n : Next ws lo hi m m' r) where
+    (o : Stage None j ws tab m₀ vis₀ found₀ G c m vis found (λ id s t. step (word_in lo hi) (λ x. K id x s t))) (n : Next ws lo hi m m' r) where
   pub halted : r ≡ word.No → length held' ≡ length held → Passes j ws tab m₀ vis₀ found₀ held m' vis found held' G 5
   halted q e = rw (stays n q) (refused 5 (λ z. omega arith) o e (stopped o n q))
 
@@ -135,7 +135,7 @@ asked h = (h.fit.size, (h.fit.within, h.fine.short))
 
 -- ---- loops: of n rounds, left are left
 pub record Turning (ws tab m₀ vis₀ found₀ held₀ : List ℕ) (n : ℕ) (one : Goer) (m vis found held : List ℕ) (left : ℕ) : Type 0 where
-  pub stage : Stage none 0 ws tab m₀ vis₀ found₀ (λ id. rounds n (one id)) 0 m vis found (λ id s t. last (rounds left (one id) t))
+  pub stage : Stage None 0 ws tab m₀ vis₀ found₀ (λ id. rounds n (one id)) 0 m vis found (λ id s t. last (rounds left (one id) t))
   pub kept : length held ≡ length held₀
 
 pub begun : {ws tab m vis found held : List ℕ} (n : ℕ) (one : Goer) → Ready 0 ws tab m vis found → Turning ws tab m vis found held n one m vis found held n
@@ -148,7 +148,7 @@ ahead left one t r h =
     ap (λ (k : ℕ). rounds k one t r) l
 
 module _ {ws tab m₀ vis₀ found₀ held₀ : List ℕ} {n : ℕ} {one : Goer} {m vis found held : List ℕ} {left : ℕ} (o : Turning ws tab m₀ vis₀ found₀ held₀ n one m vis found held left) where
-  next : 0 < left → Stage none 0 ws tab m₀ vis₀ found₀ (λ id. rounds n (one id)) 0 m vis found (λ id s t. step (one id t) (λ u. last (rounds (left - 1) (one id) u)))
+  next : 0 < left → Stage None 0 ws tab m₀ vis₀ found₀ (λ id. rounds n (one id)) 0 m vis found (λ id s t. step (one id t) (λ u. last (rounds (left - 1) (one id) u)))
   next h = recast _ o.stage (λ id s t r. ahead left (one id) t r h)
 
   pub turn : {m' vis' found' held' : List ℕ} {a : ℕ} → 0 < left → a ≡ 0 → Passes 0 ws tab m vis found held m' vis' found' held' one a → Turning ws tab m₀ vis₀ found₀ held₀ n one m' vis' found' held' (left - 1)

@@ -1,6 +1,5 @@
 -- Clauses and arms read from words (document 01, "Clause"; causes 5, 6 and 7).
-use Rattle.std.specs.Prelude.{cond, ℕ, zero, suc, List, [], ◌∷◌}
-use Rattle.std.proofs.Math.Option.{Option, none, some}
+use Rattle.std.specs.Prelude.{cond, ℕ, zero, suc, List, [], ◌∷◌, Option, None, Some}
 use Rattle.heads.specs.Got.{Got, ok, no, bind, look, word_in, any_word, flag, counted}
 use Rattle.heads.specs.Head.{Tables}
 use Rattle.expr.specs.Tree.{Exprs}
@@ -13,8 +12,8 @@ max_depth = 48
 
 -- "alias + 1 or 0"
 abbrev pub alias_of : ℕ → Option ℕ
-alias_of zero = none
-alias_of (suc x) = some x
+alias_of zero = None
+alias_of (suc x) = Some x
 
 module _ (w : Tables) where
   abbrev pub clause_expr : Reader

@@ -1,6 +1,5 @@
 -- Clauses and arms as trees (document 01, "Clause", "Projections", "Arm").
-use Rattle.std.specs.Prelude.{ℕ, List, [], ◌∷◌}
-use Rattle.std.proofs.Math.Option.{Option}
+use Rattle.std.specs.Prelude.{ℕ, List, [], ◌∷◌, Option}
 use Rattle.expr.specs.Tree.{Expr, Exprs, done, more, Steps}
 
 pub data Projection : Type 0 where

@@ -1,10 +1,10 @@
 -- Entries at the front of a list of words: what is stored after them, or in the place of one, makes the list of those with it.
+use Rattle.std.specs.Prelude.{None, Some}
 use Prim.Native.Nat.{ℕ, zero, suc, ◌+◌, ◌-◌, ◌*◌, ◌≤◌}
 use native.Mathlib.Nat.{zero-mul, zero-add, suc-add}
 use native.Mathlib.Omega.{arith}
 use mathlib.Core.Path.{◌≡◌, refl, ◌∙◌}
 use mathlib.Core.List.{List, [], ◌∷◌, ◌++◌, flat_map, append_assoc, append-nil}
-use mathlib.Core.Option.{none, some}
 use lib.ListN.{length, set, drop, length-append, length-drop}
 use lib.Seq.{sets, sets-eq, drop_at, drop-drop}
 use Rattle.scope.specs.Graph.{Scope, scope, Entry, entry, Carried, carried}
@@ -68,9 +68,9 @@ module _ {A : Type 0} (words : A → List ℕ) (width : ℕ) (sized : (a : A) �
   pub sets_over : (e : A) (es : List A) (i : ℕ) (old : List ℕ) → i ≤ length es → suc i * width ≤ length old → sets (filled old (flat_map words es)) (i * width) (words e) ≡ filled old (flat_map words (over i e es))
   unfolding flat_map over
   sets_over e [] i old h r =
-      let none : i ≡ 0 = omega arith in
+      let None : i ≡ 0 = omega arith in
       let w = sized e in
-      rw (none, zero-mul, append-nil, filled-nil) (sets-front (words e) old (omega arith))
+      rw (None, zero-mul, append-nil, filled-nil) (sets-front (words e) old (omega arith))
   sets_over e (x ∷ es) zero old h r =
       let same : length (words x) ≡ length (words e) = omega (arith, sized e, sized x) in
       rw (zero-mul, filled-append, filled-append, sets-instead (words e) (words x)) (rw same)
@@ -89,8 +89,8 @@ sized-scope (scope k p a b) = refl
 
 pub sized-binding : (x : Entry) → length (binding_words x) ≡ 6
 unfolding binding_words
-sized-binding (entry s x v k none) = refl
-sized-binding (entry s x v k (some u)) = refl
+sized-binding (entry s x v k None) = refl
+sized-binding (entry s x v k (Some u)) = refl
 
 pub sized-carried : (x : Carried) → length (carried_words x) ≡ 3
 unfolding carried_words

@@ -1,4 +1,5 @@
 -- The place of an entry: the search for it, and what is put there.
+use Rattle.std.specs.Prelude.{Option, None, Some}
 use Prim.Native.Nat.{ℕ, zero, suc, ◌+◌, ◌-◌, ◌*◌, ◌<◌, ◌≤◌}
 use native.Mathlib.Nat.{add-zero, zero-add}
 use native.Mathlib.Numerals.{add-one, add-two, add-three, add-four}
@@ -6,7 +7,6 @@ use native.Mathlib.Omega.{arith}
 use mathlib.Core.Path.{◌≡◌, refl, sym, ◌∙◌}
 use mathlib.Core.Bool.{Bool, true, false, cond, ◌&&◌}
 use mathlib.Core.List.{List, [], ◌∷◌, ◌++◌, flat_map}
-use mathlib.Core.Option.{Option, none, some}
 use lib.Dec.{eqb}
 use lib.ListN.{length, get_or, set, drop}
 use lib.Seq.{sets, length-sets, drop_at, get_or-drop, get_or-append-add}
@@ -65,8 +65,8 @@ here-or-later false new x i es h = rw h
 
 -- What a binding replaces, and where it goes.
 unfoldable pub replaced_at : ℕ → List Entry → Option ℕ
-replaced_at i [] = none
-replaced_at zero (entry t y u j r ∷ es) = some u
+replaced_at i [] = None
+replaced_at zero (entry t y u j r ∷ es) = Some u
 replaced_at (suc i) (e ∷ es) = replaced_at i es
 
 module _ (s x v k : ℕ) where
@@ -87,13 +87,13 @@ place-within fits (e ∷ es) = within-or-later (fits e) (place-within fits es)
 length-put : (s x v k : ℕ) (es : List Entry) → length (put (bound s x v k) es) ≡ suc (place (is_binding s x) es) + (length es - suc (place (is_binding s x) es))
 length-put s x v k es = rw (put-over s x v k es) (length_over _ es (place (is_binding s x) es) (place-within (is_binding s x) es))
 
-pub replaced-none : (es : List Entry) (i : ℕ) → length es ≤ i → replaced_at i es ≡ none
+pub replaced-none : (es : List Entry) (i : ℕ) → length es ≤ i → replaced_at i es ≡ None
 unfolding replaced_at
 replaced-none [] i h = refl
 replaced-none (entry t y u j r ∷ es) zero h = absurd (omega arith)
 replaced-none (entry t y u j r ∷ es) (suc i) h = replaced-none es i (omega arith)
 
-pub replaced-some : (es : List Entry) (i : ℕ) (old : List ℕ) → i < length es → replaced_at i es ≡ some (get_or (filled old (flat_map binding_words es)) (i * 6 + 2) 0)
+pub replaced-some : (es : List Entry) (i : ℕ) (old : List ℕ) → i < length es → replaced_at i es ≡ Some (get_or (filled old (flat_map binding_words es)) (i * 6 + 2) 0)
 unfolding replaced_at flat_map binding_words
 replaced-some [] i old h = absurd (omega arith)
 replaced-some (entry t y u j r ∷ es) zero old h = rw (filled-append old (binding_words (entry t y u j r)) (flat_map binding_words es))
@@ -130,11 +130,11 @@ module _ {old out : List ℕ} {m : ℕ} {es : List Entry} (s x v k i : ℕ) (h :
 
   binding-again : i < m → m * 6 ≤ length out → Holds binding_words old (sets out (i * 6) (s ∷ x ∷ v ∷ k ∷ 1 ∷ get_or out (i * 6 + 2) 0 ∷ [])) m (put (bound s x v k) es)
   unfolding binding_words
-  binding-again l room = binding-placed m (some (get_or out (i * 6 + 2) 0)) (omega arith) (omega arith) (omega arith) (rw h.wrote (replaced-some es i old (omega (arith, h.count))))
+  binding-again l room = binding-placed m (Some (get_or out (i * 6 + 2) 0)) (omega arith) (omega arith) (omega arith) (rw h.wrote (replaced-some es i old (omega (arith, h.count))))
 
   binding-anew : i ≡ m → (m + 1) * 6 ≤ length out → Holds binding_words old (sets out (m * 6) (s ∷ x ∷ v ∷ k ∷ 0 ∷ 0 ∷ [])) (m + 1) (put (bound s x v k) es)
   unfolding binding_words
-  binding-anew e room = rw e at (binding-placed (m + 1) none (omega arith) (omega arith) (omega arith) (replaced-none es i (omega (arith, h.count))))
+  binding-anew e room = rw e at (binding-placed (m + 1) None (omega arith) (omega arith) (omega arith) (replaced-none es i (omega (arith, h.count))))
 
   no_room : i ≡ m → length out < (m + 1) * 6 → length (put (bound s x v k) es) * 6 ≤ length out → ⊥
   no_room e full room = omega (arith, h.count, length-put s x v k es)

@@ -1,7 +1,6 @@
 -- The lists as flat words, as the check call leaves them: the words of the entries, and then what was there.
-use Rattle.std.specs.Prelude.{ℕ, suc, length, drop}
+use Rattle.std.specs.Prelude.{ℕ, suc, length, drop, Option, None, Some}
 use mathlib.Core.List.{List, [], ◌∷◌, ◌++◌, flat_map}
-use Rattle.std.proofs.Math.Option.{Option, none, some}
 use Rattle.scope.specs.Graph.{Scope, scope, Entry, entry, Carried, carried}
 use Rattle.semantics.specs.Log.{Answer, found, missing, Write, write, Finding}
 use Rattle.finding.specs.Flat.{finding_words}
@@ -12,13 +11,13 @@ filled old ws = ws ++ drop (length ws) old
 
 -- "parent + 1 or 0"
 abbrev pub parent_word : Option ℕ → ℕ
-parent_word none = 0
-parent_word (some p) = suc p
+parent_word None = 0
+parent_word (Some p) = suc p
 
 -- "1 if it replaced one, the variable replaced or 0"
 abbrev pub replaced_words : Option ℕ → List ℕ
-replaced_words none = 0 ∷ 0 ∷ []
-replaced_words (some v) = 1 ∷ v ∷ []
+replaced_words None = 0 ∷ 0 ∷ []
+replaced_words (Some v) = 1 ∷ v ∷ []
 
 -- "1 found or 0 unresolved, variable, kind, via_projection; zeros where unresolved"
 abbrev pub answer_words : Answer → List ℕ

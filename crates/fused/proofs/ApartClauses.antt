@@ -1,11 +1,11 @@
 -- Clauses and arms: reading and both walks in one is reading, and then the two walks (`apart-clause`, `apart-arm`, and for rows of them
 -- `apart-clauses`, `apart-arms`). `projections-law` is for whatever is kept of projections (`taken-all`: what a WITH takes of them), `keys-law` for sort keys: a WITH's see what was
 -- visible before it (`with-step`), a RETURN's are hushed (`return-step`), which says nothing of kinds (`kinds-hush`).
+use Rattle.std.specs.Prelude.{Option}
 use Prim.Native.Nat.{ℕ, zero, suc}
 use mathlib.Core.Path.{◌≡◌, refl, ap, ap₂, sym, ◌∙◌}
 use mathlib.Core.Bool.{Bool, true, false, cond, ◌&&◌, ◌||◌, or_assoc, or-false}
 use mathlib.Core.List.{List, [], ◌∷◌, ◌++◌, flat_map, append_assoc, append-nil}
-use mathlib.Core.Option.{Option}
 use lib.Dec.{eqb}
 use Rattle.scope.specs.Graph.{unwind_scope, call_scope, return_scope}
 use Rattle.heads.specs.Got.{Got, ok, no, bind, word_in, any_word, flag, many, counted}

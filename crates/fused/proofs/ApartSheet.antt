@@ -1,9 +1,9 @@
 -- The head and the arms of a sheet: reading and both walks in one is reading, and then the two walks over what was read (`apart-sheet`).
 -- Cause 7 is the same question, for a variable has a row if it is one of the bindings' (`row_in`).
+use Rattle.std.specs.Prelude.{Some}
 use Prim.Native.Nat.{ℕ}
 use mathlib.Core.Path.{◌≡◌, refl, ap, sym, ◌∙◌, fun_ext}
 use mathlib.Core.Bool.{Bool, true, false, cond, ◌&&◌}
-use mathlib.Core.Option.{some}
 use mathlib.Core.List.{List, [], ◌∷◌, ◌++◌, map, flat_map}
 use lib.Dec.{eqb}
 use Rattle.heads.specs.Got.{Got, ok, no, bind, many}
@@ -34,7 +34,7 @@ unfolding row_of is_in row_id
 row_in v [] = refl
 row_in v (row i x k a b ∷ rs) = go (eqb v i) (row_in v rs)
   where
-    go : (q : Bool) → is_some (row_of v rs) ≡ is_in v (map row_id rs) → is_some (cond q (some (row i x k a b)) (row_of v rs)) ≡ cond q true (is_in v (map row_id rs))
+    go : (q : Bool) → is_some (row_of v rs) ≡ is_in v (map row_id rs) → is_some (cond q (Some (row i x k a b)) (row_of v rs)) ≡ cond q true (is_in v (map row_id rs))
     go true ih = refl
     go false ih = ih
 

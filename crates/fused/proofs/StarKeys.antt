@@ -1,11 +1,11 @@
 -- Sort keys, read and walked in one, where a list stands behind the visible one in which nothing more is found, all of it bound up to n: it
 -- makes no difference (`row-alike`). So the sort keys of a WITH with a star don't need the list before it (`star-sort`).
+use Rattle.std.specs.Prelude.{None}
 use Prim.Native.Nat.{ℕ, suc, ◌≤◌, ◌<◌}
 use native.Mathlib.Omega.{arith}
 use mathlib.Core.Path.{◌≡◌, refl, ap, sym, ◌∙◌}
 use mathlib.Core.Bool.{Bool, true, false, cond, true≢false}
 use mathlib.Core.List.{List, [], ◌∷◌, ◌++◌, reverse}
-use mathlib.Core.Option.{none}
 use Rattle.scope.specs.Graph.{root_scope, with_barrier, carried}
 use Rattle.heads.specs.Got.{ok, bind}
 use Rattle.heads.specs.Head.{Tables}
@@ -32,7 +32,7 @@ carry-last w (pair x v ∷ ps) s = carry-last w ps (say (carry (carried s.cur x 
 
 module _ (w : World) (t : Tables) (free : (v : ℕ) → t.known v ≡ true) where
   pub row-alike : (m : Mode) (v : Both) (B : List Seen) (n : ℕ) (r : List ℕ) → m.resolves ≡ true
-      → ((x : ℕ) → lookup x v.names.visible ≡ none → lookup x B ≡ none) → ((d x : ℕ) → n < d → binds d x B ≡ false) → n ≤ v.names.last
+      → ((x : ℕ) → lookup x v.names.visible ≡ None → lookup x B ≡ None) → ((d x : ℕ) → n < d → binds d x B ≡ false) → n ≤ v.names.last
       → bind (counted_row w t m (behind B v) r) (λ z r2. ok (left m v z) r2) ≡ bind (counted_row w t m v r) (λ z r2. ok (left m v z) r2)
   row-alike m v B n r e f g p =
       rw (← (counted-law w t free m (behind B v) r), ← (counted-law w t free m v r))
@@ -62,7 +62,7 @@ module _ (w : World) (t : Tables) (free : (v : ℕ) → t.known v ≡ true) wher
       mode : Bool → Mode
       mode c = record { resolves = c; checks = m.checks }
 
-      finds : (x : ℕ) → lookup x (bind_all w ps root).visible ≡ none → lookup x s.names.visible ≡ none
+      finds : (x : ℕ) → lookup x (bind_all w ps root).visible ≡ None → lookup x s.names.visible ≡ None
       finds x h = all_found s.names.visible q.pairs root.cur x (ap (λ (c : Bool). lookup x (seen_in root.cur (cond c (reverse (once s.names.visible)) [] ++ q.pairs) [])) (sym star) ∙ ap (lookup x) (sym (bound-seen w ps root)) ∙ h)
 
       last : n ≤ (bind_all w ps root).last

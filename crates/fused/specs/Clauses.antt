@@ -1,6 +1,5 @@
 -- Clauses and arms, read and walked in one.
-use Rattle.std.specs.Prelude.{ℕ, zero, suc, Bool, true, false, cond, ◌||◌, List, [], ◌∷◌, ◌++◌, reverse}
-use Rattle.std.proofs.Math.Option.{Option}
+use Rattle.std.specs.Prelude.{ℕ, zero, suc, Bool, true, false, cond, ◌||◌, List, [], ◌∷◌, ◌++◌, reverse, Option}
 use Rattle.scope.specs.Graph.{unwind_scope, call_scope, return_scope}
 use Rattle.heads.specs.Got.{Got, ok, no, bind, look, word_in, any_word, flag}
 use Rattle.heads.specs.Form.{read_form}

@@ -1,7 +1,6 @@
 -- Reading, resolving and checking kinds in one: what the words at a place make of where both walks stand, or the cause of a refusal. proofs/
 -- Apart has it that this is the definition's reading, and then its two walks over what was read.
-use Rattle.std.specs.Prelude.{ℕ, zero, suc, Bool, true, false, ◌&&◌, List, [], ◌∷◌}
-use Rattle.std.proofs.Math.Option.{Option, none, some}
+use Rattle.std.specs.Prelude.{ℕ, zero, suc, Bool, true, false, ◌&&◌, List, [], ◌∷◌, Option, None, Some}
 use Rattle.scope.specs.Graph.{comprehension_scope}
 use Rattle.heads.specs.Got.{Got, ok, no, bind, word_in, any_word}
 use Rattle.heads.specs.Form.{read_form, kids_of, items_of}
@@ -84,8 +83,8 @@ tail_of m (ListPredicate g) s t = t
 tail_of m (MapProjection n) s t = t
 
 abbrev pub is_some : {A : Type 0} → Option A → Bool
-is_some none = false
-is_some (some a) = true
+is_some None = false
+is_some (Some a) = true
 
 module _ (w : World) where
   abbrev pub has_row : ℕ → Bool

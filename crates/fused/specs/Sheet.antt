@@ -1,7 +1,6 @@
 -- The head and the arms of a whole sheet, read and walked in one. proofs/ApartSheet has it that this is the definition's reading, and then
 -- its two walks over the statement.
-use Rattle.std.specs.Prelude.{ℕ, true, List, [], ◌∷◌}
-use Rattle.std.proofs.Math.Option.{none}
+use Rattle.std.specs.Prelude.{ℕ, true, List, [], ◌∷◌, None}
 use Rattle.scope.specs.Graph.{root_scope, scope}
 use Rattle.sheet.specs.Trailer.{section}
 use Rattle.sheet.specs.Read.{Sheet, accepted, then', unless, used_up, any_binder}
@@ -19,7 +18,7 @@ every_walk = record { resolves = true; checks = true }
 abbrev pub begun : Places → Both
 begun p =
     record {
-      names = record { visible = []; cur = 0; last = 0; log = open' (scope root_scope none p.start p.end) ∷ [] };
+      names = record { visible = []; cur = 0; last = 0; log = open' (scope root_scope None p.start p.end) ∷ [] };
       kinds = [];
       known = true;
     }

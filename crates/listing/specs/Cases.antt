@@ -1,7 +1,6 @@
 -- Document 01's cases that are marked +, and its traps, and a sort key (CR 1), a star and an alias (CR 2) of document 02, one table: from bytes
 -- to use ids, refusals, lists and the listing.
-use Rattle.std.specs.Prelude.{ℕ, ◌≡◌, refl, true, false, List, [], ◌∷◌, map, replicate}
-use Rattle.std.proofs.Math.Option.{Option, none, some}
+use Rattle.std.specs.Prelude.{ℕ, ◌≡◌, refl, true, false, List, [], ◌∷◌, map, replicate, Option, None, Some}
 use Rattle.words.specs.Words.{words}
 use Rattle.words.specs.Fnv.{use_id, fnv1_of, fnv_from, fnv_step}
 use Rattle.words.specs.Decimal.{low_digits, width_within, width as decimal_width, decimal}
@@ -200,7 +199,7 @@ computed =
 abbrev pub cases : List Case
 cases =
     -- 40 zero bytes are accepted; 36, 42 and 8,196 bytes are not
-    case (replicate 40 0) its_scopes (scope_list (scope 1 none 0 0 ∷ []))
+    case (replicate 40 0) its_scopes (scope_list (scope 1 None 0 0 ∷ []))
     ∷ case (replicate 40 0) its_listing (text (bytes "findings 0\n"))
     ∷ case (replicate 36 0) its_findings (turned_back 1)
     ∷ case (replicate 42 0) its_findings (turned_back 1)
@@ -210,9 +209,9 @@ cases =
     ∷ case (bytes "a") its_use_id (use_ids 0xFAF3A281)
     ∷ case (bytes "*") its_use_id (use_ids 0xFAF3A2CA)
     -- `MATCH (a) WITH a RETURN b`
-    ∷ case (bytes_of example) its_scopes (scope_list (scope 1 none 0 25 ∷ scope 2 (some 0) 0 9 ∷ scope 7 (some 1) 10 16 ∷ scope 1 (some 2) 16 16 ∷ scope 8 (some 3) 17 25 ∷ []))
-    ∷ case (bytes_of example) (scope_at 16) (in_scope (some 2))
-    ∷ case (bytes_of example) (scope_at 26) (in_scope none)
+    ∷ case (bytes_of example) its_scopes (scope_list (scope 1 None 0 25 ∷ scope 2 (Some 0) 0 9 ∷ scope 7 (Some 1) 10 16 ∷ scope 1 (Some 2) 16 16 ∷ scope 8 (Some 3) 17 25 ∷ []))
+    ∷ case (bytes_of example) (scope_at 16) (in_scope (Some 2))
+    ∷ case (bytes_of example) (scope_at 26) (in_scope None)
     -- from the barrier, which carries `a` and lets it through
     ∷ case (bytes_of example) (looks_up 2 0) (looked (at 1))
     ∷ case (bytes_of example) its_findings (finds (finding 1001 0 0 2 0 0 ∷ []))
@@ -222,10 +221,10 @@ cases =
     ∷ case (bytes_of yields) its_listing (text (bytes "findings 1\nE1002 0 19 variable `t` shadows an earlier binding\n"))
     ∷ case (bytes_of yields) its_findings_quietly (finds [])
     -- Root and Call have one span
-    ∷ case (bytes_of yields) (scope_at 5) (in_scope (some 1))
+    ∷ case (bytes_of yields) (scope_at 5) (in_scope (Some 1))
     ∷ case (bytes_of unwinds) its_listing (text (bytes "findings 0\n"))
     -- `WITH a AS t, b AS t`
-    ∷ case (bytes_of replaces) its_bindings (binding_list (entry 1 0 0 1 none ∷ entry 1 1 1 1 none ∷ entry 3 2 1 1 (some 0) ∷ []))
+    ∷ case (bytes_of replaces) its_bindings (binding_list (entry 1 0 0 1 None ∷ entry 1 1 1 1 None ∷ entry 3 2 1 1 (Some 0) ∷ []))
     ∷ case (bytes_of replaces) its_carried (carries (carried 2 2 0 ∷ carried 2 2 1 ∷ []))
     -- from the new Root `t` is there, and the barrier stops `a`
     ∷ case (bytes_of replaces) (looks_up 3 2) (looked (at 1))
@@ -235,10 +234,10 @@ cases =
     ∷ case (bytes_of path_other) its_findings (finds (finding 2007 0 0 1 2 3 ∷ []))
     ∷ case (bytes_of path_other) its_listing (text (bytes "findings 1\nE2007 0 0 variable `p` has kind `Path` and does not support property access; use `nodes()` or `relationships()` to extract graph elements first\n"))
     -- Create's and Merge's scopes; a comprehension in Return looks from outside it
-    ∷ case (bytes_of traps) its_scopes (scope_list (scope 1 none 0 99 ∷ scope 2 (some 0) 0 13 ∷ scope 7 (some 1) 14 40 ∷ scope 1 (some 2) 40 40 ∷ scope 3 (some 3) 41 50 ∷ scope 4 (some 4) 51 60 ∷ scope 8 (some 5) 61 99 ∷ scope 9 (some 5) 70 80 ∷ []))
+    ∷ case (bytes_of traps) its_scopes (scope_list (scope 1 None 0 99 ∷ scope 2 (Some 0) 0 13 ∷ scope 7 (Some 1) 14 40 ∷ scope 1 (Some 2) 40 40 ∷ scope 3 (Some 3) 41 50 ∷ scope 4 (Some 4) 51 60 ∷ scope 8 (Some 5) 61 99 ∷ scope 9 (Some 5) 70 80 ∷ []))
     -- an aliased name is carried too; a binding that replaces another takes its own kind
     ∷ case (bytes_of traps) its_carried (carries (carried 2 2 0 ∷ carried 2 2 1 ∷ carried 2 3 1 ∷ []))
-    ∷ case (bytes_of traps) its_bindings (binding_list (entry 1 0 0 3 none ∷ entry 1 1 1 1 none ∷ entry 3 2 1 1 (some 0) ∷ entry 3 3 1 1 none ∷ entry 4 4 2 1 none ∷ entry 5 5 3 1 none ∷ entry 7 6 4 1 none ∷ []))
+    ∷ case (bytes_of traps) its_bindings (binding_list (entry 1 0 0 3 None ∷ entry 1 1 1 1 None ∷ entry 3 2 1 1 (Some 0) ∷ entry 3 3 1 1 None ∷ entry 4 4 2 1 None ∷ entry 5 5 3 1 None ∷ entry 7 6 4 1 None ∷ []))
     -- of the operators `^`, `<` and `>=` are arithmetic, `=`, `<>` and `AND` are not
     ∷ case (bytes_of traps) its_findings (finds (finding 2007 0 0 2 1 1 ∷ finding 2007 0 0 2 1 1 ∷ finding 2007 0 0 2 1 1 ∷ []))
     -- every message
@@ -248,7 +247,7 @@ cases =
     ∷ case (bytes_of sort_key) its_listing (text (bytes "findings 1\nE1001 0 0 unresolved variable `b`\n"))
     -- a star carries `b`, then `a` with its newest variable; both are found after it
     ∷ case (bytes_of star) its_carried (carries (carried 3 1 1 ∷ carried 3 0 2 ∷ []))
-    ∷ case (bytes_of star) its_bindings (binding_list (entry 1 0 0 1 none ∷ entry 1 1 1 1 none ∷ entry 2 0 2 4 none ∷ entry 4 1 1 1 none ∷ entry 4 0 2 4 none ∷ []))
+    ∷ case (bytes_of star) its_bindings (binding_list (entry 1 0 0 1 None ∷ entry 1 1 1 1 None ∷ entry 2 0 2 4 None ∷ entry 4 1 1 1 None ∷ entry 4 0 2 4 None ∷ []))
     ∷ case (bytes_of star) its_listing (text (bytes "findings 0\n"))
     -- the alias of a computed expression has its use id as its variable
     ∷ case (bytes_of computed) its_carried (carries (carried 2 2 0xFAF3A299 ∷ []))

@@ -1,10 +1,10 @@
 -- What an event gives each list: one entry, or nothing where it is of another sort.
+use Rattle.std.specs.Prelude.{Option, None, Some}
 use Prim.Native.Nat.{ℕ, zero, suc, ◌+◌, ◌*◌, ◌≤◌}
 use native.Mathlib.Omega.{arith}
 use mathlib.Core.Path.{◌≡◌, refl}
 use mathlib.Core.Bool.{Bool}
 use mathlib.Core.List.{List, [], ◌∷◌}
-use mathlib.Core.Option.{Option, none, some}
 use borrow.Author.Tests.{ne_eqb}
 use lib.ListN.{length}
 use lib.Seq.{sets}
@@ -37,7 +37,7 @@ module _ (id : ℕ → ℕ) where
   no-scope (Name x f) h = refl
   no-scope (Finding f) h = refl
 
-  pub no-barrier : (e : Logged) → ((k p a b : ℕ) → e ≡ Scope k p a b → ⊥) → barrier_in (said id e) ≡ none
+  pub no-barrier : (e : Logged) → ((k p a b : ℕ) → e ≡ Scope k p a b → ⊥) → barrier_in (said id e) ≡ None
   unfolding barrier_in
   no-barrier (Scope k p a b) h = absurd (h k p a b refl)
   no-barrier (Binding again b) h = refl
@@ -89,18 +89,18 @@ module _ (out : List ℕ) (m : ℕ) where
 
 -- the barrier above a scope, where it is a Root
 module _ (id : ℕ → ℕ) (k p a b : ℕ) where
-  pub not-root : (k ≡ 1 → ⊥) → barrier_in (said id (Scope k p a b)) ≡ none
+  pub not-root : (k ≡ 1 → ⊥) → barrier_in (said id (Scope k p a b)) ≡ None
   unfolding barrier_in
   not-root h = go (parent_of p)
     where
-      go : (o : Option ℕ) → barrier_of (scope k o a b) ≡ none
-      go none = refl
-      go (some p) = rw (ne_eqb k 1 h)
+      go : (o : Option ℕ) → barrier_of (scope k o a b) ≡ None
+      go None = refl
+      go (Some p) = rw (ne_eqb k 1 h)
 
   pub root : k ≡ 1 → barrier_in (said id (Scope k p a b)) ≡ parent_of p
   unfolding barrier_in
   root h = rw h (go (parent_of p))
     where
       go : (o : Option ℕ) → barrier_of (scope 1 o a b) ≡ o
-      go none = refl
-      go (some p) = refl
+      go None = refl
+      go (Some p) = refl

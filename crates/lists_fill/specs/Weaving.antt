@@ -1,6 +1,5 @@
 -- The bindings, woven out of the events and the carried list: what the code asks and leaves, an event at a time.
-use Rattle.std.specs.Prelude.{ℕ, ◌-◌, ◌*◌, ◌≤◌, ◌≡◌, List, [], ◌++◌, length, drop}
-use Rattle.std.proofs.Math.Option.{Option, none}
+use Rattle.std.specs.Prelude.{ℕ, ◌-◌, ◌*◌, ◌≤◌, ◌≡◌, List, [], ◌++◌, length, drop, Option, None}
 use Rattle.scope.specs.Flat.{parent_of, carrieds_of}
 use Rattle.scope.specs.Graph.{Entry}
 use Rattle.scope.specs.Graph as graph
@@ -30,10 +29,10 @@ carried_from taken l c = carrieds_of (taken - c) (drop (c * 3) l)
 -- the barrier above a Root that an event opens
 unfoldable pub barrier_in : Event → Option ℕ
 barrier_in (open' s) = barrier_of s
-barrier_in (bind o g b) = none
-barrier_in (carry c) = none
-barrier_in (answer a) = none
-barrier_in (find f) = none
+barrier_in (bind o g b) = None
+barrier_in (carry c) = None
+barrier_in (answer a) = None
+barrier_in (find f) = None
 
 -- what is asked of a carried list and its sheet's tables
 pub record Fine (w : Carried) : Type 0 where

@@ -3,13 +3,13 @@
 -- `adds_none`, `adds-star`; what that is: `Gives`, `var-aliased`, `var-named`, `var-none`, `name-carried`, `name-missing`, `name-all`, by
 -- `looked` and `unlooked`; the name of its pair: `under-alias`, `under-named`). The alias of any other expression: `kept-none`, `kept-alias`.
 -- The use of a Var or a name: `plain-said`, `plain-none`, `plain_quiet`, `name-found`.
+use Rattle.std.specs.Prelude.{Option, None, Some}
 use Prim.Native.Nat.{ℕ, zero, suc, ◌+◌, ◌-◌, ◌*◌, ◌<◌, ◌≤◌}
 use native.Mathlib.Omega.{arith}
 use native.Mathlib.Numerals.{add-one}
 use mathlib.Core.Path.{◌≡◌, refl, ap, sym, ◌∙◌}
 use mathlib.Core.Bool.{Bool, true, false, not, ◌||◌, or-true, or-false}
 use mathlib.Core.List.{List, [], ◌∷◌, ◌++◌, append-nil}
-use mathlib.Core.Option.{Option, none, some}
 use lib.Dec.{eqb}
 use lib.ListN.{length, get_or, set, length-set}
 use borrow.Author.Tests.{eq-eqb, ne_eqb}
@@ -208,64 +208,64 @@ module _ (w : World) (vis : List Seen) (v : ℕ) where
   var-named alias {x} e q = rw e (record { all = refl; pairs = go (w.row v) q })
     where
       go : (o : Option Row) {k : ℕ} → row'.Is x k ≡ shown o → if_row o v ≡ pair x v ∷ []
-      go none q = cc
-      go (some (row i y l a b)) q = let z : x ≡ y = cc in rw z
+      go None q = cc
+      go (Some (row i y l a b)) q = let z : x ≡ y = cc in rw z
 
   pub var-none : (alias : ℕ) → alias ≡ 0 → row'.No ≡ shown (w.row v) → Gives w alias (a_var v) vis false []
   unfolding carries is_all if_row
   var-none alias e q = rw e (record { all = refl; pairs = go (w.row v) q })
     where
       go : (o : Option Row) → row'.No ≡ shown o → if_row o v ≡ []
-      go none q = refl
-      go (some (row i y l a b)) q = cc
+      go None q = refl
+      go (Some (row i y l a b)) q = cc
 
 -- ---- a name
 use-visible : (w : World) (x : ℕ) (o : Option ℕ) (s : State) → (use_name w x o s).visible ≡ s.visible
 unfolding use_name say_if
-use-visible w x none s = go (not (w.is_star x))
+use-visible w x None s = go (not (w.is_star x))
   where
     go : (b : Bool) → (say_if b (find (finding 1001 0 0 (suc x) 0 0)) (say (answer' (write (w.id x) missing)) s)).visible ≡ s.visible
     go true = refl
     go false = refl
-use-visible w x (some v) s = refl
+use-visible w x (Some v) s = refl
 
 visit-visible : (w : World) (b : Bool) (x : ℕ) (o : Option ℕ) (s : State) → (visit w b x o s).visible ≡ s.visible
 unfolding visit
 visit-visible w true x o s = refl
 visit-visible w false x o s = use-visible w x o s
 
-pub looked : {r : Found} {v c : ℕ} (o : Option ℕ) (p : ℕ) → r ≡ answer o p → r ≡ found'.Is v c → o ≡ some v
-looked none p e q = cc
-looked (some u) p e q = cc
+pub looked : {r : Found} {v c : ℕ} (o : Option ℕ) (p : ℕ) → r ≡ answer o p → r ≡ found'.Is v c → o ≡ Some v
+looked None p e q = cc
+looked (Some u) p e q = cc
 
-pub unlooked : {r : Found} (o : Option ℕ) (p : ℕ) → r ≡ answer o p → r ≡ found'.No → o ≡ none
-unlooked none p e q = refl
-unlooked (some u) p e q = cc
+pub unlooked : {r : Found} (o : Option ℕ) (p : ℕ) → r ≡ answer o p → r ≡ found'.No → o ≡ None
+unlooked None p e q = refl
+unlooked (Some u) p e q = cc
 
 module _ (ws : List ℕ) {tab m vis found : List ℕ} (x : ℕ) where
-  module _ {v : ℕ} (q : lookup x (seens (slots_in tab) (top_of m) vis) ≡ some v) where
+  module _ {v : ℕ} (q : lookup x (seens (slots_in tab) (top_of m) vis) ≡ Some v) where
     pub name-found : {m1 found1 : List ℕ} → hushed_in tab x ≡ false → Steps 1 ws tab m vis found m1 vis found1 (λ id. on_names (λ y. name_record (world_at ws tab id) x (lookup x y.visible) y)) → Steps 1 ws tab m vis found m1 vis found1 (λ id. on_names (name_use (world_at ws tab id) x))
     unfolding use_name visit
-    name-found e s = instead _ s (λ id t h. let z : lookup x t.names.visible ≡ some v = ap (λ l. lookup x l) (sym h.visible) ∙ q in rw (z, e))
+    name-found e s = instead _ s (λ id t h. let z : lookup x t.names.visible ≡ Some v = ap (λ l. lookup x l) (sym h.visible) ∙ q in rw (z, e))
 
     pub name-carried : (alias : ℕ) → NoStar tab alias x → Given ws tab m vis found (λ id. on_names (name_use (world_at ws tab id) x)) alias (a_name x) false (pair (under (alias_of alias) x) v ∷ [])
     unfolding carries is_all if_some
     name-carried zero e id s h =
-        let z : lookup x s.names.visible ≡ some v = ap (λ l. lookup x l) (sym h.visible) ∙ q in
+        let z : lookup x s.names.visible ≡ Some v = ap (λ l. lookup x l) (sym h.visible) ∙ q in
         let n : eqb (suc x) (star_in tab) ≡ false = ne_eqb (suc x) (star_in tab) (e refl) in
         record { all = n; pairs = rw (n, visit-visible (world_at ws tab id) (hushed_in tab x) x (lookup x s.names.visible) s.names, z) }
     name-carried (suc a) e id s h =
-        let z : lookup x s.names.visible ≡ some v = ap (λ l. lookup x l) (sym h.visible) ∙ q in
+        let z : lookup x s.names.visible ≡ Some v = ap (λ l. lookup x l) (sym h.visible) ∙ q in
         record { all = refl; pairs = rw (visit-visible (world_at ws tab id) (hushed_in tab x) x (lookup x s.names.visible) s.names, z) }
 
-  pub name-missing : (alias : ℕ) → NoStar tab alias x → lookup x (seens (slots_in tab) (top_of m) vis) ≡ none → Given ws tab m vis found (λ id. on_names (name_use (world_at ws tab id) x)) alias (a_name x) false []
+  pub name-missing : (alias : ℕ) → NoStar tab alias x → lookup x (seens (slots_in tab) (top_of m) vis) ≡ None → Given ws tab m vis found (λ id. on_names (name_use (world_at ws tab id) x)) alias (a_name x) false []
   unfolding carries is_all if_some
   name-missing zero e q id s h =
-      let z : lookup x s.names.visible ≡ none = ap (λ l. lookup x l) (sym h.visible) ∙ q in
+      let z : lookup x s.names.visible ≡ None = ap (λ l. lookup x l) (sym h.visible) ∙ q in
       let n : eqb (suc x) (star_in tab) ≡ false = ne_eqb (suc x) (star_in tab) (e refl) in
       record { all = n; pairs = rw (n, visit-visible (world_at ws tab id) (hushed_in tab x) x (lookup x s.names.visible) s.names, z) }
   name-missing (suc a) e q id s h =
-      let z : lookup x s.names.visible ≡ none = ap (λ l. lookup x l) (sym h.visible) ∙ q in
+      let z : lookup x s.names.visible ≡ None = ap (λ l. lookup x l) (sym h.visible) ∙ q in
       record { all = refl; pairs = rw (visit-visible (world_at ws tab id) (hushed_in tab x) x (lookup x s.names.visible) s.names, z) }
 
   pub name-all : (alias : ℕ) → alias ≡ 0 → x + 1 ≡ star_in tab → Given ws tab m vis found (λ id. on_names (name_use (world_at ws tab id) x)) alias (a_name x) true []
@@ -301,8 +301,8 @@ module _ {ws tab m vis found : List ℕ} (v : ℕ) where
   plain-said {x = x} {k} size e q p = as-steps _ (says-step size p (λ id l. wanted _ (eq-eqb (get_or tab 9 0) 1 e) (λ r. refl) l) (λ id. no-count (λ n. refl) (λ n. refl))) (λ id s. go id s ((world_at ws tab (λ x. x)).row v) q)
     where
       go : (id : ℕ → ℕ) (s : Both) (o : Option Row) → row'.Is x k ≡ shown o → on_names (say (event_of id 4 v k 0 0 0)) s ≡ on_names (use_var (world_at ws tab id) v o) s
-      go id s none q = cc
-      go id s (some (row i y l a b)) q = let z : k ≡ l = cc in rw z
+      go id s None q = cc
+      go id s (Some (row i y l a b)) q = let z : k ≡ l = cc in rw z
 
   pub plain-none : {j : ℕ} → row'.No ≡ shown ((world_at ws tab (λ x. x)).row v) → Steps j ws tab m vis found m vis found (λ id. on_names (use_var (world_at ws tab id) v ((world_at ws tab id).row v)))
   plain-none q = rowless-use 64 v ((world_at ws tab (λ x. x)).row v) (sym q)

@@ -2,13 +2,13 @@
 -- `name-paid`) and what it adds (`form-ready`, `form-holding`, `direct-passes`), any other expression is walked, and its alias is held
 -- (`other-asks`, `other-passes`, `other-refused`), no head is refused (`form-refused`). The alias comes first (`alias-passes`,
 -- `alias-refused`). A loop of them is a walk of which projections are left (`begun`, `turn`, `fall`, `over`, `goes_in`).
+use Rattle.std.specs.Prelude.{Option, None, Some}
 use Prim.Native.Nat.{ℕ, zero, suc, ◌+◌, ◌-◌, ◌<◌, ◌≤◌}
 use native.Mathlib.Omega.{arith}
 use native.Mathlib.Numerals.{add-one}
 use mathlib.Core.Path.{◌≡◌, refl, ap, sym, ◌∙◌}
 use mathlib.Core.Bool.{true, or-false}
 use mathlib.Core.List.{List, [], append-nil}
-use mathlib.Core.Option.{Option, none, some}
 use lib.Dec.{eqb}
 use lib.ListN.{length, set, drop}
 use Rattle.heads.specs.Got.{Got, ok, no, bind, word_in}
@@ -42,8 +42,8 @@ use Rattle.projection_walk.proofs.Chained.{as-passes, word-passes, word-refused}
 -- ---- the two forms of an expression that may be carried are their use
 general_row : (o : Option Row) → at_row general o ≡ []
 unfolding at_row
-general_row none = refl
-general_row (some (row i x k a b)) = refl
+general_row None = refl
+general_row (Some (row i x k a b)) = refl
 
 module _ (w : World) (t : Tables) (m : Mode) (s : Both) (r : List ℕ) {r2 : List ℕ} (live : m.resolves ≡ true) where
   var-at : (d : ℕ) {v : ℕ} → read_form t.names r ≡ ok (Var v) r2 → expr_go w t (suc d) m general s r ≡ ok (on_names (use_var w v (w.row v)) s) r2

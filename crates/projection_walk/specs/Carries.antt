@@ -1,6 +1,5 @@
 -- What the walk over the projections and the filter of a WITH asks and leaves: the pairs that they carry are held, and whether one is a star.
-use Rattle.std.specs.Prelude.{ℕ, zero, suc, ◌+◌, ◌*◌, ◌<◌, ◌≤◌, ◌≡◌, false, List, [], ◌∷◌, ◌++◌, eqb, length, get_or, set, drop}
-use Rattle.std.proofs.Math.Option.{Option, none, some}
+use Rattle.std.specs.Prelude.{ℕ, zero, suc, ◌+◌, ◌*◌, ◌<◌, ◌≤◌, ◌≡◌, false, List, [], ◌∷◌, ◌++◌, eqb, length, get_or, set, drop, Option, None, Some}
 use Rattle.heads.specs.Got.{Got, ok, no, bind, any_word, flag}
 use Rattle.heads.specs.Form.{read_form}
 use Rattle.heads.specs.declared.Form.{Form}
@@ -100,8 +99,8 @@ pub record Adds (ws tab m vis found held m' vis' found' held' : List ℕ) (F : (
 
 -- a name under its alias, or else its own; whose place is in range
 abbrev pub under : Option ℕ → ℕ → ℕ
-under none x = x
-under (some y) x = y
+under None x = x
+under (Some y) x = y
 
 abbrev pub Named : List ℕ → (alias x : ℕ) → Type 0
 Named tab alias x = (alias ≤ slots_in tab) × (x < slots_in tab)
@@ -119,8 +118,8 @@ pub record KeepsOther (tab m held : List ℕ) (alias : ℕ) : Type 0 where
   pub room : (held_of m + 1) * 2 ≤ length held
 
 abbrev pub KeptAs : Option ℕ → (tab m held m' held' : List ℕ) → Type 0
-KeptAs none tab m held m' held' = (m' ≡ m) × (held' ≡ held)
-KeptAs (some x) tab m held m' held' = Kept x (use_in tab x) m held m' held'
+KeptAs None tab m held m' held' = (m' ≡ m) × (held' ≡ held)
+KeptAs (Some x) tab m held m' held' = Kept x (use_in tab x) m held m' held'
 
 pub record KeptOther (tab : List ℕ) (alias : ℕ) (m held m' held' : List ℕ) : Type 0 where
   pub kept : KeptAs (alias_of alias) tab m held m' held'

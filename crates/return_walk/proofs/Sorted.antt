@@ -1,12 +1,12 @@
 -- Projections of a RETURN whose aliases are held (`Sorting`: k of them, and `left` projections are left), and then its sort keys. It begins
 -- with none held (`begun`); a turn reads an alias (`alias-stage`, `expr-ready`, `hold-asks`), holds it and walks an expression (`turned`,
 -- `fell-expr`), or the alias is refused (`no-alias`); at the end the sort keys are left (`ended`, `keys-ask`).
+use Rattle.std.specs.Prelude.{Some}
 use Prim.Native.Nat.{ℕ, suc, ◌+◌, ◌-◌, ◌*◌, ◌/◌, ◌<◌, ◌≤◌}
 use native.Mathlib.Omega.{arith}
 use native.Mathlib.Numerals.{add-one}
 use mathlib.Core.Path.{◌≡◌, refl, ap, ◌∙◌}
 use mathlib.Core.List.{List, [], ◌++◌}
-use mathlib.Core.Option.{some}
 use lib.ListN.{length}
 use Rattle.heads.specs.Got.{Got, ok, no, bind, word_in}
 use Rattle.heads.specs.declared.Word.{Word}
@@ -63,7 +63,7 @@ module _ (ws tab : List ℕ) (mode : ℕ) where
       alias (no c) = refl
 
 pub record Sorting (ws tab m₀ vis₀ found₀ held₀ : List ℕ) (mode n : ℕ) (m vis found held : List ℕ) (k left : ℕ) : Type 0 where
-  pub stage : Stage (some 48) 0 ws tab m₀ vis₀ found₀ (keyed_at ws tab mode n) 0 m vis found (Remaining ws tab mode left (aliases_in k held))
+  pub stage : Stage (Some 48) 0 ws tab m₀ vis₀ found₀ (keyed_at ws tab mode n) 0 m vis found (Remaining ws tab mode left (aliases_in k held))
   pub few : k ≤ at_of m
   pub named : AllNamed (slots_in tab) k held
   pub kept : length held ≡ length held₀
@@ -74,11 +74,11 @@ begun {ws} {tab} {mode = mode} n h =
     record { stage = start (Remaining ws tab mode n []) h (λ id s r. refl); few = omega arith; named = record { named = λ j l. absurd (omega arith) }; kept = refl }
 
 module _ {ws tab m₀ vis₀ found₀ held₀ : List ℕ} {mode n : ℕ} {m vis found held : List ℕ} {k left : ℕ} (o : Sorting ws tab m₀ vis₀ found₀ held₀ mode n m vis found held k left) where
-  unrolled : 0 < left → Stage (some 48) 0 ws tab m₀ vis₀ found₀ (keyed_at ws tab mode n) 0 m vis found (OneMore ws tab mode (left - 1) (aliases_in k held))
+  unrolled : 0 < left → Stage (Some 48) 0 ws tab m₀ vis₀ found₀ (keyed_at ws tab mode n) 0 m vis found (OneMore ws tab mode (left - 1) (aliases_in k held))
   unrolled h = recast (OneMore ws tab mode (left - 1) (aliases_in k held)) o.stage (λ id s t r. unroll ws tab mode left (aliases_in k held) id s t r h)
 
   -- none is left: the sort keys are
-  pub ended : left ≤ 0 → Stage (some 48) 0 ws tab m₀ vis₀ found₀ (keyed_at ws tab mode n) 0 m vis found (λ id s t. last (hushed_at ws tab mode (aliases_in k held) id t))
+  pub ended : left ≤ 0 → Stage (Some 48) 0 ws tab m₀ vis₀ found₀ (keyed_at ws tab mode n) 0 m vis found (λ id s t. last (hushed_at ws tab mode (aliases_in k held) id t))
   unfolding projections_go
   ended h =
       let z : left ≡ 0 = omega arith in
@@ -94,7 +94,7 @@ module _ {ws tab m₀ vis₀ found₀ held₀ : List ℕ} {mode n : ℕ} {m vis 
     no-alias q = rw (stays x q) (refused 5 (λ e. omega arith) (unrolled h) (stopped (unrolled h) x q))
 
     module _ {a : ℕ} (q : w ≡ word.Is a) where
-      pub alias-stage : Stage (some 48) 0 ws tab m₀ vis₀ found₀ (keyed_at ws tab mode n) 1 m1 vis found
+      pub alias-stage : Stage (Some 48) 0 ws tab m₀ vis₀ found₀ (keyed_at ws tab mode n) 1 m1 vis found
           (λ id s t. step (within (world_at ws tab id) (tables_in tab) (mode_of mode) general t) (λ u. Remaining ws tab mode (left - 1) (aliases_in k held ++ alias_in (alias_of a)) id s u))
       alias-stage = past (unrolled h) x q
 

@@ -1,12 +1,12 @@
 -- The row that is found is the one that the definition's table has: `row-found`. The table is what the words read as, and with distinct
 -- variables the newest row of a variable is the first.
+use Rattle.std.specs.Prelude.{None, Some}
 use Prim.Native.Nat.{ℕ, zero, suc, ◌+◌, ◌*◌, ◌<◌, ◌≤◌}
 use native.Mathlib.Omega.{arith}
 use mathlib.Core.Path.{◌≡◌, refl, ap, sym, ◌∙◌}
 use mathlib.Core.Logic.{◌≢◌}
 use mathlib.Core.Bool.{true}
 use mathlib.Core.List.{List, [], ◌∷◌, ◌++◌, flat_map}
-use mathlib.Core.Option.{none, some}
 use lib.ListN.{length, take, drop, get_or, length-drop, length-take}
 use lib.Seq.{get_or-drop, get_or-take}
 use borrow.Author.Tests.{eq-eqb, ne_eqb}
@@ -29,7 +29,7 @@ rows_at ws p zero = []
 rows_at ws p (suc n) = row_at ws p ∷ rows_at ws (p + 5) n
 
 -- where no row has the variable, and where one has it and none before
-absent : (ws : List ℕ) (p n v : ℕ) → ((j : ℕ) → j < n → get_or ws (p + j * 5) 0 ≢ v) → row_of v (rows_at ws p n) ≡ none
+absent : (ws : List ℕ) (p n v : ℕ) → ((j : ℕ) → j < n → get_or ws (p + j * 5) 0 ≢ v) → row_of v (rows_at ws p n) ≡ None
 unfolding rows_at row_of
 absent ws p zero v k = refl
 absent ws p (suc n) v k =
@@ -37,7 +37,7 @@ absent ws p (suc n) v k =
     rw (ne_eqb v (get_or ws p 0) (λ q. (rw z at (k 0 (omega arith))) (sym q)))
     (absent ws (p + 5) n v (λ j l. let y : p + suc j * 5 ≡ p + 5 + j * 5 = omega arith in rw y at (k (suc j) (omega arith))))
 
-first : (ws : List ℕ) (p n v j : ℕ) → j < n → get_or ws (p + j * 5) 0 ≡ v → ((i : ℕ) → i < j → get_or ws (p + i * 5) 0 ≢ v) → row_of v (rows_at ws p n) ≡ some (row_at ws (p + j * 5))
+first : (ws : List ℕ) (p n v j : ℕ) → j < n → get_or ws (p + j * 5) 0 ≡ v → ((i : ℕ) → i < j → get_or ws (p + i * 5) 0 ≢ v) → row_of v (rows_at ws p n) ≡ Some (row_at ws (p + j * 5))
 unfolding rows_at row_of
 first ws p zero v j h e k = absurd (omega arith)
 first ws p (suc n) v zero h e k =

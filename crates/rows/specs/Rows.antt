@@ -1,7 +1,6 @@
 -- A variable sought among the rows of the binding table, newest first, and the chains that find it.
-use Rattle.std.specs.Prelude.{ℕ, zero, suc, ◌+◌, ◌*◌, ◌<◌, ◌≤◌, ◌≡◌, Bool, true, cond, List, eqb, length, get_or, drop, None, Some}
+use Rattle.std.specs.Prelude.{ℕ, zero, suc, ◌+◌, ◌*◌, ◌<◌, ◌≤◌, ◌≡◌, Bool, true, cond, List, eqb, length, get_or, drop, None, Some, Option}
 use Rattle.std.specs.Prelude as code
-use Rattle.std.proofs.Math.Option.{Option, none, some}
 use Rattle.heads.specs.Answer.{row_ids, is_in}
 use Rattle.tables.specs.Distinct.{distinct}
 use Rattle.tables.specs.Row.{Row, row}
@@ -26,8 +25,8 @@ abbrev pub row_at : List ℕ → ℕ → Row
 row_at ws p = row (get_or ws p 0) (get_or ws (p + 1) 0) (get_or ws (p + 2) 0) (get_or ws (p + 3) 0) (get_or ws (p + 4) 0)
 
 abbrev pub row_told : List ℕ → ℕ → ℕ → Option Row
-row_told ws rows zero = none
-row_told ws rows (suc j) = some (row_at ws (rows + j * 5))
+row_told ws rows zero = None
+row_told ws rows (suc j) = Some (row_at ws (rows + j * 5))
 
 -- the words hold the chains of the first n keys, over m slots that g gives
 abbrev pub keyed : (ℕ → ℕ) → (ℕ → ℕ) → ℕ → ℕ

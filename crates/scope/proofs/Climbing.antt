@@ -1,6 +1,6 @@
 -- Lookup one scope at a time: as each parent lies below its child, more steps than the scope's number change nothing.
+use Rattle.std.specs.Prelude.{Option, None, Some}
 use Rattle.std.proofs.Common.{◌≡◌, ℕ, zero, suc, ◌-◌, ◌<◌, Bool, true, false, List, [], ◌∷◌, length, get_or, map, refl, ap, arith}
-use Rattle.std.proofs.Math.Option.{Option, none, some}
 use Rattle.std.proofs.lemmas.Bool.Decides.{nat_tests}
 use Rattle.scope.specs.Answer.{scopes_in, bindings_in, carried_in}
 use Rattle.scope.specs.Flat.{parent_of, scope_of}
@@ -8,17 +8,17 @@ use Rattle.scope.specs.Graph.{Scope, Entry, Carried}
 use Rattle.scope.specs.Lookup.{Looked, bound_in, carries, lets_on, kind_at, parent_at, passes, answer_at, climb}
 use Rattle.scope.specs.declared.Graph.{Graph}
 
-pub parent-of : (w : ℕ) → (w ≡ 0 → ⊥) → parent_of w ≡ some (w - 1)
+pub parent-of : (w : ℕ) → (w ≡ 0 → ⊥) → parent_of w ≡ Some (w - 1)
 parent-of zero h = absurd (h refl)
-parent-of (suc w) h = ap some (omega arith)
+parent-of (suc w) h = ap Some (omega arith)
 
 -- what a scope answers depends on what the scopes below it answer, and on no others
 same-below : (s : ℕ) (b : Option ℕ) (goes_on : Bool) (p : Option ℕ) (f g : ℕ → Looked) → ((q : ℕ) → q < s → f q ≡ g q) → answer_at s b goes_on p f ≡ answer_at s b goes_on p g
 unfolding answer_at
-same-below s (some v) goes_on p f g h = refl
-same-below s none false p f g h = refl
-same-below s none true none f g h = refl
-same-below s none true (some p) f g h = grind (arith, nat_tests, h p)
+same-below s (Some v) goes_on p f g h = refl
+same-below s None false p f g h = refl
+same-below s None true None f g h = refl
+same-below s None true (Some p) f g h = grind (arith, nat_tests, h p)
 
 module _ (scopes : List Scope) (bindings : List Entry) (carried_list : List Carried) (x : ℕ) where
   pub enough : (m n s : ℕ) → s < m → s < n → climb scopes bindings carried_list m s x ≡ climb scopes bindings carried_list n s x

@@ -1,7 +1,6 @@
 -- What the code's lists and answers say, in the definition's terms.
-use Rattle.std.specs.Prelude.{ℕ, List, map, Some, None, Ok, Err, Result}
+use Rattle.std.specs.Prelude.{ℕ, List, map, Some, None, Ok, Err, Result, Option}
 use Rattle.std.specs.Prelude as code
-use Rattle.std.proofs.Math.Option.{Option, none, some}
 use Rattle.refusal.specs.Number.{number_of}
 use Rattle.refusal.specs.declared.Refusal.{Refusal}
 use Rattle.scope.specs.Flat.{scope_of, binding_of, carried_of}
@@ -21,8 +20,8 @@ abbrev pub carried_in : Graph → List Carried
 carried_in g = map carried_of g.carried.now
 
 abbrev pub bound_as : code.Option ℕ → Option ℕ
-bound_as (Some v) = some v
-bound_as None = none
+bound_as (Some v) = Some v
+bound_as None = None
 
 abbrev pub looked_as : Result (code.Option ℕ) Refusal → Looked
 looked_as (Ok (Some v)) = at v

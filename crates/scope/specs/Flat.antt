@@ -1,6 +1,5 @@
 -- A lent list is flat words, so many to an entry; the first n entries are in use.
-use Rattle.std.specs.Prelude.{ℕ, zero, suc, ◌/◌, cond, List, [], ◌∷◌, eqb, length, get_or, drop}
-use Rattle.std.proofs.Math.Option.{Option, none, some}
+use Rattle.std.specs.Prelude.{ℕ, zero, suc, ◌/◌, cond, List, [], ◌∷◌, eqb, length, get_or, drop, Option, None, Some}
 use Rattle.scope.specs.Graph.{Scope, scope, Entry, entry, Carried, carried}
 
 abbrev pub scope_width : ℕ
@@ -23,12 +22,12 @@ entries_of width one (suc n) ws = one ws ∷ entries_of width one n (drop width 
 
 -- "parent + 1 or 0"
 abbrev pub parent_of : ℕ → Option ℕ
-parent_of zero = none
-parent_of (suc p) = some p
+parent_of zero = None
+parent_of (suc p) = Some p
 
 -- "1 if it replaced one, the variable replaced or 0"
 abbrev pub replaced_of : ℕ → ℕ → Option ℕ
-replaced_of flag v = cond (eqb flag 0) none (some v)
+replaced_of flag v = cond (eqb flag 0) None (Some v)
 
 abbrev pub scope_of : List ℕ → Scope
 scope_of ws = scope (get_or ws 0 0) (parent_of (get_or ws 1 0)) (get_or ws 2 0) (get_or ws 3 0)

@@ -1,7 +1,6 @@
 -- Lookup (002; document 01, "At the leaves"): "climbs parents, the first fitting entry counting; a WithBarrier lets through only names
 -- it carries".
-use Rattle.std.specs.Prelude.{ℕ, zero, suc, Bool, true, false, cond, ◌&&◌, ◌||◌, List, [], ◌∷◌, eqb, leb, ltb, length}
-use Rattle.std.proofs.Math.Option.{Option, none, some}
+use Rattle.std.specs.Prelude.{ℕ, zero, suc, Bool, true, false, cond, ◌&&◌, ◌||◌, List, [], ◌∷◌, eqb, leb, ltb, length, Option, None, Some}
 use Rattle.scope.specs.Graph.{with_barrier, Scope, scope, Entry, entry, Carried, carried}
 use Rattle.scope.specs.Flat.{scope_width, binding_width, carried_width, room, scopes_of, bindings_of, carrieds_of}
 
@@ -12,8 +11,8 @@ pub data Looked : Type 0 where
 
 -- "the first fitting entry counting"
 unfoldable pub bound_in : List Entry → ℕ → ℕ → Option ℕ
-bound_in [] s x = none
-bound_in (entry t y v k r ∷ es) s x = cond (eqb t s && eqb y x) (some v) (bound_in es s x)
+bound_in [] s x = None
+bound_in (entry t y v k r ∷ es) s x = cond (eqb t s && eqb y x) (Some v) (bound_in es s x)
 
 -- whether the barrier s carries the name x
 unfoldable pub carries : List Carried → ℕ → ℕ → Bool
@@ -21,7 +20,7 @@ carries [] s x = false
 carries (carried b y v ∷ cs) s x = eqb b s && eqb y x || carries cs s x
 
 unfoldable pub parent_at : List Scope → ℕ → Option ℕ
-parent_at [] s = none
+parent_at [] s = None
 parent_at (scope k p a b ∷ ss) zero = p
 parent_at (scope k p a b ∷ ss) (suc s) = parent_at ss s
 
@@ -37,10 +36,10 @@ lets_on kind has = cond (eqb kind with_barrier) has true
 -- what a scope answers: its own binding; nothing, where the name may not go on or there is no parent; else what its parent p answers,
 -- which `above` gives. A parent that is not below its child is cause 9.
 unfoldable pub answer_at : ℕ → Option ℕ → Bool → Option ℕ → (above : ℕ → Looked) → Looked
-answer_at s (some v) goes_on p above = at v
-answer_at s none false p above = nothing
-answer_at s none true none above = nothing
-answer_at s none true (some p) above = cond (ltb p s) (above p) (refused 9)
+answer_at s (Some v) goes_on p above = at v
+answer_at s None false p above = nothing
+answer_at s None true None above = nothing
+answer_at s None true (Some p) above = cond (ltb p s) (above p) (refused 9)
 
 module _ (scopes : List Scope) (bindings : List Entry) (carried_list : List Carried) where
   unfoldable pub passes : ℕ → ℕ → Bool

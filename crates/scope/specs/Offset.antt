@@ -1,6 +1,5 @@
 -- Offset (002; document 01, "At the leaves"): "ends included, empty spans skipped, narrowest wins, then the highest number".
-use Rattle.std.specs.Prelude.{ℕ, suc, ◌-◌, Bool, cond, ◌&&◌, List, [], ◌∷◌, leb, ltb}
-use Rattle.std.proofs.Math.Option.{Option, none, some}
+use Rattle.std.specs.Prelude.{ℕ, suc, ◌-◌, Bool, cond, ◌&&◌, List, [], ◌∷◌, leb, ltb, Option, None, Some}
 use Rattle.scope.specs.Graph.{Scope, scope}
 use Rattle.scope.specs.Flat.{scope_width, room, scopes_of}
 
@@ -30,8 +29,8 @@ unfoldable pub scope_at_offset : List Scope → ℕ → Option ℕ
 scope_at_offset ss o = number (narrowest o 0 ss none')
   where
     number : Best → Option ℕ
-    number none' = none
-    number (best n w) = some n
+    number none' = None
+    number (best n w) = Some n
 
 pub data Offset : Type 0 where
   in' : (scope : ℕ) → Offset
@@ -43,5 +42,5 @@ unfoldable pub offset : ℕ → List ℕ → ℕ → Offset
 offset n scopes o = cond (leb n (room scope_width scopes)) (answer (scope_at_offset (scopes_of n scopes) o)) (refused 9)
   where
     answer : Option ℕ → Offset
-    answer none = nowhere
-    answer (some s) = in' s
+    answer None = nowhere
+    answer (Some s) = in' s

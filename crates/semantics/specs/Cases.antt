@@ -2,7 +2,6 @@
 -- `keys`, what sort keys see; `stars` and `over_star`, what a WITH carries by a star or an alias; `both` and `sorted_kinds`, the findings of both
 -- walks. The definitions' edits are refused here.
 use Rattle.std.specs.Prelude.{◌≡◌, refl, true, false, List, [], ◌∷◌, map, ℕ, suc, None, Some}
-use Rattle.std.proofs.Math.Option.{none, some}
 use Rattle.words.specs.Fnv.{use_id, fnv1_of, fnv_from, fnv_step}
 use Rattle.heads.specs.declared.Form.TheVariants.{Leaf, Prop, ListPredicate}
 use Rattle.expr.specs.Tree.{Expr, var, unresolved, node, predicate, comprehension, done, more, Steps, end, part, elem}
@@ -46,11 +45,11 @@ unfoldable pub name_a : Expr
 name_a = unresolved 0
 
 abbrev root : Event
-root = open' (scope 1 none 0 9)
+root = open' (scope 1 None 0 9)
 
 -- the first MATCH of each, and a name that is not found
 abbrev matched : List Event → List Event
-matched l = root ∷ open' (scope 2 (some 0) 1 2) ∷ bind false false (bound 1 0 1 1) ∷ l
+matched l = root ∷ open' (scope 2 (Some 0) 1 2) ∷ bind false false (bound 1 0 1 1) ∷ l
 
 abbrev lost : ℕ → ℕ → List Event
 lost id x = answer (write id missing) ∷ find (finding 1001 0 0 (suc x) 0 0) ∷ []
@@ -59,17 +58,17 @@ lost id x = answer (write id missing) ∷ find (finding 1001 0 0 (suc x) 0 0) �
 -- MATCH (a) OPTIONAL MATCH (a) UNWIND .. AS a: a visible node is not bound anew, an Unwind is, without a warning;
 -- MATCH (a) UNION MATCH (a): the arm begins at scope 0, with the next number
 pub traps : map (log true)
-    (small (opening (match 0) 1 2 node_a ∷ with' 3 4 (projection none (var 1) ∷ []) done unsorted ∷ return 5 6 (projection none name_b ∷ []) unsorted ∷ []) []
+    (small (opening (match 0) 1 2 node_a ∷ with' 3 4 (projection None (var 1) ∷ []) done unsorted ∷ return 5 6 (projection None name_b ∷ []) unsorted ∷ []) []
     ∷ small (opening (match 0) 1 2 node_a ∷ with' 3 4 [] done unsorted ∷ reading where' 5 6 (more name_a done) ∷ []) []
-    ∷ small (return 1 2 (projection (some 1) (var 1) ∷ []) unsorted ∷ reading where' 3 4 (more name_b done) ∷ []) []
+    ∷ small (return 1 2 (projection (Some 1) (var 1) ∷ []) unsorted ∷ reading where' 3 4 (more name_b done) ∷ []) []
     ∷ small (opening (match 0) 1 2 node_a ∷ opening (match 1) 3 4 node_a ∷ unwind 5 6 1 (var 1) ∷ []) []
     ∷ small (opening (match 0) 1 2 node_a ∷ []) (opening (match 0) 3 4 node_a ∷ [])
     ∷ [])
-    ≡ matched (answer (write 1 (found 1 1 0)) ∷ open' (scope 7 (some 1) 3 4) ∷ carry (carried 2 0 1) ∷ open' (scope 1 (some 2) 4 4) ∷ bind true false (bound 3 0 1 1) ∷ open' (scope 8 (some 3) 5 6) ∷ lost 0xFAF3A282 1)
-    ∷ matched (open' (scope 7 (some 1) 3 4) ∷ open' (scope 1 (some 2) 4 4) ∷ lost 0xFAF3A281 0)
-    ∷ (root ∷ open' (scope 8 (some 0) 1 2) ∷ answer (write 1 (found 1 1 0)) ∷ lost 0xFAF3A282 1)
-    ∷ matched (open' (scope 2 (some 1) 3 4) ∷ open' (scope 5 (some 2) 5 6) ∷ bind false false (bound 3 0 1 4) ∷ [])
-    ∷ matched (open' (scope 2 (some 0) 3 4) ∷ bind false false (bound 2 0 1 1) ∷ [])
+    ≡ matched (answer (write 1 (found 1 1 0)) ∷ open' (scope 7 (Some 1) 3 4) ∷ carry (carried 2 0 1) ∷ open' (scope 1 (Some 2) 4 4) ∷ bind true false (bound 3 0 1 1) ∷ open' (scope 8 (Some 3) 5 6) ∷ lost 0xFAF3A282 1)
+    ∷ matched (open' (scope 7 (Some 1) 3 4) ∷ open' (scope 1 (Some 2) 4 4) ∷ lost 0xFAF3A281 0)
+    ∷ (root ∷ open' (scope 8 (Some 0) 1 2) ∷ answer (write 1 (found 1 1 0)) ∷ lost 0xFAF3A282 1)
+    ∷ matched (open' (scope 2 (Some 1) 3 4) ∷ open' (scope 5 (Some 2) 5 6) ∷ bind false false (bound 3 0 1 4) ∷ [])
+    ∷ matched (open' (scope 2 (Some 0) 3 4) ∷ bind false false (bound 2 0 1 1) ∷ [])
     ∷ []
 unfolding small node_a name_a name_b logs walk use_id fnv1_of fnv_from fnv_step
 traps = refl
@@ -81,18 +80,18 @@ pub sight : map (log true)
     (small (opening (match 0) 1 2 node_a ∷ reading where' 3 4 (more (comprehension 5 6 node_b (more name_b done)) (more name_b done)) ∷ []) []
     ∷ small (reading where' 1 2 (more (predicate node_a) (more name_a done)) ∷ []) []
     ∷ small (opening (match 0) 1 2 node_a ∷ []) (reading where' 3 4 (more name_a done) ∷ [])
-    ∷ small (call 1 2 done (yield 0 none 1 ∷ yield 0 none 2 ∷ []) ∷ []) []
-    ∷ small (with' 1 2 (projection (some 0) (var 1) ∷ projection (some 0) (var 2) ∷ []) done unsorted ∷ reading where' 3 4 (more name_a done) ∷ []) []
+    ∷ small (call 1 2 done (yield 0 None 1 ∷ yield 0 None 2 ∷ []) ∷ []) []
+    ∷ small (with' 1 2 (projection (Some 0) (var 1) ∷ projection (Some 0) (var 2) ∷ []) done unsorted ∷ reading where' 3 4 (more name_a done) ∷ []) []
     ∷ small (opening (match 0) 1 2 (path (path end)) ∷ []) []
     ∷ small (opening (match 0) 1 2 (path end) ∷ opening (match 0) 3 4 (path end) ∷ []) []
     ∷ [])
-    ≡ matched (open' (scope 9 (some 1) 5 6) ∷ bind false false (bound 2 1 2 1) ∷ answer (write 0xFAF3A282 (found 2 1 0)) ∷ lost 0xFAF3A282 1)
+    ≡ matched (open' (scope 9 (Some 1) 5 6) ∷ bind false false (bound 2 1 2 1) ∷ answer (write 0xFAF3A282 (found 2 1 0)) ∷ lost 0xFAF3A282 1)
     ∷ (root ∷ lost 0xFAF3A281 0)
     ∷ matched (lost 0xFAF3A281 0)
-    ∷ (root ∷ open' (scope 6 (some 0) 1 2) ∷ bind false false (bound 1 0 1 4) ∷ bind false true (bound 1 0 2 4) ∷ find (finding 1002 1 2 1 0 0) ∷ [])
-    ∷ (root ∷ answer (write 1 (found 1 1 0)) ∷ answer (write 2 (found 2 1 0)) ∷ open' (scope 7 (some 0) 1 2) ∷ carry (carried 1 0 1) ∷ carry (carried 1 0 2) ∷ open' (scope 1 (some 1) 2 2) ∷ bind true false (bound 2 0 1 1) ∷ bind true true (bound 2 0 2 1) ∷ answer (write 0xFAF3A281 (found 2 1 0)) ∷ [])
-    ∷ (root ∷ open' (scope 2 (some 0) 1 2) ∷ bind false false (bound 1 0 1 3) ∷ bind false true (bound 1 0 1 3) ∷ find (finding 1002 0 0 1 0 0) ∷ [])
-    ∷ (root ∷ open' (scope 2 (some 0) 1 2) ∷ bind false false (bound 1 0 1 3) ∷ open' (scope 2 (some 1) 3 4) ∷ bind false false (bound 2 0 1 3) ∷ [])
+    ∷ (root ∷ open' (scope 6 (Some 0) 1 2) ∷ bind false false (bound 1 0 1 4) ∷ bind false true (bound 1 0 2 4) ∷ find (finding 1002 1 2 1 0 0) ∷ [])
+    ∷ (root ∷ answer (write 1 (found 1 1 0)) ∷ answer (write 2 (found 2 1 0)) ∷ open' (scope 7 (Some 0) 1 2) ∷ carry (carried 1 0 1) ∷ carry (carried 1 0 2) ∷ open' (scope 1 (Some 1) 2 2) ∷ bind true false (bound 2 0 1 1) ∷ bind true true (bound 2 0 2 1) ∷ answer (write 0xFAF3A281 (found 2 1 0)) ∷ [])
+    ∷ (root ∷ open' (scope 2 (Some 0) 1 2) ∷ bind false false (bound 1 0 1 3) ∷ bind false true (bound 1 0 1 3) ∷ find (finding 1002 0 0 1 0 0) ∷ [])
+    ∷ (root ∷ open' (scope 2 (Some 0) 1 2) ∷ bind false false (bound 1 0 1 3) ∷ open' (scope 2 (Some 1) 3 4) ∷ bind false false (bound 2 0 1 3) ∷ [])
     ∷ []
 unfolding small node_a node_b name_a name_b logs walk use_id fnv1_of fnv_from fnv_step
 sight = refl
@@ -102,12 +101,12 @@ sight = refl
 -- RETURN 1 AS b ORDER BY b, [(b) | b], a: the alias is no use, also where a pattern binds its name; other names are
 pub keys : map (log true)
     (small (opening (match 0) 1 2 node_a ∷ with' 3 4 [] done (sorted (more name_a done)) ∷ reading where' 5 6 (more name_a done) ∷ []) []
-    ∷ small (opening (match 0) 1 2 node_a ∷ with' 3 4 (projection (some 0) (var 2) ∷ []) done (sorted (more name_a (more (comprehension 5 6 node_b (more name_b done)) done))) ∷ []) []
-    ∷ small (return 1 2 (projection (some 1) (node (Leaf 3) done) ∷ []) (sorted (more name_b (more (comprehension 5 6 node_b (more name_b done)) (more name_a done)))) ∷ []) []
+    ∷ small (opening (match 0) 1 2 node_a ∷ with' 3 4 (projection (Some 0) (var 2) ∷ []) done (sorted (more name_a (more (comprehension 5 6 node_b (more name_b done)) done))) ∷ []) []
+    ∷ small (return 1 2 (projection (Some 1) (node (Leaf 3) done) ∷ []) (sorted (more name_b (more (comprehension 5 6 node_b (more name_b done)) (more name_a done)))) ∷ []) []
     ∷ [])
-    ≡ matched (open' (scope 7 (some 1) 3 4) ∷ open' (scope 1 (some 2) 4 4) ∷ answer (write 0xFAF3A281 (found 1 1 0)) ∷ lost 0xFAF3A281 0)
-    ∷ matched (answer (write 2 (found 2 1 0)) ∷ open' (scope 7 (some 1) 3 4) ∷ carry (carried 2 0 2) ∷ open' (scope 1 (some 2) 4 4) ∷ bind true false (bound 3 0 2 1) ∷ answer (write 0xFAF3A281 (found 2 1 0)) ∷ open' (scope 9 (some 3) 5 6) ∷ bind false false (bound 4 1 2 1) ∷ answer (write 0xFAF3A282 (found 2 1 0)) ∷ [])
-    ∷ (root ∷ open' (scope 8 (some 0) 1 2) ∷ open' (scope 9 (some 0) 5 6) ∷ bind false false (bound 2 1 2 1) ∷ lost 0xFAF3A281 0)
+    ≡ matched (open' (scope 7 (Some 1) 3 4) ∷ open' (scope 1 (Some 2) 4 4) ∷ answer (write 0xFAF3A281 (found 1 1 0)) ∷ lost 0xFAF3A281 0)
+    ∷ matched (answer (write 2 (found 2 1 0)) ∷ open' (scope 7 (Some 1) 3 4) ∷ carry (carried 2 0 2) ∷ open' (scope 1 (Some 2) 4 4) ∷ bind true false (bound 3 0 2 1) ∷ answer (write 0xFAF3A281 (found 2 1 0)) ∷ open' (scope 9 (Some 3) 5 6) ∷ bind false false (bound 4 1 2 1) ∷ answer (write 0xFAF3A282 (found 2 1 0)) ∷ [])
+    ∷ (root ∷ open' (scope 8 (Some 0) 1 2) ∷ open' (scope 9 (Some 0) 5 6) ∷ bind false false (bound 2 1 2 1) ∷ lost 0xFAF3A281 0)
     ∷ []
 unfolding small node_a node_b name_a name_b logs walk use_id fnv1_of fnv_from fnv_step
 keys = refl
@@ -125,7 +124,7 @@ starry head =
     }
 
 abbrev all : Projection
-all = projection none (unresolved 2)
+all = projection None (unresolved 2)
 
 -- MATCH (a) UNWIND .. AS b UNWIND .. AS a, and what a WITH carries after it
 abbrev carried_after : List Projection → List Carried
@@ -137,11 +136,11 @@ carried_after ps = carries_in (log true (starry (opening (match 0) 1 2 node_a �
 pub stars :
     carried_after (all ∷ [])
     ∷ carried_after (all ∷ all ∷ [])
-    ∷ carried_after (projection (some 3) name_b ∷ all ∷ [])
-    ∷ carried_after (projection (some 3) name_b ∷ projection (some 1) (unresolved 3) ∷ projection (some 1) (unresolved 2) ∷ [])
-    ∷ carried_after (projection (some 3) (node (Leaf 3) done) ∷ [])
+    ∷ carried_after (projection (Some 3) name_b ∷ all ∷ [])
+    ∷ carried_after (projection (Some 3) name_b ∷ projection (Some 1) (unresolved 3) ∷ projection (Some 1) (unresolved 2) ∷ [])
+    ∷ carried_after (projection (Some 3) (node (Leaf 3) done) ∷ [])
     ∷ carries_in (log true (starry (unwind 1 2 4 (var 1) ∷ unwind 3 4 2 (var 1) ∷ with' 5 6 (all ∷ []) done unsorted ∷ [])))
-    ∷ carries_in (log true (starry (unwind 1 2 4 (var 1) ∷ with' 3 4 (projection (some 1) (unresolved 2) ∷ []) done unsorted ∷ [])))
+    ∷ carries_in (log true (starry (unwind 1 2 4 (var 1) ∷ with' 3 4 (projection (Some 1) (unresolved 2) ∷ []) done unsorted ∷ [])))
     ∷ []
     ≡ (carried 4 1 2 ∷ carried 4 0 3 ∷ [])
     ∷ (carried 4 1 2 ∷ carried 4 0 3 ∷ [])
@@ -156,11 +155,11 @@ stars = refl
 
 -- MATCH (a) WITH * RETURN a: a is found after the star; WITH 1 AS c RETURN c: the alias is found, with the table's kind
 pub over_star : map (log true)
-    (starry (opening (match 0) 1 2 node_a ∷ with' 3 4 (all ∷ []) done unsorted ∷ return 5 6 (projection none name_a ∷ []) unsorted ∷ [])
-    ∷ starry (with' 3 4 (projection (some 3) (node (Leaf 3) done) ∷ []) done unsorted ∷ return 5 6 (projection none (unresolved 3) ∷ []) unsorted ∷ [])
+    (starry (opening (match 0) 1 2 node_a ∷ with' 3 4 (all ∷ []) done unsorted ∷ return 5 6 (projection None name_a ∷ []) unsorted ∷ [])
+    ∷ starry (with' 3 4 (projection (Some 3) (node (Leaf 3) done) ∷ []) done unsorted ∷ return 5 6 (projection None (unresolved 3) ∷ []) unsorted ∷ [])
     ∷ [])
-    ≡ matched (answer (write 0xFAF3A2CA missing) ∷ open' (scope 7 (some 1) 3 4) ∷ carry (carried 2 0 1) ∷ open' (scope 1 (some 2) 4 4) ∷ bind true false (bound 3 0 1 1) ∷ open' (scope 8 (some 3) 5 6) ∷ answer (write 0xFAF3A281 (found 1 1 0)) ∷ [])
-    ∷ (root ∷ open' (scope 7 (some 0) 3 4) ∷ carry (carried 1 3 0xFAF3A283) ∷ open' (scope 1 (some 1) 4 4) ∷ bind true false (bound 2 3 0xFAF3A283 2) ∷ open' (scope 8 (some 2) 5 6) ∷ answer (write 0xFAF3A283 (found 0xFAF3A283 2 0)) ∷ [])
+    ≡ matched (answer (write 0xFAF3A2CA missing) ∷ open' (scope 7 (Some 1) 3 4) ∷ carry (carried 2 0 1) ∷ open' (scope 1 (Some 2) 4 4) ∷ bind true false (bound 3 0 1 1) ∷ open' (scope 8 (Some 3) 5 6) ∷ answer (write 0xFAF3A281 (found 1 1 0)) ∷ [])
+    ∷ (root ∷ open' (scope 7 (Some 0) 3 4) ∷ carry (carried 1 3 0xFAF3A283) ∷ open' (scope 1 (Some 1) 4 4) ∷ bind true false (bound 2 3 0xFAF3A283 2) ∷ open' (scope 8 (Some 2) 5 6) ∷ answer (write 0xFAF3A283 (found 0xFAF3A283 2 0)) ∷ [])
     ∷ []
 unfolding starry node_a name_a logs walk use_id fnv1_of fnv_from fnv_step
 over_star = refl
@@ -185,8 +184,8 @@ property x = node (Prop x) (more (var 1) done)
 -- follows the iterable's; "arms get no kind check"
 pub both : findings true
     (pathed
-    (return 1 2 (projection none (property 1) ∷ projection none (property 2) ∷ projection none (node (ListPredicate 1) (more (var 1) (more (node (Leaf 3) done) done))) ∷ []) unsorted ∷ [])
-    (return 3 4 (projection none (unresolved 2) ∷ projection none (unresolved 3) ∷ projection none (property 2) ∷ []) unsorted ∷ []))
+    (return 1 2 (projection None (property 1) ∷ projection None (property 2) ∷ projection None (node (ListPredicate 1) (more (var 1) (more (node (Leaf 3) done) done))) ∷ []) unsorted ∷ [])
+    (return 3 4 (projection None (unresolved 2) ∷ projection None (unresolved 3) ∷ projection None (property 2) ∷ []) unsorted ∷ []))
     ≡ finding 1001 0 0 3 0 0 ∷ finding 2007 0 0 1 2 3 ∷ finding 5011 0 0 0 0 10 ∷ finding 2011 0 0 0 0 2 ∷ []
 unfolding pathed logs walk kind_walk lists use_id fnv1_of fnv_from fnv_step
 both = refl
@@ -194,7 +193,7 @@ both = refl
 -- WITH p.x ORDER BY p, any(y IN p WHERE 1) RETURN nothing ORDER BY p.x UNION RETURN nothing ORDER BY p.x: sort keys are general, after the clause's other expressions
 pub sorted_kinds : findings true
     (pathed
-    (with' 1 2 (projection none (property 2) ∷ []) done (sorted (more (var 1) (more (node (ListPredicate 1) (more (var 1) (more (node (Leaf 3) done) done))) done)))
+    (with' 1 2 (projection None (property 2) ∷ []) done (sorted (more (var 1) (more (node (ListPredicate 1) (more (var 1) (more (node (Leaf 3) done) done))) done)))
     ∷ return 3 4 [] (sorted (more (property 2) done))
     ∷ [])
     (return 5 6 [] (sorted (more (property 2) done)) ∷ []))

@@ -1,6 +1,5 @@
 -- The kinds walk (document 01, "Walking kinds (001)"): the head's clauses to findings. The sentences in quotes are document 01's.
 use Rattle.std.specs.Prelude.{ℕ, suc, ◌+◌, Bool, cond, ◌&&◌, ◌||◌, List, [], ◌∷◌, ◌++◌, eqb, leb, get_or, Option, None, Some}
-use Rattle.std.proofs.Math.Option.{Option, none, some}
 use Rattle.heads.specs.declared.Form.{Form}
 use Rattle.heads.specs.declared.Form.TheVariants.{Leaf, Var, Unresolved, Prop, Two, Slice, Many, BinOp, UnaryOp, Case, IsNull, PatternPredicate, ListComprehension, PatternComprehension, ListPredicate, MapProjection}
 use Rattle.expr.specs.Tree.{Expr, var, unresolved, node, predicate, comprehension, Exprs, done, more, mark, Steps, end, part, elem}
@@ -114,23 +113,23 @@ at_type (listed c o) t = cond (eqb t no_type) [] (finding c 0 0 0 o t ∷ [])
 
 -- A variable's row against a setting. Details of E2007: 1 arithmetic, 2 property.
 unfoldable pub at_row : Setting → Option Row → List Finding
-at_row c none = []
-at_row general (some (row i x k a b)) = []
-at_row arithmetic (some (row i x k a b)) = cond (eqb k value_kind) [] (finding e2007 0 0 (suc x) 1 k ∷ [])
-at_row property (some (row i x k a b)) = cond (eqb k path_kind) (finding e2007 0 0 (suc x) 2 k ∷ []) []
-at_row boolean (some (row i x k a b)) = []
-at_row (listed d o) (some (row i x k a b)) = cond (eqb k value_kind) [] (finding d 0 0 0 o (kind_type k) ∷ [])
+at_row c None = []
+at_row general (Some (row i x k a b)) = []
+at_row arithmetic (Some (row i x k a b)) = cond (eqb k value_kind) [] (finding e2007 0 0 (suc x) 1 k ∷ [])
+at_row property (Some (row i x k a b)) = cond (eqb k path_kind) (finding e2007 0 0 (suc x) 2 k ∷ []) []
+at_row boolean (Some (row i x k a b)) = []
+at_row (listed d o) (Some (row i x k a b)) = cond (eqb k value_kind) [] (finding d 0 0 0 o (kind_type k) ∷ [])
 
 -- E2008: a binder whose row has another kind than its position wants. Details: 1 path, 2 node, 3 relationship.
 unfoldable pub misplaced : ℕ → ℕ → ℕ → ℕ → Option Row → List Finding
-misplaced one want a b none = []
-misplaced one want a b (some (row i x k c d)) = cond (eqb k want) [] (finding e2008 a b (suc x) one k ∷ [])
+misplaced one want a b None = []
+misplaced one want a b (Some (row i x k c d)) = cond (eqb k want) [] (finding e2008 a b (suc x) one k ∷ [])
 
 module _ (w : World) where
   -- the row of a binder
   unfoldable pub row_for : Option ℕ → Option Row
   row_for (Some v) = w.row v
-  row_for None = none
+  row_for None = None
 
   -- "An own-level finding precedes those of its parts, but E2011 follows the iterable's": the iterable is a part before it.
   unfoldable mutual

@@ -1,6 +1,5 @@
 -- The five lists (document 01, "What comes out"), as views of the log.
-use Rattle.std.specs.Prelude.{ℕ, Bool, cond, ◌&&◌, List, [], ◌∷◌, ◌++◌, eqb}
-use Rattle.std.proofs.Math.Option.{Option, none, some}
+use Rattle.std.specs.Prelude.{ℕ, Bool, cond, ◌&&◌, List, [], ◌∷◌, ◌++◌, eqb, Option, None, Some}
 use Rattle.scope.specs.Graph.{Scope, Carried, carried, Entry, entry}
 use Rattle.sheet.specs.Statement.{Statement}
 use Rattle.semantics.specs.Log.{Finding, Answer, Bound, bound, Write, write, scopes_in, binds_in, carries_in, answers_in, finds_in}
@@ -10,8 +9,8 @@ use Rattle.semantics.specs.Kinds.{kinds}
 
 -- "in order of first making": the first making gives the place, the last one the variable and the kind; what it replaced is kept
 unfoldable pub put : Bound → List Entry → List Entry
-put (bound s x v k) [] = entry s x v k none ∷ []
-put (bound s x v k) (entry t y u j r ∷ es) = cond (eqb s t && eqb x y) (entry s x v k (some u) ∷ es) (entry t y u j r ∷ put (bound s x v k) es)
+put (bound s x v k) [] = entry s x v k None ∷ []
+put (bound s x v k) (entry t y u j r ∷ es) = cond (eqb s t && eqb x y) (entry s x v k (Some u) ∷ es) (entry t y u j r ∷ put (bound s x v k) es)
 
 unfoldable pub puts : List Bound → List Entry → List Entry
 puts [] es = es
@@ -49,8 +48,8 @@ module _ (warns : Bool) (s : Statement) where
 
 -- The answer that a recorded list has for a use id.
 unfoldable pub answer_for : ℕ → List Write → Option Answer
-answer_for i [] = none
-answer_for i (write j b ∷ ws) = cond (eqb i j) (some b) (answer_for i ws)
+answer_for i [] = None
+answer_for i (write j b ∷ ws) = cond (eqb i j) (Some b) (answer_for i ws)
 
 -- The pairs that barrier b carries, in order.
 unfoldable pub pairs_at : ℕ → List Carried → List Pair

@@ -1,7 +1,6 @@
 -- The resolve walk (document 01, "Walking clauses (000)") as steps of a state. The sentences in quotes are document 01's, and
 -- document 02's where it is named.
-use Rattle.std.specs.Prelude.{ℕ, suc, Bool, true, false, cond, not, ◌&&◌, ◌||◌, List, [], ◌∷◌, ◌++◌, reverse, eqb}
-use Rattle.std.proofs.Math.Option.{Option, none, some}
+use Rattle.std.specs.Prelude.{ℕ, suc, Bool, true, false, cond, not, ◌&&◌, ◌||◌, List, [], ◌∷◌, ◌++◌, reverse, eqb, Option, None, Some}
 use Rattle.scope.specs.Graph.{root_scope, unwind_scope, call_scope, with_barrier, return_scope, comprehension_scope, scope, carried}
 use Rattle.expr.specs.Tree.{Expr, var, unresolved, node, predicate, comprehension, Exprs, done, more, mark, Steps, end, part, elem}
 use Rattle.clauses.specs.Tree.{Projection, projection, Yield, yield, Clause, opening, reading, with', return, unwind, call, Arm, arm, exprs, keys_of}
@@ -26,8 +25,8 @@ pub record State : Type 0 where
 
 -- the variable of the newest binding of a name; and whether the scope c binds it
 unfoldable pub lookup : ℕ → List Seen → Option ℕ
-lookup x [] = none
-lookup x (seen y v p ∷ vis) = cond (eqb x y) (some v) (lookup x vis)
+lookup x [] = None
+lookup x (seen y v p ∷ vis) = cond (eqb x y) (Some v) (lookup x vis)
 
 unfoldable pub binds : ℕ → ℕ → List Seen → Bool
 binds c x [] = false
@@ -35,12 +34,12 @@ binds c x (seen y v p ∷ vis) = eqb x y && eqb p c || binds c x vis
 
 -- a variable that has a row, under its name; and a name that is found
 unfoldable pub if_row : Option Row → ℕ → List Pair
-if_row none v = []
-if_row (some (row i x k a b)) v = pair x v ∷ []
+if_row None v = []
+if_row (Some (row i x k a b)) v = pair x v ∷ []
 
 unfoldable pub if_some : Option ℕ → ℕ → List Pair
-if_some none x = []
-if_some (some v) x = pair x v ∷ []
+if_some None x = []
+if_some (Some v) x = pair x v ∷ []
 
 -- pairs without those of a name; and each visible name once, with its newest variable, newest first
 unfoldable pub without : ℕ → List Pair → List Pair
@@ -61,7 +60,7 @@ say_if true e s = say e s
 say_if false e s = s
 
 abbrev pub enter : ℕ → ℕ → ℕ → State → State
-enter k a b s = record { visible = s.visible; cur = suc s.last; last = suc s.last; log = open' (scope k (some s.cur) a b) ∷ s.log }
+enter k a b s = record { visible = s.visible; cur = suc s.last; last = suc s.last; log = open' (scope k (Some s.cur) a b) ∷ s.log }
 
 abbrev pub bind_over : Bool → ℕ → ℕ → ℕ → State → State
 bind_over over x v k s =
@@ -84,13 +83,13 @@ standing vis c s = record { visible = vis; cur = c; last = s.last; log = s.log }
 module _ (w : World) where
   -- "A Var records its own id, visible or not, if the sheet's bindings section has it"
   unfoldable pub use_var : ℕ → Option Row → State → State
-  use_var v none s = s
-  use_var v (some (row i x k a b)) s = say (answer (write v (found v k 0))) s
+  use_var v None s = s
+  use_var v (Some (row i x k a b)) s = say (answer (write v (found v k 0))) s
 
   -- "E1001 comes at each visit of an Unresolved name not visible, except `*`, recorded unresolved without it"
   unfoldable pub use_name : ℕ → Option ℕ → State → State
-  use_name x (some v) s = say (answer (write (w.id x) (found v (kind_of w v) 0))) s
-  use_name x none s = say_if (not (w.is_star x)) (find (finding e1001 0 0 (suc x) 0 0)) (say (answer (write (w.id x) missing)) s)
+  use_name x (Some v) s = say (answer (write (w.id x) (found v (kind_of w v) 0))) s
+  use_name x None s = say_if (not (w.is_star x)) (find (finding e1001 0 0 (suc x) 0 0)) (say (answer (write (w.id x) missing)) s)
 
   -- "a name equal to an alias of the same clause is no use .. and gives no finding and no record" (document 02, CR 1)
   unfoldable pub visit : Bool → ℕ → Option ℕ → State → State
@@ -103,17 +102,17 @@ module _ (w : World) where
 
   -- "Nodes and relationships bind only a name not visible"
   unfoldable pub bind_new : Option ℕ → ℕ → ℕ → ℕ → State → State
-  bind_new none x v k s = bind_name x v k s
-  bind_new (some u) x v k s = s
+  bind_new None x v k s = bind_name x v k s
+  bind_new (Some u) x v k s = s
 
   -- "Patterns, yields and Unwind bind with their position's kind"
   unfoldable pub bind_path : Option ℕ → State → State
-  bind_path none s = s
-  bind_path (some v) s = bind_anew 0 0 (name_of w v) v path_kind s
+  bind_path None s = s
+  bind_path (Some v) s = bind_anew 0 0 (name_of w v) v path_kind s
 
   unfoldable pub bind_elem : ℕ → Option ℕ → State → State
-  bind_elem k none s = s
-  bind_elem k (some v) s = bind_new (lookup (name_of w v) s.visible) (name_of w v) v k s
+  bind_elem k None s = s
+  bind_elem k (Some v) s = bind_new (lookup (name_of w v) s.visible) (name_of w v) v k s
 
   -- "the two walks call each other". "PatternPredicate .. not resolved"; a comprehension's names are visible within it alone.
   unfoldable mutual
@@ -138,12 +137,12 @@ module _ (w : World) where
   -- aliased Unresolved name is carried under its alias if it is found, else not. An alias of any other expression save Var is carried with
   -- the use id of the alias as its variable" (document 02, CR 2). What an unaliased star carries stands below, also where `*` itself is visible
   unfoldable pub carries : Option ℕ → Direct → List Seen → List Pair
-  carries (some x) (a_var v) vis = pair x v ∷ []
-  carries (some x) (a_name y) vis = if_some (lookup y vis) x
-  carries (some x) other vis = pair x (w.id x) ∷ []
-  carries none (a_var v) vis = if_row (w.row v) v
-  carries none (a_name x) vis = cond (w.is_star x) [] (if_some (lookup x vis) x)
-  carries none other vis = []
+  carries (Some x) (a_var v) vis = pair x v ∷ []
+  carries (Some x) (a_name y) vis = if_some (lookup y vis) x
+  carries (Some x) other vis = pair x (w.id x) ∷ []
+  carries None (a_var v) vis = if_row (w.row v) v
+  carries None (a_name x) vis = cond (w.is_star x) [] (if_some (lookup x vis) x)
+  carries None other vis = []
 
   unfoldable pub projected : List Projection → List Seen → List Pair
   projected [] vis = []
@@ -151,10 +150,10 @@ module _ (w : World) where
 
   -- whether a projection is an unaliased star, and whether one of several is: "Several stars in one WITH act as one" (document 02, CR 2)
   unfoldable pub is_all : Option ℕ → Direct → Bool
-  is_all (some x) d = false
-  is_all none (a_var v) = false
-  is_all none (a_name x) = w.is_star x
-  is_all none other = false
+  is_all (Some x) d = false
+  is_all None (a_var v) = false
+  is_all None (a_name x) = w.is_star x
+  is_all None other = false
 
   unfoldable pub any_star : List Projection → Bool
   any_star [] = false
@@ -191,8 +190,8 @@ module _ (w : World) where
 
 -- the aliases of projections
 unfoldable pub alias_in : Option ℕ → List ℕ
-alias_in none = []
-alias_in (some x) = x ∷ []
+alias_in None = []
+alias_in (Some x) = x ∷ []
 
 unfoldable pub aliases : List Projection → List ℕ
 aliases [] = []
@@ -230,7 +229,7 @@ module _ (w : World) where
 
 -- "Head, then each arm from scope 0, a Root with the statement's span"
 unfoldable pub start : Statement → State
-start s = record { visible = []; cur = 0; last = 0; log = open' (scope root_scope none s.start s.stop) ∷ [] }
+start s = record { visible = []; cur = 0; last = 0; log = open' (scope root_scope None s.start s.stop) ∷ [] }
 
 unfoldable pub run : Bool → Statement → State
 run warns s = arms (world_of warns s) s.arms (clauses (world_of warns s) s.head (start s))

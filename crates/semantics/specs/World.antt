@@ -1,6 +1,5 @@
 -- What the walks know, and what the tables say of a variable and of a name. The sentences in quotes are document 01's.
 use Rattle.std.specs.Prelude.{ℕ, Bool, false, cond, ◌&&◌, List, [], ◌∷◌, eqb, get_or, Option, None, Some}
-use Rattle.std.proofs.Math.Option.{Option, none, some}
 use Rattle.words.specs.Fnv.{use_id}
 use Rattle.heads.specs.Answer.{is_in}
 use Rattle.scope.specs.Graph.{match_scope, create_scope, merge_scope}
@@ -25,17 +24,17 @@ hush xs w = record { id = w.id; is_star = w.is_star; is_id = w.is_id; hushed = �
 
 -- the table's row for a variable
 unfoldable pub row_of : ℕ → List Row → Option Row
-row_of v [] = none
-row_of v (row i x k a b ∷ t) = cond (eqb v i) (some (row i x k a b)) (row_of v t)
+row_of v [] = None
+row_of v (row i x k a b ∷ t) = cond (eqb v i) (Some (row i x k a b)) (row_of v t)
 
 -- a row's name, and its kind: "the table's, Value if it has none". No accepted sheet asks for the name of a variable without a row
 unfoldable pub row_name : Option Row → ℕ
-row_name none = 0
-row_name (some (row i x k a b)) = x
+row_name None = 0
+row_name (Some (row i x k a b)) = x
 
 unfoldable pub row_kind : Option Row → ℕ
-row_kind none = value_kind
-row_kind (some (row i x k a b)) = k
+row_kind None = value_kind
+row_kind (Some (row i x k a b)) = k
 
 -- the names `*` and `id`
 unfoldable pub star_name : List ℕ → Bool
@@ -66,8 +65,8 @@ world_of warns s =
 
 -- the variable of a binder, if it has one
 unfoldable pub variable : Option ℕ → Option ℕ
-variable (Some v) = some v
-variable None = none
+variable (Some v) = Some v
+variable None = None
 
 -- the scope that Match, Create and Merge open
 unfoldable pub opens : Opening → ℕ
@@ -89,8 +88,8 @@ direct (comprehension a b s es) = other
 
 -- a yield's alias, or its name if it has none
 unfoldable pub yield_name : ℕ → Option ℕ → ℕ
-yield_name x none = x
-yield_name x (some y) = y
+yield_name x None = x
+yield_name x (Some y) = y
 
 module _ (w : World) where
   unfoldable pub name_of : ℕ → ℕ

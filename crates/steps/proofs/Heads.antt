@@ -7,13 +7,13 @@
 -- A use of a variable: `var-said`, `var-unresolved`, `quiet-use`, `rowless-use`, `checked-use`, `unchecked-use`. Of a name: `unwanted-name`,
 -- `missing-name`, `found_name`; a marked name, `hushed-use`; then E1001, `missed-use`, `star-use`, `seen-use`. A head by its act: `named-act`,
 -- `ready-act`, `by-act`; after its parts, `closed-fits`, `closed-frame`, `closed-stays`, `closed-holds`.
+use Rattle.std.specs.Prelude.{Option, None, Some}
 use Prim.Native.Nat.{ℕ, zero, suc, ◌+◌, ◌-◌, ◌%◌, ◌/◌, ◌<◌, ◌≤◌}
 use native.Mathlib.Numerals.{add-one}
 use native.Mathlib.Omega.{arith}
 use mathlib.Core.Path.{◌≡◌, refl, ap, sym, subst, ◌∙◌}
 use mathlib.Core.Bool.{Bool, true, false, cond, ◌&&◌, ◌||◌}
 use mathlib.Core.List.{List, [], ◌∷◌}
-use mathlib.Core.Option.{Option, none, some}
 use mathlib.Core.Logic.{◌⊎◌, inl, inr, ⊎_elim}
 use lib.Dec.{eqb, lit<}
 use lib.ListN.{length, get_or}
@@ -119,7 +119,7 @@ last-told n t q e = rw (q, ne_eqb t 0 e)
 -- of a row
 module _ (i x k a b : ℕ) where
   -- a Value is minded nowhere
-  pub row-value : (c : Setting) → k ≡ 4 → at_row c (some (row i x k a b)) ≡ []
+  pub row-value : (c : Setting) → k ≡ 4 → at_row c (Some (row i x k a b)) ≡ []
   unfolding at_row
   row-value general e = refl
   row-value arithmetic e = rw e
@@ -128,28 +128,28 @@ module _ (i x k a b : ℕ) where
   row-value (listed d o) e = rw e
 
   module _ (n : ℕ) where
-    pub row-general : n ≡ 0 → at_row (setting_of n) (some (row i x k a b)) ≡ []
+    pub row-general : n ≡ 0 → at_row (setting_of n) (Some (row i x k a b)) ≡ []
     unfolding at_row
     row-general q = rw q
 
-    pub row-boolean : n ≡ 3 → at_row (setting_of n) (some (row i x k a b)) ≡ []
+    pub row-boolean : n ≡ 3 → at_row (setting_of n) (Some (row i x k a b)) ≡ []
     unfolding at_row
     row-boolean q = rw q
 
-    pub row-property : n ≡ 2 → k ≡ 3 → at_row (setting_of n) (some (row i x k a b)) ≡ finding 2007 0 0 (x + 1) 2 k ∷ []
+    pub row-property : n ≡ 2 → k ≡ 3 → at_row (setting_of n) (Some (row i x k a b)) ≡ finding 2007 0 0 (x + 1) 2 k ∷ []
     unfolding at_row
     row-property q e = rw (q, e, add-one x)
 
-    pub row-owned : n ≡ 2 → (k ≡ 3 → ⊥) → at_row (setting_of n) (some (row i x k a b)) ≡ []
+    pub row-owned : n ≡ 2 → (k ≡ 3 → ⊥) → at_row (setting_of n) (Some (row i x k a b)) ≡ []
     unfolding at_row
     row-owned q e = rw (q, ne_eqb k 3 e)
 
-    pub row-arithmetic : n ≡ 1 → (k ≡ 4 → ⊥) → at_row (setting_of n) (some (row i x k a b)) ≡ finding 2007 0 0 (x + 1) 1 k ∷ []
+    pub row-arithmetic : n ≡ 1 → (k ≡ 4 → ⊥) → at_row (setting_of n) (Some (row i x k a b)) ≡ finding 2007 0 0 (x + 1) 1 k ∷ []
     unfolding at_row
     row-arithmetic q e = rw (q, ne_eqb k 4 e, add-one x)
 
     -- where a list is wanted, the row is checked as its type
-    pub row_type : 3 < n → n < 8 → (k ≡ 4 → ⊥) → at_type (setting_of n) (k + 7) ≡ at_row (setting_of n) (some (row i x k a b))
+    pub row_type : 3 < n → n < 8 → (k ≡ 4 → ⊥) → at_type (setting_of n) (k + 7) ≡ at_row (setting_of n) (Some (row i x k a b))
     unfolding at_row at_type
     row_type h l e =
         let z = ne_eqb (k + 7) 0 (λ q. omega arith) in
@@ -238,16 +238,16 @@ still-holds h u e =
 use-unmoved : (w : World) (v : ℕ) (wants resolves : Bool) (o : Option Row) (s : State) → wants && resolves ≡ false → Unmoved wants s (when resolves (use_var w v o) s)
 unfolding use_var kept made carried_in
 use-unmoved w v wants false o s e = record { visible = refl; cur = refl; last = refl; log = refl; made = refl; taken = refl }
-use-unmoved w v wants true none s e = record { visible = refl; cur = refl; last = refl; log = refl; made = refl; taken = refl }
-use-unmoved w v true true (some (row i x k a b)) s e = let z : ◌≡◌ {A = ℕ} 0 1 = cc e in absurd (omega arith)
-use-unmoved w v false true (some (row i x k a b)) s e = record { visible = refl; cur = refl; last = refl; log = refl; made = refl; taken = refl }
+use-unmoved w v wants true None s e = record { visible = refl; cur = refl; last = refl; log = refl; made = refl; taken = refl }
+use-unmoved w v true true (Some (row i x k a b)) s e = let z : ◌≡◌ {A = ℕ} 0 1 = cc e in absurd (omega arith)
+use-unmoved w v false true (Some (row i x k a b)) s e = record { visible = refl; cur = refl; last = refl; log = refl; made = refl; taken = refl }
 
 row-quiet : (n : ℕ) (o : Option Row) → eqb n 0 || eqb n 3 ≡ true → at_row (setting_of n) o ≡ []
 unfolding at_row
-row-quiet n none e = refl
-row-quiet n (some (row i x k a b)) e = go (eqb n 0) refl (eqb n 3) refl e
+row-quiet n None e = refl
+row-quiet n (Some (row i x k a b)) e = go (eqb n 0) refl (eqb n 3) refl e
   where
-    go : (g : Bool) → eqb n 0 ≡ g → (h : Bool) → eqb n 3 ≡ h → g || h ≡ true → at_row (setting_of n) (some (row i x k a b)) ≡ []
+    go : (g : Bool) → eqb n 0 ≡ g → (h : Bool) → eqb n 3 ≡ h → g || h ≡ true → at_row (setting_of n) (Some (row i x k a b)) ≡ []
     go true p h q e = row-general i x k a b n (eqb-true n 0 p)
     go false p true q e = row-boolean i x k a b n (eqb-true n 3 q)
     go false p false q e = cc e
@@ -276,11 +276,11 @@ module _ {ws tab m vis found : List ℕ} (mode v : ℕ) (o : Option Row) where
   unfolding use_var at_row told
   rowless-use e = rw (rowless o e) (idle-as _ (λ id s. go (world_at ws tab id) s (eqb (mode / 64 % 2) 1) (eqb (mode / 128 % 2) 1)))
     where
-      rowless : (o : Option Row) → shown o ≡ row'.No → o ≡ none
-      rowless none e = refl
-      rowless (some (row i x k a b)) e = cc e
+      rowless : (o : Option Row) → shown o ≡ row'.No → o ≡ None
+      rowless None e = refl
+      rowless (Some (row i x k a b)) e = cc e
 
-      go : (w : World) (s : Both) (b c : Bool) → s ≡ step (record { resolves = b; checks = c }) (use_var w v none) (at_row (first_of mode) none) s
+      go : (w : World) (s : Both) (b c : Bool) → s ≡ step (record { resolves = b; checks = c }) (use_var w v None) (at_row (first_of mode) None) s
       go w s true true = refl
       go w s true false = refl
       go w s false true = refl
@@ -293,27 +293,27 @@ module _ {ws tab m vis found m1 found1 : List ℕ} (mode v x k : ℕ) (o : Optio
   checked-use {m2} {found2} e c s t = go o e
     where
       go : (o : Option Row) → shown o ≡ row'.Is x k → Steps 2 ws tab m vis found m2 vis found2 (UsesAs ws tab mode v o)
-      go none e = let z : ◌≡◌ {A = ℕ} 0 1 = cc e in absurd (omega arith)
-      go (some (row i y l a b)) e =
+      go None e = let z : ◌≡◌ {A = ℕ} 0 1 = cc e in absurd (omega arith)
+      go (Some (row i y l a b)) e =
           let p : y ≡ x = cc e in
           let q : l ≡ k = cc e in
-          rw (p, q) (as-steps (UsesAs ws tab mode v (some (row i x k a b))) (then-steps s (t i a b)) (λ id s. rw (eq-eqb (mode / 128 % 2) 1 c)))
+          rw (p, q) (as-steps (UsesAs ws tab mode v (Some (row i x k a b))) (then-steps s (t i a b)) (λ id s. rw (eq-eqb (mode / 128 % 2) 1 c)))
 
   pub unchecked-use : shown o ≡ row'.Is x k → (mode / 128 % 2 ≡ 1 → ⊥) → Steps 1 ws tab m vis found m1 vis found1 (λ id. on_names (var_record (mode_of mode) v k)) → Steps 2 ws tab m vis found m1 vis found1 (UsesAs ws tab mode v o)
   unfolding use_var
   unchecked-use e c s = go o e
     where
       go : (o : Option Row) → shown o ≡ row'.Is x k → Steps 2 ws tab m vis found m1 vis found1 (UsesAs ws tab mode v o)
-      go none e = let z : ◌≡◌ {A = ℕ} 0 1 = cc e in absurd (omega arith)
-      go (some (row i y l a b)) e =
+      go None e = let z : ◌≡◌ {A = ℕ} 0 1 = cc e in absurd (omega arith)
+      go (Some (row i y l a b)) e =
           let q : l ≡ k = cc e in
-          rw q (as-steps (UsesAs ws tab mode v (some (row i y k a b))) (more-steps (omega arith) s) (λ id s. rw (ne_eqb (mode / 128 % 2) 1 c)))
+          rw q (as-steps (UsesAs ws tab mode v (Some (row i y k a b))) (more-steps (omega arith) s) (λ id s. rw (ne_eqb (mode / 128 % 2) 1 c)))
 
 -- ---- a use of a name
 name-unmoved : {wants : Bool} → wants ≡ false → (w : World) (x : ℕ) (o : Option ℕ) (s : State) → Unmoved wants s (name_record w x o s)
 unfolding made carried_in
-name-unmoved e w x none s = record { visible = refl; cur = refl; last = refl; log = sym (unwanted _ e (λ l. refl) s.log); made = refl; taken = refl }
-name-unmoved e w x (some v) s = record { visible = refl; cur = refl; last = refl; log = sym (unwanted _ e (λ l. refl) s.log); made = refl; taken = refl }
+name-unmoved e w x None s = record { visible = refl; cur = refl; last = refl; log = sym (unwanted _ e (λ l. refl) s.log); made = refl; taken = refl }
+name-unmoved e w x (Some v) s = record { visible = refl; cur = refl; last = refl; log = sym (unwanted _ e (λ l. refl) s.log); made = refl; taken = refl }
 
 -- what is recorded of a name, by what is visible
 abbrev RecordsAs : (ws tab : List ℕ) → ℕ → (ℕ → ℕ) → Both → Both
@@ -328,22 +328,22 @@ module _ {ws tab m vis found : List ℕ} (x : ℕ) where
     pub missing-name : answer (lookup x (seens (slots_in tab) (top_of m) vis)) p ≡ found'.No → Says 5 x 0 0 0 0 m found m1 found1 → Steps 1 ws tab m vis found m1 vis found1 (RecordsAs ws tab x)
     missing-name q s =
         instead _ (says-step size s (λ id l. wanted _ (eq-eqb (get_or tab 9 0) 1 e) (λ r. refl) l) (λ id. no-count (λ n. refl) (λ n. refl)))
-        (λ id t h. let z : lookup x t.names.visible ≡ none = ap (λ l. lookup x l) (sym h.visible) ∙ go (lookup x (seens (slots_in tab) (top_of m) vis)) q in rw z)
+        (λ id t h. let z : lookup x t.names.visible ≡ None = ap (λ l. lookup x l) (sym h.visible) ∙ go (lookup x (seens (slots_in tab) (top_of m) vis)) q in rw z)
       where
-        go : (o : Option ℕ) → answer o p ≡ found'.No → o ≡ none
-        go none e = refl
-        go (some v) e = cc e
+        go : (o : Option ℕ) → answer o p ≡ found'.No → o ≡ None
+        go None e = refl
+        go (Some v) e = cc e
 
     pub found_name : (v k c : ℕ) → answer (lookup x (seens (slots_in tab) (top_of m) vis)) p ≡ found'.Is v c → k ≡ row_kind ((world_at ws tab (λ y. y)).row v) → Says 5 x 1 v k 0 m found m1 found1 →
         Steps 1 ws tab m vis found m1 vis found1 (RecordsAs ws tab x)
     unfolding kind_of
     found_name v k c q r s =
         instead _ (says-step size s (λ id l. wanted _ (eq-eqb (get_or tab 9 0) 1 e) (λ r. refl) l) (λ id. no-count (λ n. refl) (λ n. refl)))
-        (λ id t h. let z : lookup x t.names.visible ≡ some v = ap (λ l. lookup x l) (sym h.visible) ∙ go (lookup x (seens (slots_in tab) (top_of m) vis)) q in rw (z, r))
+        (λ id t h. let z : lookup x t.names.visible ≡ Some v = ap (λ l. lookup x l) (sym h.visible) ∙ go (lookup x (seens (slots_in tab) (top_of m) vis)) q in rw (z, r))
       where
-        go : (o : Option ℕ) → answer o p ≡ found'.Is v c → o ≡ some v
-        go none e = cc e
-        go (some u) e = cc e
+        go : (o : Option ℕ) → answer o p ≡ found'.Is v c → o ≡ Some v
+        go None e = cc e
+        go (Some u) e = cc e
 
 -- a name is hushed as its mark says, and then nothing is said
 hush : (tab : List ℕ) {x : ℕ} {b : Bool} → x < slots_in tab → eqb (get_or tab (16 + x) 0) 1 ≡ b → hushed_in tab x ≡ b
@@ -364,21 +364,21 @@ module _ {ws tab m vis found m1 found1 : List ℕ} (x : ℕ) (t : Tabled (slots_
   unfolding use_name say_if
   missed-use z e y =
       instead _ (then-steps s y)
-      (λ id b k. (let q : lookup x b.names.visible ≡ none = ap (λ l. lookup x l) (sym k.visible) ∙ zero-unseen t h z in rw (q, ne_eqb (suc x) (star_in tab) (λ r. e (omega arith)), add-one x)) ∙ use-as id b)
+      (λ id b k. (let q : lookup x b.names.visible ≡ None = ap (λ l. lookup x l) (sym k.visible) ∙ zero-unseen t h z in rw (q, ne_eqb (suc x) (star_in tab) (λ r. e (omega arith)), add-one x)) ∙ use-as id b)
 
   pub star-use : get_or vis x 0 ≡ 0 → x + 1 ≡ star_in tab → Steps 2 ws tab m vis found m1 vis found1 (λ id. on_names (name_use (world_at ws tab id) x))
   unfolding use_name say_if
   star-use z e =
       instead _ (more-steps (omega arith) s)
-      (λ id b k. (let q : lookup x b.names.visible ≡ none = ap (λ l. lookup x l) (sym k.visible) ∙ zero-unseen t h z in rw (q, eq-eqb (suc x) (star_in tab) (omega arith))) ∙ use-as id b)
+      (λ id b k. (let q : lookup x b.names.visible ≡ None = ap (λ l. lookup x l) (sym k.visible) ∙ zero-unseen t h z in rw (q, eq-eqb (suc x) (star_in tab) (omega arith))) ∙ use-as id b)
 
   pub seen-use : (get_or vis x 0 ≡ 0 → ⊥) → Steps 2 ws tab m vis found m1 vis found1 (λ id. on_names (name_use (world_at ws tab id) x))
   unfolding use_name
   seen-use e = instead _ (more-steps (omega arith) s) (λ id b k. go id b (lookup x b.names.visible) (λ q. e (unseen-zero t h (ap (λ l. lookup x l) k.visible ∙ q))) ∙ use-as id b)
     where
-      go : (id : ℕ → ℕ) (b : Both) (o : Option ℕ) → (o ≡ none → ⊥) → on_names (λ y. name_record (world_at ws tab id) x o y) b ≡ on_names (λ y. use_name (world_at ws tab id) x o y) b
-      go id b none n = absurd (n refl)
-      go id b (some v) n = refl
+      go : (id : ℕ → ℕ) (b : Both) (o : Option ℕ) → (o ≡ None → ⊥) → on_names (λ y. name_record (world_at ws tab id) x o y) b ≡ on_names (λ y. use_name (world_at ws tab id) x o y) b
+      go id b None n = absurd (n refl)
+      go id b (Some v) n = refl
 
 -- ---- a head by its act
 head-acts : (w : World) (m : Mode) (c : Setting) (f : Form) (s : Both) → acts w m c (act_of f) s ≡ head_of w m f c s

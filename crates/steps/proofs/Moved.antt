@@ -1,12 +1,12 @@
 -- Laws of what is opened, bound, noted and left: a scope (`enters`), a name (`bound-asks`, `bound-numbers`, `binds-in`, `names`), a name that is not visible or is
 -- (`new-bound`, `new-idle`), a binder's row (`noted-idle`, `noted-lost`), out of a scope (`left-fits`, `left-frame`, `left-holds`).
+use Rattle.std.specs.Prelude.{Option, None, Some}
 use Prim.Native.Nat.{ℕ, suc, ◌+◌, ◌*◌, ◌<◌, ◌≤◌}
 use native.Mathlib.Numerals.{add-one}
 use native.Mathlib.Omega.{arith}
 use mathlib.Core.Path.{◌≡◌, refl, ap, sym, ◌∙◌}
 use mathlib.Core.Bool.{Bool, true, false, ◌&&◌}
 use mathlib.Core.List.{List, [], ◌∷◌}
-use mathlib.Core.Option.{Option, none, some}
 use lib.ListN.{length, get_or, set, drop, length-set}
 use lib.Seq.{get_or-set_same, get_or-set_other}
 use Rattle.scope.specs.Graph.{scope}
@@ -62,7 +62,7 @@ opens {ws} {tab} {m} {vis} {found} size =
 pub enters : {ws tab m vis found m1 found1 : List ℕ} {k a b : ℕ} → length m ≡ 64 → SaysIf (wants_in tab) 1 k (cur_of m + 1) a b 0 m found m1 found1 →
     Costs 1 1 ws tab m vis found (set (set m1 3 (last_of m1 + 1)) 2 (last_of m1 + 1)) vis found1 (λ id. on_names (enter k a b))
 enters {ws} {tab} {m} {vis} {found} {m1} {found1} {k} {a} {b} size p =
-    let x : Costs 1 0 ws tab m vis found m1 vis found1 (λ id. on_names (λ s. say (open' (scope k (some s.cur) a b)) s)) = instead _ (says_if size p (λ id l. refl) (λ id l. refl) (λ id. no-count (λ n. refl) (λ n. refl))) (λ id s h. rw (add-one (cur_of m), h.cur)) in
+    let x : Costs 1 0 ws tab m vis found m1 vis found1 (λ id. on_names (λ s. say (open' (scope k (Some s.cur) a b)) s)) = instead _ (says_if size p (λ id l. refl) (λ id l. refl) (λ id. no-count (λ n. refl) (λ n. refl))) (λ id s h. rw (add-one (cur_of m), h.cur)) in
     then-steps x (opens (x.sized ∙ size))
 
 -- a name
@@ -221,15 +221,15 @@ names {ws} {tab} {m} {vis} {found} {m1} {vis1} {found1} {x} {v} {k} {again = aga
 
 -- a name that the words show as not visible, and one that they show as visible
 module _ {ws tab m vis found m1 vis1 found1 : List ℕ} {e t x v k : ℕ} (w : (ℕ → ℕ) → World) where
-  pub new-bound : lookup x (seens (slots_in tab) (top_of m) vis) ≡ none → Costs e t ws tab m vis found m1 vis1 found1 (λ id. on_names (bind_name x v k)) →
+  pub new-bound : lookup x (seens (slots_in tab) (top_of m) vis) ≡ None → Costs e t ws tab m vis found m1 vis1 found1 (λ id. on_names (bind_name x v k)) →
       Costs e t ws tab m vis found m1 vis1 found1 (λ id. on_names (λ y. bind_new (w id) (lookup x y.visible) x v k y))
   unfolding bind_new
   new-bound z c = instead _ c (λ id s h. rw (← h.visible, z))
 
-old-one : (w : World) (x v k : ℕ) (o : Option ℕ) (s : State) → (o ≡ none → ⊥) → bind_new w o x v k s ≡ s
+old-one : (w : World) (x v k : ℕ) (o : Option ℕ) (s : State) → (o ≡ None → ⊥) → bind_new w o x v k s ≡ s
 unfolding bind_new
-old-one w x v k none s z = absurd (z refl)
-old-one w x v k (some u) s z = refl
+old-one w x v k None s z = absurd (z refl)
+old-one w x v k (Some u) s z = refl
 
 pub new-idle : {ws tab m vis found : List ℕ} {e t x : ℕ} (v k : ℕ) (w : (ℕ → ℕ) → World) → Tabled (slots_in tab) (top_of m) vis → x < slots_in tab → (get_or vis x 0 ≡ 0 → ⊥) →
     Costs e t ws tab m vis found m vis found (λ id. on_names (λ y. bind_new (w id) (lookup x y.visible) x v k y))
@@ -238,13 +238,13 @@ new-idle {tab = tab} {m} {vis} {x = x} v k w a b z =
 
 -- a binder's row: `known` stays, or falls
 known-stays : (b : Bool) (o : Option Row) → is_some o ≡ true → b ≡ b && (is_some o && true)
-known-stays true none q = sym q
-known-stays true (some r) q = refl
+known-stays true None q = sym q
+known-stays true (Some r) q = refl
 known-stays false o q = refl
 
 known-falls : (b : Bool) (o : Option Row) → is_some o ≡ false → false ≡ b && (is_some o && true)
-known-falls true none q = refl
-known-falls true (some r) q = sym q
+known-falls true None q = refl
+known-falls true (Some r) q = sym q
 known-falls false o q = refl
 
 module _ {ws tab m vis found : List ℕ} (v : ℕ) where

@@ -6,7 +6,6 @@ use native.Mathlib.Numerals.{add-one}
 use mathlib.Core.Path.{◌≡◌, refl, ◌∙◌}
 use mathlib.Core.Bool.{Bool, true, false, ◌&&◌}
 use mathlib.Core.List.{List, [], ◌∷◌}
-use mathlib.Core.Option.{Option, none}
 use lib.ListN.{length}
 use Rattle.expr.specs.Binders.{binder, all_known}
 use Rattle.tables.specs.Row.{Row}
@@ -79,4 +78,4 @@ unfolding binder all_known variable bind_elem row_for misplaced told
 elem-none {ws} {tab} kind start end mode q =
     rw q
     (idle-step _
-    (λ id s h. rw (and-true s.known, when-same (mode_of mode).resolves (bind_elem (world_at ws tab id) kind none) s.names refl, when-same (mode_of mode).checks (told []) s.kinds refl) h))
+    (λ id s h. rw (and-true s.known, when-same (mode_of mode).resolves (bind_elem (world_at ws tab id) kind None) s.names refl, when-same (mode_of mode).checks (told []) s.kinds refl) h))

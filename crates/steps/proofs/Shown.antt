@@ -1,11 +1,11 @@
 -- Laws of a row as the code tells it: it is the table's (`all-chains`, `row_near`, `row-shown`, `row-range`), and what it says of the row (`kind-is`, `kind-none`,
 -- `is-some`, `is-none`, `name-as`, `name_below`, `slots_small`); E2008 by it is the definition's (`misplaced-as`).
+use Rattle.std.specs.Prelude.{Option, None, Some}
 use Prim.Native.Nat.{ℕ, zero, suc, ◌+◌, ◌-◌, ◌*◌, ◌<◌, ◌≤◌}
 use native.Mathlib.Omega.{arith}
 use mathlib.Core.Path.{◌≡◌, refl}
 use mathlib.Core.Bool.{Bool, true, false, cond, not}
 use mathlib.Core.List.{List, [], ◌∷◌}
-use mathlib.Core.Option.{Option, none, some}
 use lib.Dec.{eqb}
 use lib.ListN.{length, get_or, take, drop, length-drop}
 use lib.Seq.{take_all}
@@ -45,26 +45,26 @@ row-range {ws} {tab} (suc j) h n l =
 -- what it says of the row
 pub kind-is : {x k : ℕ} (o : Option Row) → row'.Is x k ≡ shown o → k ≡ row_kind o
 unfolding row_kind
-kind-is none q = cc
-kind-is (some (row i y l a b)) q = cc
+kind-is None q = cc
+kind-is (Some (row i y l a b)) q = cc
 
 pub kind-none : (o : Option Row) → row'.No ≡ shown o → 4 ≡ row_kind o
 unfolding row_kind
-kind-none none q = refl
-kind-none (some (row i y l a b)) q = cc
+kind-none None q = refl
+kind-none (Some (row i y l a b)) q = cc
 
 pub is-some : {x k : ℕ} (o : Option Row) → row'.Is x k ≡ shown o → is_some o ≡ true
-is-some none q = cc
-is-some (some (row i y l a b)) q = refl
+is-some None q = cc
+is-some (Some (row i y l a b)) q = refl
 
 pub is-none : (o : Option Row) → row'.No ≡ shown o → is_some o ≡ false
-is-none none q = refl
-is-none (some (row i y l a b)) q = cc
+is-none None q = refl
+is-none (Some (row i y l a b)) q = cc
 
 pub name-as : (o : Option Row) → name_in (shown o) ≡ row_name o
 unfolding row_name
-name-as none = refl
-name-as (some (row i y l a b)) = refl
+name-as None = refl
+name-as (Some (row i y l a b)) = refl
 
 pub name_below : {slots : ℕ} {o : Option Row} {r : Row'} → 0 < slots → shown_to slots o r → name_in r < slots
 name_below {slots} {r = r} h q = go r q.range
@@ -80,11 +80,11 @@ slots_small r = omega (arith, r.fit.stack, r.fit.within, r.fine.short)
 pub misplaced-as : (checks : Bool) (o : Option Row) (one want a b : ℕ) (ks : List Finding) →
     told (cond (misplaced_in checks want (shown o)) (finding 2008 a b (suc (name_in (shown o))) one (kind_in (shown o)) ∷ []) []) ks ≡ when checks (told (misplaced one want a b o)) ks
 unfolding told misplaced
-misplaced-as true none one want a b ks = refl
-misplaced-as false none one want a b ks = refl
-misplaced-as true (some (row i y l c d)) one want a b ks = go (eqb l want)
+misplaced-as true None one want a b ks = refl
+misplaced-as false None one want a b ks = refl
+misplaced-as true (Some (row i y l c d)) one want a b ks = go (eqb l want)
   where
     go : (t : Bool) → told (cond (not t) (finding 2008 a b (suc y) one l ∷ []) []) ks ≡ told (cond t [] (finding 2008 a b (suc y) one l ∷ [])) ks
     go true = refl
     go false = refl
-misplaced-as false (some (row i y l c d)) one want a b ks = refl
+misplaced-as false (Some (row i y l c d)) one want a b ks = refl

@@ -1,6 +1,5 @@
 -- How both walks' state stands in the lent words, and what a step of the code does to it.
-use Rattle.std.specs.Prelude.{ℕ, suc, ◌+◌, ◌*◌, ◌/◌, ◌%◌, ◌<◌, ◌≤◌, ◌≡◌, Bool, true, false, not, ◌&&◌, List, [], ◌∷◌, eqb, length, get_or, set, Option}
-use Rattle.std.proofs.Math.Option.{Option, none, some}
+use Rattle.std.specs.Prelude.{ℕ, suc, ◌+◌, ◌*◌, ◌/◌, ◌%◌, ◌<◌, ◌≤◌, ◌≡◌, Bool, true, false, not, ◌&&◌, List, [], ◌∷◌, eqb, length, get_or, set, Option, None, Some}
 use Rattle.scope.specs.Graph.{comprehension_scope}
 use Rattle.heads.specs.declared.Form.{Form}
 use Rattle.heads.specs.declared.Form.TheVariants.{Leaf, Var, Unresolved, Prop, Two, Slice, Many, BinOp, UnaryOp, Case, IsNull, PatternPredicate, ListComprehension, PatternComprehension, ListPredicate, MapProjection}
@@ -25,7 +24,7 @@ use Rattle.steps.specs.declared.row.Row.TheVariants as row'
 pub record Fine (ws tab : List ℕ) : Type 0 where
   pub long : 16 + slots_in tab * 2 ≤ length tab
   pub short : length ws ≤ 2048
-  pub some : 0 < slots_in tab
+  pub Some : 0 < slots_in tab
   pub places : names_in tab ≤ slots_in tab
   pub rows : rows_in tab + bindings_in tab * 5 ≤ length ws
   pub named : (j : ℕ) → j < bindings_in tab → get_or ws (rows_in tab + j * 5 + 1) 0 < slots_in tab
@@ -166,8 +165,8 @@ pub record TellsIf (t : Bool) (code a b c d e : ℕ) (m found m' found' : List �
 
 -- a row as the code tells it: name and kind
 abbrev pub shown : Option Row → Row'
-shown none = row'.No
-shown (some (row i x k a b)) = row'.Is x k
+shown None = row'.No
+shown (Some (row i x k a b)) = row'.Is x k
 
 abbrev pub name_in : Row' → ℕ
 name_in (row'.Is x k) = x
@@ -194,7 +193,7 @@ pub record shown_to (slots : ℕ) (o : Option Row) (r : Row') : Type 0 where
 
 -- a row with the name x and the kind k, in a setting
 abbrev pub AtRow : (ws tab m vis found m' found' : List ℕ) → (set x k : ℕ) → Type 0
-AtRow ws tab m vis found m' found' set x k = (i a b : ℕ) → Steps 1 ws tab m vis found m' vis found' (λ id. on_kinds (at_row (setting_of set) (some (row i x k a b))))
+AtRow ws tab m vis found m' found' set x k = (i a b : ℕ) → Steps 1 ws tab m vis found m' vis found' (λ id. on_kinds (at_row (setting_of set) (Some (row i x k a b))))
 
 -- what a head does before its parts
 abbrev pub act_of : Form → Act
@@ -277,5 +276,5 @@ var_record m v k = when m.resolves (say (answer (write v (found_as v k 0))))
 
 -- what is recorded of a name, E1001 apart
 abbrev pub name_record : World → ℕ → Option ℕ → State → State
-name_record w x (some v) s = say (answer (write (w.id x) (found_as v (kind_of w v) 0))) s
-name_record w x none s = say (answer (write (w.id x) missing)) s
+name_record w x (Some v) s = say (answer (write (w.id x) (found_as v (kind_of w v) 0))) s
+name_record w x None s = say (answer (write (w.id x) missing)) s

@@ -1,11 +1,11 @@
 -- A run only adds to the log, and never looks at it: what was said before stays under what it says. `after l s` is s with l said before; each
 -- law says `step (after l s) ≡ after l (step s)`: `resolve-after`, `resolves-after`, `pattern-after`, `bind-after` (carried names),
 -- `barrier-after`, `fresh-after`, `sort-after`, `clause-after`, `clauses-after`, `arms-after`.
+use Rattle.std.specs.Prelude.{Option, None, Some}
 use Prim.Native.Nat.{ℕ}
 use mathlib.Core.Path.{◌≡◌, refl, ◌∙◌, ap}
 use mathlib.Core.Bool.{Bool, true, false}
 use mathlib.Core.List.{List, [], ◌∷◌, ◌++◌}
-use mathlib.Core.Option.{Option, none, some}
 use Rattle.scope.specs.Graph.{comprehension_scope, return_scope}
 use Rattle.expr.specs.Tree.{Expr, var, unresolved, node, predicate, comprehension, Exprs, done, more, mark, Steps, end, part, elem}
 use Rattle.clauses.specs.Tree.{Yield, yield, Clause, opening, reading, with', return, unwind, call, Arm, arm, exprs, keys_of}
@@ -26,13 +26,13 @@ module _ (w : World) (l : List Event) where
 
   var-after : (v : ℕ) (r : Option Row) (s : State) → use_var w v r (after l s) ≡ after l (use_var w v r s)
   unfolding use_var
-  var-after v none s = refl
-  var-after v (some (row i x k a b)) s = refl
+  var-after v None s = refl
+  var-after v (Some (row i x k a b)) s = refl
 
   name-after : (x : ℕ) (o : Option ℕ) (s : State) → use_name w x o (after l s) ≡ after l (use_name w x o s)
   unfolding use_name
-  name-after x (some v) s = refl
-  name-after x none s = say-after _ _ _
+  name-after x (Some v) s = refl
+  name-after x None s = say-after _ _ _
 
   visit-after : (hushed : Bool) (x : ℕ) (o : Option ℕ) (s : State) → visit w hushed x o (after l s) ≡ after l (visit w hushed x o s)
   unfolding visit
@@ -41,18 +41,18 @@ module _ (w : World) (l : List Event) where
 
   path-after : (o : Option ℕ) (s : State) → bind_path w o (after l s) ≡ after l (bind_path w o s)
   unfolding bind_path bind_anew
-  path-after none s = refl
-  path-after (some v) s = say-after _ _ _
+  path-after None s = refl
+  path-after (Some v) s = say-after _ _ _
 
   new-after : (o : Option ℕ) (x v k : ℕ) (s : State) → bind_new w o x v k (after l s) ≡ after l (bind_new w o x v k s)
   unfolding bind_new
-  new-after none x v k s = refl
-  new-after (some u) x v k s = refl
+  new-after None x v k s = refl
+  new-after (Some u) x v k s = refl
 
   elem-after : (k : ℕ) (o : Option ℕ) (s : State) → bind_elem w k o (after l s) ≡ after l (bind_elem w k o s)
   unfolding bind_elem
-  elem-after k none s = refl
-  elem-after k (some v) s = new-after _ _ v k s
+  elem-after k None s = refl
+  elem-after k (Some v) s = new-after _ _ v k s
 
   mutual
     unfolding resolve

@@ -5,7 +5,6 @@ use Prim.Native.Nat.{ℕ}
 use mathlib.Core.Path.{◌≡◌, refl}
 use mathlib.Core.Bool.{true}
 use mathlib.Core.List.{List, [], ◌∷◌}
-use mathlib.Core.Option.{none}
 use Rattle.words.specs.Words.{words}
 use Rattle.words.specs.Utf8.{is_utf8, goes_on, step, after}
 use Rattle.heads.specs.Got.{word_in, many, counted}
@@ -37,11 +36,11 @@ abbrev matching : (start stop first : ℕ) → Clause
 matching a b c = opening (match 0) a b (part None (elem 1 c b (Some 1) done end))
 
 abbrev returning : (start stop name : ℕ) → Clause
-returning a b x = return a b (projection none (unresolved x) ∷ []) unsorted
+returning a b x = return a b (projection None (unresolved x) ∷ []) unsorted
 
 -- these clauses before a WITH of the variable 1, and a Return after it
 abbrev cut_at : List Clause → (start stop : ℕ) → Clause → Cut
-cut_at before a b after = record { before = before; start = a; stop = b; projections = projection none (var 1) ∷ []; filter = done; keys = unsorted; after = after ∷ [] }
+cut_at before a b after = record { before = before; start = a; stop = b; projections = projection None (var 1) ∷ []; filter = done; keys = unsorted; after = after ∷ [] }
 
 -- the statement with these clauses and this arm, two names and a binding
 abbrev statement : Cut → Arm → ℕ → Statement

@@ -3,12 +3,12 @@
 -- (`resolves-I`). `keys-alike`: so a list behind in which nothing more is found, all bound up to n, makes no difference. `seen_in` is what
 -- bound pairs leave visible (`bound-seen`); `all_found`, `star-found`: what a star's WITH doesn't find was not visible before; `star-keys`:
 -- its sort keys need the new list alone.
+use Rattle.std.specs.Prelude.{Option, None, Some}
 use Prim.Native.Nat.{ℕ, suc, ◌≤◌, ◌<◌}
 use native.Mathlib.Omega.{arith}
 use mathlib.Core.Path.{◌≡◌, refl, sym, ◌∙◌, ap, ap₂, subst}
 use mathlib.Core.Bool.{Bool, true, false, cond, not, ◌&&◌, ◌||◌, or-false, true≢false}
 use mathlib.Core.List.{List, [], ◌∷◌, ◌++◌, reverse, reverse_aux}
-use mathlib.Core.Option.{Option, none, some}
 use lib.Dec.{T, eqb, eqb→eq}
 use Rattle.scope.specs.Graph.{comprehension_scope, root_scope, scope}
 use Rattle.expr.specs.Tree.{Expr, var, unresolved, node, predicate, comprehension, Exprs, done, more, mark, Steps, end, part, elem}
@@ -42,7 +42,7 @@ module _ (w : World) (n : ℕ) where
   enter-I k a b h = record {
     cur = ap suc h.last;
     last = ap suc h.last;
-    log = ap₂ (λ c l. open' (scope k (some c) a b) ∷ l) h.cur h.log;
+    log = ap₂ (λ c l. open' (scope k (Some c) a b) ∷ l) h.cur h.log;
     finds = h.finds;
     owns = h.owns;
     high = omega (arith, h.high);
@@ -57,21 +57,21 @@ module _ (w : World) (n : ℕ) where
         cur = h.cur;
         last = h.last;
         log = ap₂ ◌∷◌ (ap₂ (λ g c. bind false g (bound c x v k)) own h.cur) h.log;
-        finds = λ y. ap (cond (eqb y x) (some v)) (h.finds y);
+        finds = λ y. ap (cond (eqb y x) (Some v)) (h.finds y);
         owns = λ c y q. ap₂ (λ a b. eqb y x && eqb a c || b) h.cur (h.owns c y q);
         high = h.high;
       }
 
   var-I : (v : ℕ) (r : Option Row) {s t : State} → Indistinct n s t → Indistinct n (use_var w v r s) (use_var w v r t)
   unfolding use_var
-  var-I v none h = h
-  var-I v (some (row i x k a b)) h = say-I _ h
+  var-I v None h = h
+  var-I v (Some (row i x k a b)) h = say-I _ h
 
   visit-I : (hushed : Bool) (x : ℕ) (o : Option ℕ) {s t : State} → Indistinct n s t → Indistinct n (visit w hushed x o s) (visit w hushed x o t)
   unfolding visit use_name
   visit-I true x o h = h
-  visit-I false x (some v) h = say-I _ h
-  visit-I false x none h = say_if-I (not (w.is_star x)) _ (say-I _ h)
+  visit-I false x (Some v) h = say-I _ h
+  visit-I false x None h = say_if-I (not (w.is_star x)) _ (say-I _ h)
 
   anew-I : (a b x v k : ℕ) {s t : State} → n < t.cur → Indistinct n s t → Indistinct n (bind_anew w a b x v k s) (bind_anew w a b x v k t)
   unfolding bind_anew
@@ -82,32 +82,32 @@ module _ (w : World) (n : ℕ) where
 
   path-I : (o : Option ℕ) {s t : State} → n < t.cur → Indistinct n s t → Indistinct n (bind_path w o s) (bind_path w o t)
   unfolding bind_path
-  path-I none p h = h
-  path-I (some v) p h = anew-I 0 0 (name_of w v) v path_kind p h
+  path-I None p h = h
+  path-I (Some v) p h = anew-I 0 0 (name_of w v) v path_kind p h
 
   new-I : (o : Option ℕ) (x v k : ℕ) {s t : State} → n < t.cur → Indistinct n s t → Indistinct n (bind_new w o x v k s) (bind_new w o x v k t)
   unfolding bind_new
-  new-I none x v k p h = bind-I x v k p h
-  new-I (some u) x v k p h = h
+  new-I None x v k p h = bind-I x v k p h
+  new-I (Some u) x v k p h = h
 
   elem-I : (k : ℕ) (o : Option ℕ) {s t : State} → n < t.cur → Indistinct n s t → Indistinct n (bind_elem w k o s) (bind_elem w k o t)
   unfolding bind_elem
-  elem-I k none p h = h
-  elem-I k (some v) p h = rw (h.finds (name_of w v)) (new-I _ (name_of w v) v k p h)
+  elem-I k None p h = h
+  elem-I k (Some v) p h = rw (h.finds (name_of w v)) (new-I _ (name_of w v) v k p h)
 
   path-cur : (o : Option ℕ) (s : State) → (bind_path w o s).cur ≡ s.cur
   unfolding bind_path bind_anew
-  path-cur none s = refl
-  path-cur (some v) s = (say_if-keeps _ _ (bind_name (name_of w v) v path_kind s)).cur
+  path-cur None s = refl
+  path-cur (Some v) s = (say_if-keeps _ _ (bind_name (name_of w v) v path_kind s)).cur
 
   elem-cur : (k : ℕ) (o : Option ℕ) (s : State) → (bind_elem w k o s).cur ≡ s.cur
   unfolding bind_elem
-  elem-cur k none s = refl
-  elem-cur k (some v) s = new-cur (lookup (name_of w v) s.visible)
+  elem-cur k None s = refl
+  elem-cur k (Some v) s = new-cur (lookup (name_of w v) s.visible)
     where
       new-cur : (o : Option ℕ) → (bind_new w o (name_of w v) v k s).cur ≡ s.cur
-      new-cur none = unfold bind_new in refl
-      new-cur (some u) = unfold bind_new in refl
+      new-cur None = unfold bind_new in refl
+      new-cur (Some u) = unfold bind_new in refl
 
   mutual
     unfolding resolve
@@ -134,18 +134,18 @@ module _ (w : World) (n : ℕ) where
         pattern-I r (omega (arith, elem-cur k (variable v) t, (all_keep w es u).cur)) (resolves-I es (elem-I k (variable v) q h))
 
 -- A list behind another, in which nothing more is found, and nothing is bound above n.
-lookup-ahead : (x : ℕ) (A B : List Seen) → (lookup x A ≡ none → lookup x B ≡ none) → lookup x (A ++ B) ≡ lookup x A
+lookup-ahead : (x : ℕ) (A B : List Seen) → (lookup x A ≡ None → lookup x B ≡ None) → lookup x (A ++ B) ≡ lookup x A
 unfolding lookup
 lookup-ahead x [] B f = f refl
 lookup-ahead x (seen y v p ∷ A) B f = go (eqb x y) f (lookup-ahead x A B)
   where
-    go : (b : Bool) → (cond b (some v) (lookup x A) ≡ none → lookup x B ≡ none) → ((lookup x A ≡ none → lookup x B ≡ none) → lookup x (A ++ B) ≡ lookup x A)
-        → cond b (some v) (lookup x (A ++ B)) ≡ cond b (some v) (lookup x A)
+    go : (b : Bool) → (cond b (Some v) (lookup x A) ≡ None → lookup x B ≡ None) → ((lookup x A ≡ None → lookup x B ≡ None) → lookup x (A ++ B) ≡ lookup x A)
+        → cond b (Some v) (lookup x (A ++ B)) ≡ cond b (Some v) (lookup x A)
     go true g ih = refl
     go false g ih = ih g
 
 pub keys-alike : (w : World) (ks : Exprs) (s : State) (A B : List Seen) (c n : ℕ)
-    → ((x : ℕ) → lookup x A ≡ none → lookup x B ≡ none) → ((d x : ℕ) → n < d → binds d x B ≡ false) → n ≤ s.last
+    → ((x : ℕ) → lookup x A ≡ None → lookup x B ≡ None) → ((d x : ℕ) → n < d → binds d x B ≡ false) → n ≤ s.last
     → leave s (resolves w ks (standing (A ++ B) c s)) ≡ leave s (resolves w ks (standing A c s))
 keys-alike w ks s A B c n f g p =
     let h : Indistinct n (standing (A ++ B) c s) (standing A c s) = record {
@@ -175,12 +175,12 @@ bound-last w [] s = refl
 bound-last w (pair x v ∷ ps) s = bound-last w ps (bind_over true x v (kind_of w v) s)
 
 -- a name that is not found among bound pairs is none of theirs
-named-seen : (x c : ℕ) (ps : List Pair) (vis : List Seen) → lookup x (seen_in c ps vis) ≡ none → (named x ps ≡ false) × (lookup x vis ≡ none)
+named-seen : (x c : ℕ) (ps : List Pair) (vis : List Seen) → lookup x (seen_in c ps vis) ≡ None → (named x ps ≡ false) × (lookup x vis ≡ None)
 unfolding seen_in named lookup
 named-seen x c [] vis e = (refl, e)
 named-seen x c (pair y v ∷ ps) vis e = let h = named-seen x c ps (seen y v c ∷ vis) e in go (eqb x y) h.0 h.1
   where
-    go : (b : Bool) → named x ps ≡ false → cond b (some v) (lookup x vis) ≡ none → ((b || named x ps) ≡ false) × (lookup x vis ≡ none)
+    go : (b : Bool) → named x ps ≡ false → cond b (Some v) (lookup x vis) ≡ None → ((b || named x ps) ≡ false) × (lookup x vis ≡ None)
     go true p q = absurd (let z : ◌≡◌ {A = ℕ} 0 1 = cc in omega arith)
     go false p q = (p, q)
 
@@ -211,7 +211,7 @@ named-without x y (pair z v ∷ ps) e = go (eqb y z) refl (named-without x y ps 
     go false p ih = ap (◌||◌ (eqb x z)) ih
 
 -- each visible name is among the pairs of a star
-named-once : (x : ℕ) (vis : List Seen) → named x (once vis) ≡ false → lookup x vis ≡ none
+named-once : (x : ℕ) (vis : List Seen) → named x (once vis) ≡ false → lookup x vis ≡ None
 unfolding once named lookup
 named-once x [] e = refl
 named-once x (seen y v p ∷ vis) e =
@@ -219,11 +219,11 @@ named-once x (seen y v p ∷ vis) e =
     rw h.0 (named-once x vis (sym (named-without x y (once vis) h.0) ∙ h.1))
 
 -- whatever pairs come after them
-pub all_found : (vis : List Seen) (ps : List Pair) (c x : ℕ) → lookup x (seen_in c (reverse (once vis) ++ ps) []) ≡ none → lookup x vis ≡ none
+pub all_found : (vis : List Seen) (ps : List Pair) (c x : ℕ) → lookup x (seen_in c (reverse (once vis) ++ ps) []) ≡ None → lookup x vis ≡ None
 all_found vis ps c x h =
     named-once x vis (named-reverse x (once vis) [] (named-append x (reverse (once vis)) ps (named-seen x c (reverse (once vis) ++ ps) [] h).0)).0
 
-pub star-found : (w : World) (ps : List Projection) (vis : List Seen) (c x : ℕ) → any_star w ps ≡ true → lookup x (seen_in c (carried_by w ps vis) []) ≡ none → lookup x vis ≡ none
+pub star-found : (w : World) (ps : List Projection) (vis : List Seen) (c x : ℕ) → any_star w ps ≡ true → lookup x (seen_in c (carried_by w ps vis) []) ≡ None → lookup x vis ≡ None
 unfolding carried_by starred
 star-found w ps vis c x e h =
     all_found vis (projected w ps vis) c x (ap (λ (b : Bool). lookup x (seen_in c (cond b (reverse (once vis)) [] ++ projected w ps vis) [])) (sym e) ∙ h)

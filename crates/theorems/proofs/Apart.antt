@@ -1,12 +1,12 @@
 -- "Before and after a WITH" (`apart`): both statements are compared with one canonical run, the part without spans after a barrier that is
 -- scope 1, so no number is ever moved down. Moved gives the run, Placed its place in the lists. The sort keys see another list in each
 -- statement: of them the canonical run has the scopes alone, which Scopes gives.
+use Rattle.std.specs.Prelude.{None, Some}
 use Prim.Native.Nat.{ℕ, zero, suc}
 use native.Mathlib.Omega.{arith}
 use mathlib.Core.Path.{◌≡◌, refl, sym, ◌∙◌, ap, ap₂, subst}
 use mathlib.Core.Bool.{Bool, false, true≢false, false≢true}
 use mathlib.Core.List.{List, [], ◌∷◌, ◌++◌, map, map-append, reverse, Memᴰ}
-use mathlib.Core.Option.{none, some}
 use lib.ListN.{length, length-map, drop, get_or}
 use Rattle.words.specs.Fnv.{use_id}
 use Rattle.scope.specs.Graph.{Scope, scope, Entry, entry}
@@ -129,8 +129,8 @@ module _ {j : ℕ} {l c : List Event} (h : Like j l c) where
 
 number-scope : (j k : ℕ) (s : Scope) → number_scope (moved (suc (suc j)) (suc (suc k))) (number_scope (up j) s) ≡ number_scope (up k) s
 unfolding number_scope
-number-scope j k (scope t none a b) = refl
-number-scope j k (scope t (some p) a b) = ap (λ (n : ℕ). scope t (some n) a b) (moved_up j k p)
+number-scope j k (scope t None a b) = refl
+number-scope j k (scope t (Some p) a b) = ap (λ (n : ℕ). scope t (Some n) a b) (moved_up j k p)
 
 number-entry : (j k : ℕ) (e : Entry) → number_entry (moved (suc (suc j)) (suc (suc k))) (number_entry (up j) e) ≡ number_entry (up k) e
 unfolding number_entry
@@ -275,7 +275,7 @@ module _ (warns : Bool) (s₁ s₂ : Statement) where
 
     answer_eq : (i : ℕ) (a : Answer) → Memᴰ (write i a) (answers_in (part_log warns s₁ p₁)) → answer_for i (recorded warns s₁) ≡ answer_for i (recorded warns s₂)
     answer_eq i a m =
-        answer-from warns s₁ p₁ h.stands₁ i a m ∙ ap (λ (x : List Write). last_write i x none) answers-eq
+        answer-from warns s₁ p₁ h.stands₁ i a m ∙ ap (λ (x : List Write). last_write i x None) answers-eq
         ∙ sym (answer-from warns s₂ p₂ h.stands₂ i a (subst (λ (x : List Write). Memᴰ (write i a) x) answers-eq m))
 
   findings-eq : (p₁ p₂ : Site) → Agree warns s₁ s₂ p₁ p₂ → map blank_finding (part_findings warns s₁ p₁) ≡ map blank_finding (part_findings warns s₂ p₂)

@@ -1,9 +1,9 @@
 -- The kinds walk of a part without its spans finds the same, but for spans (`Bare`): `bare_e`, `bare_es`, `bare_s` of trees, `bare-kinds` of clauses.
+use Rattle.std.specs.Prelude.{Option, None, Some}
 use Prim.Native.Nat.{ℕ, suc}
 use mathlib.Core.Path.{◌≡◌, refl, ◌∙◌, ap₂}
 use mathlib.Core.Bool.{Bool, true, false, cond, ◌&&◌}
 use mathlib.Core.List.{List, [], ◌∷◌, ◌++◌, map, map-append}
-use mathlib.Core.Option.{Option, none, some}
 use lib.Dec.{eqb, leb}
 use Rattle.expr.specs.Tree.{Expr, var, unresolved, node, predicate, comprehension, Exprs, done, more, mark, Steps, end, part, elem}
 use Rattle.clauses.specs.Tree.{Clause, opening, reading, with', return, unwind, call, exprs, keys_of}
@@ -43,17 +43,17 @@ bare-type (listed c o) t = bare-cond (eqb t no_type) bare-nil bare-one
 
 bare-row : (c : Setting) (r : Option Row) → Bare (at_row c r) (at_row c r)
 unfolding at_row
-bare-row c none = bare-nil
-bare-row general (some (row i x k a b)) = bare-nil
-bare-row arithmetic (some (row i x k a b)) = bare-cond (eqb k value_kind) bare-nil bare-one
-bare-row property (some (row i x k a b)) = bare-cond (eqb k path_kind) bare-one bare-nil
-bare-row boolean (some (row i x k a b)) = bare-nil
-bare-row (listed d o) (some (row i x k a b)) = bare-cond (eqb k value_kind) bare-nil bare-one
+bare-row c None = bare-nil
+bare-row general (Some (row i x k a b)) = bare-nil
+bare-row arithmetic (Some (row i x k a b)) = bare-cond (eqb k value_kind) bare-nil bare-one
+bare-row property (Some (row i x k a b)) = bare-cond (eqb k path_kind) bare-one bare-nil
+bare-row boolean (Some (row i x k a b)) = bare-nil
+bare-row (listed d o) (Some (row i x k a b)) = bare-cond (eqb k value_kind) bare-nil bare-one
 
 bare-misplaced : (one want a b : ℕ) (r : Option Row) → Bare (misplaced one want a b r) (misplaced one want 0 0 r)
 unfolding misplaced
-bare-misplaced one want a b none = bare-nil
-bare-misplaced one want a b (some (row i x k c d)) = bare-cond (eqb k want) bare-nil bare-one
+bare-misplaced one want a b None = bare-nil
+bare-misplaced one want a b (Some (row i x k c d)) = bare-cond (eqb k want) bare-nil bare-one
 
 module _ (w : World) where
   mutual

@@ -1,12 +1,12 @@
 -- From a barrier lookup on the finished lists gives what is visible before its WITH, of the names that it carries (`barriers`): it is
 -- so when the barrier has carried its names, and all that is said later stands in scopes above.
+use Rattle.std.specs.Prelude.{None, Some}
 use Prim.Native.Nat.{ℕ, suc, ◌<◌}
 use native.Mathlib.Nat.{le_refl}
 use native.Mathlib.Omega.{arith}
 use mathlib.Core.Path.{◌≡◌, refl, ◌∙◌, ap}
 use mathlib.Core.Bool.{Bool, true, false, cond, ◌&&◌, ◌||◌}
 use mathlib.Core.List.{List, [], ◌∷◌, ◌++◌, map, reverse, reverse-cons, append_assoc}
-use mathlib.Core.Option.{none, some}
 use lib.Dec.{eqb, ltb, lt→ltb}
 use Rattle.scope.specs.Graph.{with_barrier, Scope, scope, Carried, carried}
 use Rattle.scope.specs.Lookup.{carries}
@@ -41,7 +41,7 @@ unfolding inside
 carried-in lo b [] h = nil
 carried-in lo b (pair x v ∷ cs) h = cons {e = carry (carried b x v)} (h, le_refl _) (carried-in lo b cs h)
 
-passes_on : (s p : ℕ) (g : Bool) (f : ℕ → Looked) → p < s → answer_at s none g (some p) f ≡ cond g (f p) nothing
+passes_on : (s p : ℕ) (g : Bool) (f : ℕ → Looked) → p < s → answer_at s None g (Some p) f ≡ cond g (f p) nothing
 unfolding answer_at
 passes_on s p true f h = rw (holds (ltb p s) (lt→ltb p s h)) refl
 passes_on s p false f h = refl
@@ -55,7 +55,7 @@ barrier-gives : (w : World) (a b : ℕ) (cs : List Pair) (x : ℕ) {t : State} �
 unfolding barrier newest named
 barrier-gives w a b cs x {t} h =
     let l = reverse t.log in
-    let o = open' (scope with_barrier (some t.cur) a b) in
+    let o = open' (scope with_barrier (Some t.cur) a b) in
     let m = map (carry_at (suc t.last)) cs in
     let e : reverse (barrier w a b cs t).log ≡ l ++ o ∷ m = carry-log w cs (enter with_barrier a b t) ∙ ap (λ z. z ++ m) (reverse-cons o t.log) ∙ append_assoc l (o ∷ []) m in
     ap (λ z. look z (suc t.last) x) e
@@ -63,7 +63,7 @@ barrier-gives w a b cs x {t} h =
     ∙ rw (no-binds (suc t.last) cs, carries_own (suc t.last) x cs)
     (passes_on (suc t.last) t.cur (named x cs) (λ q. look (l ++ o ∷ m) q x) (omega (arith, h.low)))
     ∙ ap (λ z. cond (named x cs) z nothing)
-    (look-stays l t.cur x (in-open (scope with_barrier (some t.cur) a b) (carried-in t.last (suc t.last) cs (le_refl _))) h.low (omega (arith, count h.fine, h.low)) ∙ shown h x)
+    (look-stays l t.cur x (in-open (scope with_barrier (Some t.cur) a b) (carried-in t.last (suc t.last) cs (le_refl _))) h.low (omega (arith, count h.fine, h.low)) ∙ shown h x)
 
 module _ (warns : Bool) (s : Statement) where
   before-A : (p : Site) → Shows [] [] (before warns s p)

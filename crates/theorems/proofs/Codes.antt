@@ -1,9 +1,9 @@
 -- The kinds walk gives no E1001 (`kinds-no-1001`): its codes are 2007, 2008 and 2011, and by the settings 5010 and 5011.
+use Rattle.std.specs.Prelude.{Option, None, Some}
 use Prim.Native.Nat.{ℕ, suc}
 use mathlib.Core.Path.{◌≡◌, refl}
 use mathlib.Core.Bool.{Bool, true, false, cond, ◌&&◌}
 use mathlib.Core.List.{List, [], ◌∷◌, ◌++◌, flat_map}
-use mathlib.Core.Option.{Option, none, some}
 use lib.Dec.{eqb, leb}
 use Rattle.heads.specs.declared.Form.{Form}
 use Rattle.heads.specs.declared.Form.TheVariants.{Leaf, Var, Unresolved, Prop, Two, Slice, Many, BinOp, UnaryOp, Case, IsNull, PatternPredicate, ListComprehension, PatternComprehension, ListPredicate, MapProjection}
@@ -78,17 +78,17 @@ no-type (listed c o) t h = no-cond (eqb t no_type) _ _ refl (rw h refl)
 
 no_row : (c : Setting) (r : Option Row) → Other c → No (at_row c r)
 unfolding at_row with_code coded flat_map
-no_row c none h = refl
-no_row general (some (row i x k a b)) h = refl
-no_row arithmetic (some (row i x k a b)) h = no-cond (eqb k value_kind) _ _ refl refl
-no_row property (some (row i x k a b)) h = no-cond (eqb k path_kind) _ _ refl refl
-no_row boolean (some (row i x k a b)) h = refl
-no_row (listed d o) (some (row i x k a b)) h = no-cond (eqb k value_kind) _ _ refl (rw h refl)
+no_row c None h = refl
+no_row general (Some (row i x k a b)) h = refl
+no_row arithmetic (Some (row i x k a b)) h = no-cond (eqb k value_kind) _ _ refl refl
+no_row property (Some (row i x k a b)) h = no-cond (eqb k path_kind) _ _ refl refl
+no_row boolean (Some (row i x k a b)) h = refl
+no_row (listed d o) (Some (row i x k a b)) h = no-cond (eqb k value_kind) _ _ refl (rw h refl)
 
 no-misplaced : (one want a b : ℕ) (r : Option Row) → No (misplaced one want a b r)
 unfolding misplaced with_code coded flat_map
-no-misplaced one want a b none = refl
-no-misplaced one want a b (some (row i x k c d)) = no-cond (eqb k want) _ _ refl refl
+no-misplaced one want a b None = refl
+no-misplaced one want a b (Some (row i x k c d)) = no-cond (eqb k want) _ _ refl refl
 
 no_none : No []
 unfolding with_code flat_map

@@ -4,12 +4,12 @@
 -- pieces, and from the second's scopes up, besides the third's, it has those of the second and the fourth; `puts-up`: renumbering goes
 -- through. `last_write` is the last answer written for a use id: `answer-only`, what the
 -- recorded list has for it; `answer-pieces`, that of the second piece if it writes one; `notes-append`, records in two pieces.
+use Rattle.std.specs.Prelude.{Option, None, Some}
 use Prim.Native.Nat.{ℕ, suc, ◌+◌, ◌≤◌, ◌<◌}
 use native.Mathlib.Omega.{arith}
 use mathlib.Core.Path.{◌≡◌, refl, sym, ◌∙◌, ap, ap₂, subst}
 use mathlib.Core.Bool.{Bool, true, false, cond, ◌&&◌}
 use mathlib.Core.List.{List, [], ◌∷◌, ◌++◌, map, append-nil, Memᴰ}
-use mathlib.Core.Option.{Option, none, some}
 use lib.Dec.{T, eqb, leb, ltb, eqb→eq, leb→le, le→leb, ltb→lt, lt→ltb}
 use Rattle.scope.specs.Graph.{carried, Entry, entry}
 use Rattle.semantics.specs.Log.{Answer, Bound, bound, Write, write, Event, open', bind, carry, answer, find, binds_in, logs}
@@ -22,25 +22,25 @@ use Rattle.theorems.proofs.Tests.{bool-ext, holds, eq→eqb, ne→eqb}
 -- Recorded: the last write counts.
 unfoldable pub last_write : ℕ → List Write → Option Answer → Option Answer
 last_write i [] d = d
-last_write i (write j b ∷ xs) d = last_write i xs (cond (eqb i j) (some b) d)
+last_write i (write j b ∷ xs) d = last_write i xs (cond (eqb i j) (Some b) d)
 
-answer-note : (i j : ℕ) (b : Answer) (ws : List Write) → answer_for i (note (write j b) ws) ≡ cond (eqb i j) (some b) (answer_for i ws)
+answer-note : (i j : ℕ) (b : Answer) (ws : List Write) → answer_for i (note (write j b) ws) ≡ cond (eqb i j) (Some b) (answer_for i ws)
 unfolding answer_for note
 answer-note i j b [] = refl
 answer-note i j b (write h a ∷ ws) = go (eqb j h) refl (answer-note i j b ws)
   where
-    skip : (x y : Bool) (r : Option Answer) → (T x → T y → ⊥) → cond y (some a) (cond x (some b) r) ≡ cond x (some b) (cond y (some a) r)
+    skip : (x y : Bool) (r : Option Answer) → (T x → T y → ⊥) → cond y (Some a) (cond x (Some b) r) ≡ cond x (Some b) (cond y (Some a) r)
     skip true true r f = absurd (f tt tt)
     skip true false r f = refl
     skip false true r f = refl
     skip false false r f = refl
 
-    same : (x y : Bool) (r : Option Answer) → x ≡ y → cond x (some b) r ≡ cond x (some b) (cond y (some a) r)
+    same : (x y : Bool) (r : Option Answer) → x ≡ y → cond x (Some b) r ≡ cond x (Some b) (cond y (Some a) r)
     same true y r e = refl
     same false y r e = rw (← e) refl
 
-    go : (t : Bool) → eqb j h ≡ t → answer_for i (note (write j b) ws) ≡ cond (eqb i j) (some b) (answer_for i ws)
-        → answer_for i (cond t (write j b ∷ ws) (write h a ∷ note (write j b) ws)) ≡ cond (eqb i j) (some b) (cond (eqb i h) (some a) (answer_for i ws))
+    go : (t : Bool) → eqb j h ≡ t → answer_for i (note (write j b) ws) ≡ cond (eqb i j) (Some b) (answer_for i ws)
+        → answer_for i (cond t (write j b ∷ ws) (write h a ∷ note (write j b) ws)) ≡ cond (eqb i j) (Some b) (cond (eqb i h) (Some a) (answer_for i ws))
     go true e ih = same (eqb i j) (eqb i h) (answer_for i ws) (ap (eqb i) (eqb→eq j h (subst T (sym e) tt)))
     go false e ih = rw ih (skip (eqb i j) (eqb i h) (answer_for i ws) (λ x y. subst T e (eq→eqb j h (sym (eqb→eq i j x) ∙ eqb→eq i h y))))
 
@@ -49,7 +49,7 @@ unfolding notes last_write
 answer-notes i [] ws = refl
 answer-notes i (write j b ∷ xs) ws = answer-notes i xs (note (write j b) ws) ∙ ap (last_write i xs) (answer-note i j b ws)
 
-pub answer-only : (i : ℕ) (xs : List Write) → answer_for i (notes xs []) ≡ last_write i xs none
+pub answer-only : (i : ℕ) (xs : List Write) → answer_for i (notes xs []) ≡ last_write i xs None
 unfolding answer_for
 answer-only i xs = answer-notes i xs []
 
@@ -61,7 +61,7 @@ notes-append (x ∷ xs) ys ws = notes-append xs ys (note x ws)
 last-append : (i : ℕ) (xs ys : List Write) (d : Option Answer) → last_write i (xs ++ ys) d ≡ last_write i ys (last_write i xs d)
 unfolding last_write
 last-append i [] ys d = refl
-last-append i (write j b ∷ xs) ys d = last-append i xs ys (cond (eqb i j) (some b) d)
+last-append i (write j b ∷ xs) ys d = last-append i xs ys (cond (eqb i j) (Some b) d)
 
 -- What comes before a list that writes i does not matter.
 last_written : (i : ℕ) (a : Answer) {xs : List Write} → Memᴰ (write i a) xs → (d e : Option Answer) → last_write i xs d ≡ last_write i xs e
@@ -69,11 +69,11 @@ unfolding last_write
 last_written i a (Memᴰ.head {x = write j b} p) d e =
     let q : i ≡ j = cc in
     rw (bool-ext (eqb i j) true (λ t. tt) (λ t. eq→eqb i j q)) refl
-last_written i a (Memᴰ.tail {x = write j b} m) d e = last_written i a m (cond (eqb i j) (some b) d) (cond (eqb i j) (some b) e)
+last_written i a (Memᴰ.tail {x = write j b} m) d e = last_written i a m (cond (eqb i j) (Some b) d) (cond (eqb i j) (Some b) e)
 
 -- The answer for an id that the second piece writes.
-pub answer-pieces : (i : ℕ) (a : Answer) (xs ys : List Write) → Memᴰ (write i a) ys → answer_for i (notes (xs ++ ys) []) ≡ last_write i ys none
-answer-pieces i a xs ys m = answer-notes i (xs ++ ys) [] ∙ last-append i xs ys (answer_for i []) ∙ last_written i a m (last_write i xs (answer_for i [])) none
+pub answer-pieces : (i : ℕ) (a : Answer) (xs ys : List Write) → Memᴰ (write i a) ys → answer_for i (notes (xs ++ ys) []) ≡ last_write i ys None
+answer-pieces i a xs ys m = answer-notes i (xs ++ ys) [] ∙ last-append i xs ys (answer_for i []) ∙ last_written i a m (last_write i xs (answer_for i [])) None
 
 -- Bindings: two pieces whose scopes do not meet.
 abbrev pub scope_in : ℕ → ℕ → Entry → Type 0
@@ -85,11 +85,11 @@ pub data Ranged (lo hi : ℕ) : List Entry → Type 0 where
 
 put-ranged : {lo hi : ℕ} (s x v k : ℕ) {es : List Entry} → lo < s → s ≤ hi → Ranged lo hi es → Ranged lo hi (put (bound s x v k) es)
 unfolding put
-put-ranged s x v k a b none' = more' {e = entry s x v k none} (a, b) none'
+put-ranged s x v k a b none' = more' {e = entry s x v k None} (a, b) none'
 put-ranged {lo} {hi} s x v k a b (more' {e = entry t y u j r} {es = es} h p) = go (eqb s t && eqb x y) (put-ranged s x v k a b p)
   where
-    go : (c : Bool) → Ranged lo hi (put (bound s x v k) es) → Ranged lo hi (cond c (entry s x v k (some u) ∷ es) (entry t y u j r ∷ put (bound s x v k) es))
-    go true q = more' {e = entry s x v k (some u)} (a, b) p
+    go : (c : Bool) → Ranged lo hi (put (bound s x v k) es) → Ranged lo hi (cond c (entry s x v k (Some u) ∷ es) (entry t y u j r ∷ put (bound s x v k) es))
+    go true q = more' {e = entry s x v k (Some u)} (a, b) p
     go false q = more' {e = entry t y u j r} h q
 
 -- All bindings of a log lie where the log is within.
@@ -224,8 +224,8 @@ put_up m (bound s x v k) [] = refl
 put_up m (bound s x v k) (entry t y u j r ∷ es) = rw (eqb-up m s t) (go (eqb s t && eqb x y) (put_up m (bound s x v k) es))
   where
     go : (c : Bool) → put (bound (up m s) x v k) (map (number_entry (up m)) es) ≡ map (number_entry (up m)) (put (bound s x v k) es)
-        → cond c (entry (up m s) x v k (some u) ∷ map (number_entry (up m)) es) (entry (up m t) y u j r ∷ put (bound (up m s) x v k) (map (number_entry (up m)) es))
-        ≡ map (number_entry (up m)) (cond c (entry s x v k (some u) ∷ es) (entry t y u j r ∷ put (bound s x v k) es))
+        → cond c (entry (up m s) x v k (Some u) ∷ map (number_entry (up m)) es) (entry (up m t) y u j r ∷ put (bound (up m s) x v k) (map (number_entry (up m)) es))
+        ≡ map (number_entry (up m)) (cond c (entry s x v k (Some u) ∷ es) (entry t y u j r ∷ put (bound s x v k) es))
     go true ih = refl
     go false ih = ap (◌∷◌ (entry (up m t) y u j r)) ih
 

@@ -1,9 +1,9 @@
 -- The lookup that also gives the scope is, without it, the lookup that hosts call (`forgets`).
+use Rattle.std.specs.Prelude.{Option, None, Some}
 use Prim.Native.Nat.{ℕ, zero, suc}
 use mathlib.Core.Path.{◌≡◌, refl, ap, ◌∙◌}
 use mathlib.Core.Bool.{Bool, true, false, cond}
 use mathlib.Core.List.{List}
-use mathlib.Core.Option.{Option, none, some}
 use lib.Dec.{ltb}
 use lib.ListN.{length}
 use Rattle.scope.specs.Graph.{Scope, Entry, Carried}
@@ -22,10 +22,10 @@ forget-cond false l m = refl
 
 forget-answer : (s : ℕ) (b : Option ℕ) (goes_on : Bool) (p : Option ℕ) (f : ℕ → Looked) → forget (answer_at s b goes_on p f) ≡ host.answer_at s b goes_on p (λ q. forget (f q))
 unfolding forget answer_at host.answer_at
-forget-answer s (some v) goes_on p f = refl
-forget-answer s none false p f = refl
-forget-answer s none true none f = refl
-forget-answer s none true (some p) f = forget-cond (ltb p s) (f p) (refused 9)
+forget-answer s (Some v) goes_on p f = refl
+forget-answer s None false p f = refl
+forget-answer s None true None f = refl
+forget-answer s None true (Some p) f = forget-cond (ltb p s) (f p) (refused 9)
 
 module _ (scopes : List Scope) (bindings : List Entry) (carried_list : List Carried) where
   forget-climb : (steps s x : ℕ) → forget (climb scopes bindings carried_list steps s x) ≡ host.climb scopes bindings carried_list steps s x

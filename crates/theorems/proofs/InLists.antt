@@ -1,11 +1,11 @@
 -- Where a WITH and its part stand in the lists: each list is a view of the log, which is what is said before the new Root, by it, by the
 -- sort keys and by the rest (`split`), and a view of pieces is that of each after the other. `in-lists` says it of every WITH.
+use Rattle.std.specs.Prelude.{Some}
 use Prim.Native.Nat.{ℕ}
 use native.Mathlib.Omega.{arith}
 use mathlib.Core.Path.{◌≡◌, refl, sym, ◌∙◌, ap}
 use mathlib.Core.Bool.{Bool}
 use mathlib.Core.List.{List, [], ◌∷◌, ◌++◌, map, reverse, reverse_aux-eq, append_assoc, append-nil}
-use mathlib.Core.Option.{some}
 use lib.ListN.{length, length-append}
 use Rattle.scope.specs.Graph.{with_barrier, scope}
 use Rattle.clauses.specs.Tree.{Clause, with'}
@@ -40,14 +40,14 @@ carries-scopes b [] = refl
 carries-scopes b (pair x v ∷ cs) = carries-scopes b cs
 
 barrier-scope : (w : World) (a b : ℕ) (cs : List Pair) (s : State)
-    → scopes_in (reverse (barrier w a b cs s).log) ≡ scopes_in (reverse s.log) ++ scope with_barrier (some s.cur) a b ∷ []
+    → scopes_in (reverse (barrier w a b cs s).log) ≡ scopes_in (reverse s.log) ++ scope with_barrier (Some s.cur) a b ∷ []
 unfolding barrier
 barrier-scope w a b cs s =
     let t = enter with_barrier a b s in
     ap scopes_in (carry-log w cs t) ∙ scopes-append (reverse t.log) (map (carry_at t.cur) cs)
     ∙ ap (λ l. scopes_in (reverse t.log) ++ l) (carries-scopes t.cur cs)
-    ∙ append-nil _ ∙ ap scopes_in (reverse_aux-eq s.log (open' (scope with_barrier (some s.cur) a b) ∷ []))
-    ∙ scopes-append (reverse s.log) (open' (scope with_barrier (some s.cur) a b) ∷ []) ∙ unfold logs in refl
+    ∙ append-nil _ ∙ ap scopes_in (reverse_aux-eq s.log (open' (scope with_barrier (Some s.cur) a b) ∷ []))
+    ∙ scopes-append (reverse s.log) (open' (scope with_barrier (Some s.cur) a b) ∷ []) ∙ unfold logs in refl
 
 module _ (warns : Bool) (s : Statement) where
   -- the new Root finds nothing
@@ -68,7 +68,7 @@ module _ (warns : Bool) (s : Statement) where
 
   -- the barrier is the last scope before the new Root
   barrier-last : (p : Site) → scopes_in (pre_log warns s p)
-      ≡ scopes_in (reverse (resolved warns s p).log) ++ scope with_barrier (some (resolved warns s p).cur) (cut_of p).start (cut_of p).stop ∷ []
+      ≡ scopes_in (reverse (resolved warns s p).log) ++ scope with_barrier (Some (resolved warns s p).cur) (cut_of p).start (cut_of p).stop ∷ []
   unfolding pre_log at_barrier
   barrier-last p = barrier-scope (world_of warns s) _ _ (pairs warns s p) (resolved warns s p)
 

@@ -2,13 +2,13 @@
 -- in the end it has the names of its pattern, else what its parent has. The finished log is at hand: `Ends` says what of it is still to come
 -- (it goes on from here, and binds in no scope up to here but those that patterns around are still in; `ends-back`, `ends-Es`, `ends-S` say it
 -- of an earlier state), `Owns` what a pattern's scope binds. `not_in`, `all_le`: scopes that may still be bound in, and that all were opened.
+use Rattle.std.specs.Prelude.{Option, None, Some}
 use Prim.Native.Nat.{ℕ, suc, ◌≤◌, ◌<◌}
 use native.Mathlib.Nat.{le_refl}
 use native.Mathlib.Omega.{arith}
 use mathlib.Core.Path.{◌≡◌, refl, sym, ◌∙◌, ap, ap₂}
 use mathlib.Core.Bool.{Bool, true, false, cond, ◌&&◌}
 use mathlib.Core.List.{List, [], ◌∷◌, ◌++◌, reverse, reverse-cons, reverse-append, append_assoc}
-use mathlib.Core.Option.{Option, none, some}
 use lib.Dec.{eqb, ltb, lt→ltb}
 use Rattle.scope.specs.Graph.{comprehension_scope, Scope, scope}
 use Rattle.semantics.specs.Lookup.{Looked, at, nothing, answer_at}
@@ -30,10 +30,10 @@ use Rattle.theorems.proofs.Tests.{holds, ne→eqb, eqb_same, eqb_comm}
 
 -- a scope's own binding as lookup gives it
 abbrev as_looked : ℕ → Option ℕ → Looked
-as_looked c none = nothing
-as_looked c (some v) = at v c
+as_looked c None = nothing
+as_looked c (Some v) = at v c
 
-looked-cond : (c v : ℕ) (b : Bool) (o : Option ℕ) → as_looked c (cond b (some v) o) ≡ cond b (at v c) (as_looked c o)
+looked-cond : (c v : ℕ) (b : Bool) (o : Option ℕ) → as_looked c (cond b (Some v) o) ≡ cond b (at v c) (as_looked c o)
 looked-cond c v true o = refl
 looked-cond c v false o = refl
 
@@ -60,10 +60,10 @@ unfolding all_le not_in
 above-all [] m a = tt
 above-all (o ∷ os) m a = (λ e. omega (arith, a.0), above-all os m a.1)
 
-answer-parent : (s p : ℕ) (o : Option ℕ) (f : ℕ → Looked) → p < s → answer_at s o true (some p) f ≡ or_parent (as_looked s o) (f p)
+answer-parent : (s p : ℕ) (o : Option ℕ) (f : ℕ → Looked) → p < s → answer_at s o true (Some p) f ≡ or_parent (as_looked s o) (f p)
 unfolding answer_at or_parent
-answer-parent s p (some v) f h = refl
-answer-parent s p none f h = rw (holds (ltb p s) (lt→ltb p s h)) refl
+answer-parent s p (Some v) f h = refl
+answer-parent s p None f h = rw (holds (ltb p s) (lt→ltb p s h)) refl
 
 -- a run that binds only in scopes above
 above : (f : State → State) (s : State) {hi : ℕ} → f s ≡ after s.log (f (silent s)) → Within s.last hi (f (silent s)).log → (n : ℕ) (x : ℕ) (d : Option ℕ) → n ≤ s.last
@@ -80,7 +80,7 @@ quiet-find n x d true f s = ap (λ l. newest n x (binds_in l) d) (reverse-cons (
 quiet-find n x d false f s = refl
 
 one-bind : (n : ℕ) (x : ℕ) (d : Option ℕ) (y : ℕ) (v k : ℕ) (s : State)
-    → binds_of n x (bind_name y v k s).log d ≡ cond (eqb s.cur n && eqb y x) (some v) (binds_of n x s.log d)
+    → binds_of n x (bind_name y v k s).log d ≡ cond (eqb s.cur n && eqb y x) (Some v) (binds_of n x s.log d)
 one-bind n x d y v k s =
     let g = binds s.cur y s.visible in
     ap (λ l. newest n x (binds_in l) d) (reverse-cons (bind false g (bound s.cur y v k)) s.log) ∙ rw (binds-append (reverse s.log) (bind false g (bound s.cur y v k) ∷ []), newest-append) (unfold logs newest in refl)
@@ -96,7 +96,7 @@ bind-clear n y v k s h = record { same = λ x d. one-bind n x d y v k s ∙ rw (
 record Owns (c : ℕ) (base : List Seen) (s : State) : Type 0 where
   pub own : List Seen
   pub adds : s.visible ≡ own ++ base
-  pub owns : (x : ℕ) → as_looked c (binds_of c x s.log none) ≡ seen_as x own
+  pub owns : (x : ℕ) → as_looked c (binds_of c x s.log None) ≡ seen_as x own
 
 bind-O : {c : ℕ} {base : List Seen} (y v k : ℕ) (s : State) → s.cur ≡ c → Owns c base s → Owns c base (bind_name y v k s)
 unfolding seen_as
@@ -104,19 +104,19 @@ bind-O {c} y v k s e h = record {
   own = seen y v s.cur ∷ h.own;
   adds = ap (◌∷◌ (seen y v s.cur)) h.adds;
   owns = λ x.
-      ap (as_looked c) (one-bind c x none y v k s)
-      ∙ rw (e, eqb_same c, eqb_comm y x) (looked-cond c v (eqb x y) (binds_of c x s.log none) ∙ ap (cond (eqb x y) (at v c)) (h.owns x));
+      ap (as_looked c) (one-bind c x None y v k s)
+      ∙ rw (e, eqb_same c, eqb_comm y x) (looked-cond c v (eqb x y) (binds_of c x s.log None) ∙ ap (cond (eqb x y) (at v c)) (h.owns x));
 }
 
 find-O : {c : ℕ} {base : List Seen} (b : Bool) (f : Finding) (s : State) → Owns c base s → Owns c base (say_if b (find f) s)
-find-O {c} b f s h = record { own = h.own; adds = (say_if-keeps b (find f) s).visible ∙ h.adds; owns = λ x. ap (as_looked c) (quiet-find c x none b f s) ∙ h.owns x }
+find-O {c} b f s h = record { own = h.own; adds = (say_if-keeps b (find f) s).visible ∙ h.adds; owns = λ x. ap (as_looked c) (quiet-find c x None b f s) ∙ h.owns x }
 
 -- a scope that is just opened binds nothing
-fresh-none : (a b : ℕ) (s : State) (x : ℕ) → Well 0 0 s → binds_of (suc s.last) x (enter comprehension_scope a b s).log none ≡ none
+fresh-none : (a b : ℕ) (s : State) (x : ℕ) → Well 0 0 s → binds_of (suc s.last) x (enter comprehension_scope a b s).log None ≡ None
 fresh-none a b s x f =
-    let o = open' (scope comprehension_scope (some s.cur) a b) in
-    ap (λ l. newest (suc s.last) x (binds_in l) none) (reverse-cons o s.log)
-    ∙ rw (binds-append (reverse s.log) (o ∷ []), newest-append) (unfold logs newest in newest-out (over (le_refl _)) (within-reverse f.within nil) x none)
+    let o = open' (scope comprehension_scope (Some s.cur) a b) in
+    ap (λ l. newest (suc s.last) x (binds_in l) None) (reverse-cons o s.log)
+    ∙ rw (binds-append (reverse s.log) (o ∷ []), newest-append) (unfold logs newest in newest-out (over (le_refl _)) (within-reverse f.within nil) x None)
 
 fresh-O : (a b : ℕ) (s : State) → Well 0 0 s → Owns (suc s.last) s.visible (enter comprehension_scope a b s)
 unfolding seen_as
@@ -126,25 +126,25 @@ no-bind : (sc : Scope) (m : List Event) → binds_in (open' sc ∷ m) ≡ binds_
 unfolding logs
 no-bind sc m = refl
 
-later-binds : (n x : ℕ) {last : ℕ} (l m : List Event) (sc : Scope) → last < n → Within 0 last l → newest n x (binds_in (l ++ open' sc ∷ m)) none ≡ newest n x (binds_in m) none
-later-binds n x l m sc h p = rw (binds-append l (open' sc ∷ m), newest-append, newest-out (over h) p x none, no-bind sc m) refl
+later-binds : (n x : ℕ) {last : ℕ} (l m : List Event) (sc : Scope) → last < n → Within 0 last l → newest n x (binds_in (l ++ open' sc ∷ m)) None ≡ newest n x (binds_in m) None
+later-binds n x l m sc h p = rw (binds-append l (open' sc ∷ m), newest-append, newest-out (over h) p x None, no-bind sc m) refl
 
 -- a pattern's steps
 module _ (w : World) where
   path-clear : (n : ℕ) (o : Option ℕ) (s : State) → (n ≡ s.cur → ⊥) → Clear n s (bind_path w o s)
   unfolding bind_path bind_anew
-  path-clear n none s h = record { same = λ x d. refl }
-  path-clear n (some v) s h = record { same = λ x d. quiet-find n x d _ _ (bind_name (name_of w v) v path_kind s) ∙ (bind-clear n (name_of w v) v path_kind s h).same x d }
+  path-clear n None s h = record { same = λ x d. refl }
+  path-clear n (Some v) s h = record { same = λ x d. quiet-find n x d _ _ (bind_name (name_of w v) v path_kind s) ∙ (bind-clear n (name_of w v) v path_kind s h).same x d }
 
   new-clear : (n : ℕ) (o : Option ℕ) (y : ℕ) (v k : ℕ) (s : State) → (n ≡ s.cur → ⊥) → Clear n s (bind_new w o y v k s)
   unfolding bind_new
-  new-clear n none y v k s h = bind-clear n y v k s h
-  new-clear n (some u) y v k s h = record { same = λ x d. refl }
+  new-clear n None y v k s h = bind-clear n y v k s h
+  new-clear n (Some u) y v k s h = record { same = λ x d. refl }
 
   elem-clear : (n k : ℕ) (o : Option ℕ) (s : State) → (n ≡ s.cur → ⊥) → Clear n s (bind_elem w k o s)
   unfolding bind_elem
-  elem-clear n k none s h = record { same = λ x d. refl }
-  elem-clear n k (some v) s h = new-clear n (lookup (name_of w v) s.visible) (name_of w v) v k s h
+  elem-clear n k None s h = record { same = λ x d. refl }
+  elem-clear n k (Some v) s h = new-clear n (lookup (name_of w v) s.visible) (name_of w v) v k s h
 
   es-clear : (n : ℕ) (es : Exprs) (s : State) → n ≤ s.last → Clear n s (resolves w es s)
   es-clear n es s h = record { same = λ x d. above (resolves w es) s (resolves-after w s.log es (silent s)) (resolves-W w s.last (suc s.last) es (silent-W s.last s refl)).fine.within n x d h }
@@ -165,21 +165,21 @@ module _ (w : World) where
 
   path-O : {c : ℕ} {base : List Seen} (o : Option ℕ) (s : State) → s.cur ≡ c → Owns c base s → Owns c base (bind_path w o s)
   unfolding bind_path bind_anew
-  path-O none s e h = h
-  path-O (some v) s e h = find-O _ _ (bind_name (name_of w v) v path_kind s) (bind-O (name_of w v) v path_kind s e h)
+  path-O None s e h = h
+  path-O (Some v) s e h = find-O _ _ (bind_name (name_of w v) v path_kind s) (bind-O (name_of w v) v path_kind s e h)
 
   new-O : {c : ℕ} {base : List Seen} (o : Option ℕ) (y : ℕ) (v k : ℕ) (s : State) → s.cur ≡ c → Owns c base s → Owns c base (bind_new w o y v k s)
   unfolding bind_new
-  new-O none y v k s e h = bind-O y v k s e h
-  new-O (some u) y v k s e h = h
+  new-O None y v k s e h = bind-O y v k s e h
+  new-O (Some u) y v k s e h = h
 
   elem-O : {c : ℕ} {base : List Seen} (k : ℕ) (o : Option ℕ) (s : State) → s.cur ≡ c → Owns c base s → Owns c base (bind_elem w k o s)
   unfolding bind_elem
-  elem-O k none s e h = h
-  elem-O k (some v) s e h = new-O (lookup (name_of w v) s.visible) (name_of w v) v k s e h
+  elem-O k None s e h = h
+  elem-O k (Some v) s e h = new-O (lookup (name_of w v) s.visible) (name_of w v) v k s e h
 
   es-O : {c : ℕ} {base : List Seen} (es : Exprs) (s : State) → c ≤ s.last → Owns c base s → Owns c base (resolves w es s)
-  es-O {c} es s l h = record { own = h.own; adds = (all_keep w es s).visible ∙ h.adds; owns = λ x. ap (as_looked c) ((es-clear c es s l).same x none) ∙ h.owns x }
+  es-O {c} es s l h = record { own = h.own; adds = (all_keep w es s).visible ∙ h.adds; owns = λ x. ap (as_looked c) ((es-clear c es s l).same x None) ∙ h.owns x }
 
   pattern-O : (q : Steps) {c : ℕ} {base : List Seen} {s : State} → s.cur ≡ c → 0 < c → c ≤ s.last → Well 0 0 s → Owns c base s → Owns c base (bind_pattern w q s)
   unfolding bind_pattern
@@ -254,7 +254,7 @@ module _ (L : List Event) (w : World) where
       let pre = (ends-S q t (omega arith) (le_refl _) ft e).pre in
       let l = reverse s.log in
       let m = reverse pre.rest in
-      let ev = open' (scope comprehension_scope (some s.cur) a b) in
+      let ev = open' (scope comprehension_scope (Some s.cur) a b) in
       let c = cut L ev s.log pre in
       record {
         low = h.low;
@@ -267,10 +267,10 @@ module _ (L : List Event) (w : World) where
         splits = h.splits;
         around = λ x. h.gives x (unfold named in refl);
         inside = λ x.
-            let mine : binds_of n x L none ≡ newest n x (binds_in m) none
-            = ap (λ z. newest n x (binds_in z) none) c ∙ later-binds n x l m (scope comprehension_scope (some s.cur) a b) (le_refl _) (within-reverse h.fine.within nil) in
+            let mine : binds_of n x L None ≡ newest n x (binds_in m) None
+            = ap (λ z. newest n x (binds_in z) None) c ∙ later-binds n x l m (scope comprehension_scope (Some s.cur) a b) (le_refl _) (within-reverse h.fine.within nil) in
             ap (λ z. look z n x) c
             ∙ look-open l m s.last comprehension_scope s.cur a b x (within-reverse h.fine.within nil) (count h.fine)
-            ∙ answer-parent n s.cur (newest n x (binds_in m) none) (λ p. look (l ++ ev ∷ m) p x) (omega (arith, h.low))
-            ∙ ap₂ or_parent (ap (as_looked n) (sym mine ∙ e.clear n x none g.later (above-all os s.last low)) ∙ o.owns x) (ap (λ z. look z s.cur x) (sym c));
+            ∙ answer-parent n s.cur (newest n x (binds_in m) None) (λ p. look (l ++ ev ∷ m) p x) (omega (arith, h.low))
+            ∙ ap₂ or_parent (ap (as_looked n) (sym mine ∙ e.clear n x None g.later (above-all os s.last low)) ∙ o.owns x) (ap (λ z. look z s.cur x) (sym c));
       }

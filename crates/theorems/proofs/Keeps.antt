@@ -1,8 +1,8 @@
 -- An expression leaves what is visible and current as it was: `keeps` of one, `all_keep` of several, `say_if-keeps` of an event.
+use Rattle.std.specs.Prelude.{Option, None, Some}
 use Prim.Native.Nat.{ℕ}
 use mathlib.Core.Path.{◌≡◌, refl, ◌∙◌}
 use mathlib.Core.Bool.{Bool, true, false, not}
-use mathlib.Core.Option.{Option, none, some}
 use Rattle.expr.specs.Tree.{Expr, var, unresolved, node, predicate, comprehension, Exprs, done, more, mark}
 use Rattle.tables.specs.Row.{Row, row}
 use Rattle.semantics.specs.Log.{Event}
@@ -24,13 +24,13 @@ say_if-keeps false e s = record { visible = refl; cur = refl }
 module _ (w : World) where
   var-keeps : (v : ℕ) (r : Option Row) (s : State) → Keeps s (use_var w v r s)
   unfolding use_var
-  var-keeps v none s = record { visible = refl; cur = refl }
-  var-keeps v (some (row i x k a b)) s = record { visible = refl; cur = refl }
+  var-keeps v None s = record { visible = refl; cur = refl }
+  var-keeps v (Some (row i x k a b)) s = record { visible = refl; cur = refl }
 
   name-keeps : (x : ℕ) (o : Option ℕ) (s : State) → Keeps s (use_name w x o s)
   unfolding use_name
-  name-keeps x (some v) s = record { visible = refl; cur = refl }
-  name-keeps x none s = let k = say_if-keeps (not (w.is_star x)) _ _ in record { visible = k.visible; cur = k.cur }
+  name-keeps x (Some v) s = record { visible = refl; cur = refl }
+  name-keeps x None s = let k = say_if-keeps (not (w.is_star x)) _ _ in record { visible = k.visible; cur = k.cur }
 
   visit-keeps : (b : Bool) (x : ℕ) (o : Option ℕ) (s : State) → Keeps s (visit w b x o s)
   unfolding visit

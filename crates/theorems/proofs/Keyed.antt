@@ -2,12 +2,12 @@
 -- WITH a ORDER BY [(b) | b], b` agree (`agreeing-keys`), but the keys see b in the first half of the one alone. In the other the
 -- comprehension's scope binds it, and the name after it is not found (`left_out`, computed). So with these scopes the bindings would not be
 -- the same (`besides-needed`).
+use Rattle.std.specs.Prelude.{None, Some}
 use Prim.Native.Nat.{ℕ}
 use native.Mathlib.Omega.{arith}
 use mathlib.Core.Path.{◌≡◌, refl}
 use mathlib.Core.Bool.{true, false}
 use mathlib.Core.List.{[], ◌∷◌, map}
-use mathlib.Core.Option.{none, some}
 use Rattle.words.specs.Fnv.{use_id, fnv1_of, fnv_from, fnv_step}
 use Rattle.expr.specs.Tree.{var, comprehension, done, more, Steps}
 use Rattle.expr.specs.Erase.{erase_e}
@@ -30,7 +30,7 @@ sorted_after second =
       before = opening (match 0) 0 1 node_a ∷ opening (match 0) 1 2 second ∷ [];
       start = 2;
       stop = 3;
-      projections = projection none (var 1) ∷ [];
+      projections = projection None (var 1) ∷ [];
       filter = done;
       keys = sorted (more (comprehension 3 4 node_b (more name_b done)) (more name_b done));
       after = [];
@@ -47,9 +47,9 @@ unfolding small node_a node_b name_b erase_e erase_c erase_a logs walk lists sit
 agreeing-keys = record { stands₁ = refl; stands₂ = refl; sort = refl; names = refl; table = refl; carried = refl; keys = refl; clauses = refl; arms = refl }
 
 pub left_out : (keys_log true (statement node_b) (site node_b)
-    ≡ open' (scope 9 (some 4) 3 4) ∷ answer (write 0xFAF3A282 (found 2 1 0)) ∷ answer (write 0xFAF3A282 (found 2 1 0)) ∷ [])
+    ≡ open' (scope 9 (Some 4) 3 4) ∷ answer (write 0xFAF3A282 (found 2 1 0)) ∷ answer (write 0xFAF3A282 (found 2 1 0)) ∷ [])
     × (keys_log true (statement node_a) (site node_a)
-    ≡ open' (scope 9 (some 4) 3 4) ∷ bind false false (bound 5 1 2 1) ∷ answer (write 0xFAF3A282 (found 2 1 0)) ∷ answer (write 0xFAF3A282 missing) ∷ find (finding 1001 0 0 2 0 0) ∷ [])
+    ≡ open' (scope 9 (Some 4) 3 4) ∷ bind false false (bound 5 1 2 1) ∷ answer (write 0xFAF3A282 (found 2 1 0)) ∷ answer (write 0xFAF3A282 missing) ∷ find (finding 1001 0 0 2 0 0) ∷ [])
 unfolding small node_a node_b name_b logs walk sites use_id fnv1_of fnv_from fnv_step
 left_out = (refl, refl)
 

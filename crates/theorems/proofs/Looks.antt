@@ -2,12 +2,12 @@
 -- `look-by`: lookup from a scope by its parent's; `look-open`: from the scope that is opened between l and m; `look-stays`: what is said
 -- later in scopes above changes nothing. `newest` is what bindings give for a name in a scope (`newest-append`, in two pieces; `newest-out`,
 -- none from other scopes); `carries-append`, carried names in two pieces; `answer-same`: an answer depends on the parents below alone.
+use Rattle.std.specs.Prelude.{Option, None, Some}
 use Prim.Native.Nat.{ℕ, zero, suc, ◌≤◌, ◌<◌}
 use native.Mathlib.Omega.{arith}
 use mathlib.Core.Path.{◌≡◌, refl, sym, ◌∙◌, ap, ap₂, subst}
 use mathlib.Core.Bool.{Bool, true, false, cond, ◌&&◌, ◌||◌, or_assoc, or-false}
 use mathlib.Core.List.{List, [], ◌∷◌, ◌++◌}
-use mathlib.Core.Option.{Option, none, some}
 use lib.Dec.{T, eqb, ltb, eqb→eq, ltb→lt, lt→ltb}
 use lib.ListN.{length}
 use Rattle.scope.specs.Graph.{with_barrier, Scope, scope, Entry, entry, Carried, carried}
@@ -29,25 +29,25 @@ opened-open s l = refl
 -- Bindings: the newest counts.
 unfoldable pub newest : ℕ → ℕ → List Bound → Option ℕ → Option ℕ
 newest s x [] d = d
-newest s x (bound t y v k ∷ bs) d = newest s x bs (cond (eqb t s && eqb y x) (some v) d)
+newest s x (bound t y v k ∷ bs) d = newest s x bs (cond (eqb t s && eqb y x) (Some v) d)
 
 both : (a b : Bool) → T (a && b) → (T a) × (T b)
 both true true t = (tt, tt)
 both true false t = absurd t
 both false b t = absurd t
 
-bound-put : (s x t y v k : ℕ) (es : List Entry) → bound_in (put (bound t y v k) es) s x ≡ cond (eqb t s && eqb y x) (some v) (bound_in es s x)
+bound-put : (s x t y v k : ℕ) (es : List Entry) → bound_in (put (bound t y v k) es) s x ≡ cond (eqb t s && eqb y x) (Some v) (bound_in es s x)
 unfolding bound_in put
 bound-put s x t y v k [] = refl
 bound-put s x t y v k (entry o z u j r ∷ es) = go (eqb t o && eqb y z) refl (bound-put s x t y v k es)
   where
-    skip : (a b : Bool) (d : Option ℕ) → (T a → T b → ⊥) → cond b (some u) (cond a (some v) d) ≡ cond a (some v) (cond b (some u) d)
+    skip : (a b : Bool) (d : Option ℕ) → (T a → T b → ⊥) → cond b (Some u) (cond a (Some v) d) ≡ cond a (Some v) (cond b (Some u) d)
     skip true true d f = absurd (f tt tt)
     skip true false d f = refl
     skip false true d f = refl
     skip false false d f = refl
 
-    same : (a b : Bool) (d : Option ℕ) → a ≡ b → cond a (some v) d ≡ cond a (some v) (cond b (some u) d)
+    same : (a b : Bool) (d : Option ℕ) → a ≡ b → cond a (Some v) d ≡ cond a (Some v) (cond b (Some u) d)
     same true b d e = refl
     same false b d e = rw (← e) refl
 
@@ -59,9 +59,9 @@ bound-put s x t y v k (entry o z u j r ∷ es) = go (eqb t o && eqb y z) refl (b
         let q = eqb→eq y x f.1 ∙ sym (eqb→eq z x g.1) in
         subst T (sym (ap₂ ◌&&◌ (holds (eqb t o) (eq→eqb t o p)) (holds (eqb y z) (eq→eqb y z q))) ∙ e) tt
 
-    go : (c : Bool) → eqb t o && eqb y z ≡ c → bound_in (put (bound t y v k) es) s x ≡ cond (eqb t s && eqb y x) (some v) (bound_in es s x)
-        → bound_in (cond c (entry t y v k (some u) ∷ es) (entry o z u j r ∷ put (bound t y v k) es)) s x
-        ≡ cond (eqb t s && eqb y x) (some v) (cond (eqb o s && eqb z x) (some u) (bound_in es s x))
+    go : (c : Bool) → eqb t o && eqb y z ≡ c → bound_in (put (bound t y v k) es) s x ≡ cond (eqb t s && eqb y x) (Some v) (bound_in es s x)
+        → bound_in (cond c (entry t y v k (Some u) ∷ es) (entry o z u j r ∷ put (bound t y v k) es)) s x
+        ≡ cond (eqb t s && eqb y x) (Some v) (cond (eqb o s && eqb z x) (Some u) (bound_in es s x))
     go true e ih =
         let f = both (eqb t o) (eqb y z) (subst T (sym e) tt) in
         same (eqb t s && eqb y x) (eqb o s && eqb z x) (bound_in es s x) (ap₂ ◌&&◌ (ap (λ (n : ℕ). eqb n s) (eqb→eq t o f.0)) (ap (λ (n : ℕ). eqb n x) (eqb→eq y z f.1)))
@@ -75,7 +75,7 @@ bound-puts s x (bound t y v k ∷ bs) es = bound-puts s x bs (put (bound t y v k
 pub newest-append : (s x : ℕ) (bs cs : List Bound) (d : Option ℕ) → newest s x (bs ++ cs) d ≡ newest s x cs (newest s x bs d)
 unfolding newest
 newest-append s x [] cs d = refl
-newest-append s x (bound t y v k ∷ bs) cs d = newest-append s x bs cs (cond (eqb t s && eqb y x) (some v) d)
+newest-append s x (bound t y v k ∷ bs) cs d = newest-append s x bs cs (cond (eqb t s && eqb y x) (Some v) d)
 
 -- What a log binds and carries in other scopes does not matter.
 pub data Outside (lo hi s : ℕ) : Type 0 where
@@ -133,10 +133,10 @@ kind-at (scope j o c d ∷ l) m k p a b = kind-at l m k p a b
 -- What a scope answers depends on its parent's answer alone, if its parent lies below.
 pub answer-same : (s : ℕ) (o : Option ℕ) (g : Bool) (p : Option ℕ) (f h : ℕ → Looked) → ((q : ℕ) → q < s → f q ≡ h q) → answer_at s o g p f ≡ answer_at s o g p h
 unfolding answer_at
-answer-same s (some v) g p f h e = refl
-answer-same s none false p f h e = refl
-answer-same s none true none f h e = refl
-answer-same s none true (some p) f h e = go (ltb p s) (λ t. e p (ltb→lt p s t))
+answer-same s (Some v) g p f h e = refl
+answer-same s None false p f h e = refl
+answer-same s None true None f h e = refl
+answer-same s None true (Some p) f h e = go (ltb p s) (λ t. e p (ltb→lt p s t))
   where
     go : (b : Bool) → (T b → f p ≡ h p) → cond b (f p) (refused 9) ≡ cond b (h p) (refused 9)
     go true i = i tt
@@ -158,7 +158,7 @@ climb-alike {ss₁ = ss₁} {ss₂ = ss₂} {bs₁ = bs₁} {bs₂ = bs₂} {cs�
     (answer-same s _ _ _ (λ p. climb ss₁ bs₁ cs₁ m p x) (λ p. climb ss₂ bs₂ cs₂ n p x) (λ p q. climb-alike h m n p x (omega arith) (omega arith) (omega arith)))
 
 -- Lookup on the views of a log.
-bound-log : (l : List Event) (s x : ℕ) → bound_in (puts (binds_in l) []) s x ≡ newest s x (binds_in l) none
+bound-log : (l : List Event) (s x : ℕ) → bound_in (puts (binds_in l) []) s x ≡ newest s x (binds_in l) None
 unfolding bound_in
 bound-log l s x = bound-puts s x (binds_in l) []
 
@@ -168,7 +168,7 @@ alike : {lo hi : ℕ} (l : List Event) {m : List Event} (top : ℕ) → Within l
 unfolding opened passes
 alike l {m} top p h i = record {
   bounds = λ s x q.
-      bound-log (l ++ m) s x ∙ rw binds-append (newest-append s x (binds_in l) (binds_in m) none ∙ newest-out (under (omega arith)) p x (newest s x (binds_in l) none))
+      bound-log (l ++ m) s x ∙ rw binds-append (newest-append s x (binds_in l) (binds_in m) None ∙ newest-out (under (omega arith)) p x (newest s x (binds_in l) None))
       ∙ sym (bound-log l s x);
   goes = λ s x q.
       rw (scopes-append, carried-append, kind-append (scopes_in l) (scopes_in m) s (omega arith), carries-append, carries-out {s = s} (under (omega arith)) p x, or-false) refl;
@@ -189,7 +189,7 @@ look-climb l n s x p q =
 
 -- Lookup from any scope of a log, by its parent's.
 pub look-by : (l : List Event) (s x : ℕ) → s < opened l
-    → look l s x ≡ answer_at s (newest s x (binds_in l) none) (cond (eqb (kind_at (scopes_in l) s) with_barrier) (carries (carries_in l) s x) true) (parent_at (scopes_in l) s) (λ p. look l p x)
+    → look l s x ≡ answer_at s (newest s x (binds_in l) None) (cond (eqb (kind_at (scopes_in l) s) with_barrier) (carries (carries_in l) s x) true) (parent_at (scopes_in l) s) (λ p. look l p x)
 look-by l s x q =
     unfold climb passes in
     sym (look-climb l (suc s) s x (omega arith) q)
@@ -197,9 +197,9 @@ look-by l s x q =
 
 -- Lookup from a scope of its own: what is bound and carried after it is opened counts.
 pub look-open : (l m : List Event) (last k p a b x : ℕ) → Within 0 last l → opened l ≡ suc last
-    → look (l ++ open' (scope k (some p) a b) ∷ m) (suc last) x
-    ≡ answer_at (suc last) (newest (suc last) x (binds_in m) none) (cond (eqb k with_barrier) (carries (carries_in m) (suc last) x) true) (some p) (λ q. look (l ++ open' (scope k (some p) a b) ∷ m) q x)
+    → look (l ++ open' (scope k (Some p) a b) ∷ m) (suc last) x
+    ≡ answer_at (suc last) (newest (suc last) x (binds_in m) None) (cond (eqb k with_barrier) (carries (carries_in m) (suc last) x) true) (Some p) (λ q. look (l ++ open' (scope k (Some p) a b) ∷ m) q x)
 look-open l m last k p a b x h e =
-    look-by (l ++ open' (scope k (some p) a b) ∷ m) (suc last) x (omega (arith, opened-append l (open' (scope k (some p) a b) ∷ m), opened-open (scope k (some p) a b) m))
-    ∙ rw (scopes-append l, binds-append l, carried-append l, newest-append, newest-out {s = suc last} (over (omega arith)) h x none, carries-append, carries-out {s = suc last} (over (omega arith)) h x)
+    look-by (l ++ open' (scope k (Some p) a b) ∷ m) (suc last) x (omega (arith, opened-append l (open' (scope k (Some p) a b) ∷ m), opened-open (scope k (Some p) a b) m))
+    ∙ rw (scopes-append l, binds-append l, carried-append l, newest-append, newest-out {s = suc last} (over (omega arith)) h x None, carries-append, carries-out {s = suc last} (over (omega arith)) h x)
     (unfold logs in rw (← e, kind-at, parent-at) refl)

@@ -1,13 +1,13 @@
 -- From every comprehension's scope of the finished log (`inners`): the walk is followed, and `Met` says that each such scope opened so far
 -- is as Inners has it. `Sight`: where its expression looks, the World with the names that are hushed, and the list beyond. Sort keys look
 -- otherwise than the rest of their clause: a RETURN's hush its aliases, a WITH's have the list before it beyond.
+use Rattle.std.specs.Prelude.{Option, None, Some}
 use Prim.Native.Nat.{ℕ, suc, ◌≤◌, ◌<◌}
 use native.Mathlib.Nat.{le_refl}
 use native.Mathlib.Omega.{arith}
 use mathlib.Core.Path.{◌≡◌, refl, sym, ◌∙◌, ap, subst}
 use mathlib.Core.Bool.{Bool, true, false, not, true≢false}
 use mathlib.Core.List.{List, [], ◌∷◌, ◌++◌, reverse, reverse-cons, reverse-append, reverse-reverse, append_assoc}
-use mathlib.Core.Option.{Option, none, some}
 use lib.Dec.{eqb}
 use Rattle.scope.specs.Graph.{return_scope, with_barrier, call_scope, unwind_scope, root_scope, comprehension_scope, scope, carried}
 use Rattle.heads.specs.Answer.{is_in}
@@ -65,8 +65,8 @@ module _ (warns : Bool) (st : Statement) where
     pub its : Inner all sight.world sight.beyond state a b pattern
 
   Here : Event → List Event → Type 0
-  Here (open' (scope k none a b)) l = Unit {0}
-  Here (open' (scope k (some p) a b)) l = eqb k comprehension_scope ≡ true → Opened l p a b
+  Here (open' (scope k None a b)) l = Unit {0}
+  Here (open' (scope k (Some p) a b)) l = eqb k comprehension_scope ≡ true → Opened l p a b
   Here (bind o g b) l = Unit {0}
   Here (carry c) l = Unit {0}
   Here (answer a) l = Unit {0}
@@ -85,8 +85,8 @@ module _ (warns : Bool) (st : Statement) where
     -- Steps that open nothing leave what is met.
     var-M : (v : ℕ) (r : Option Row) (s : State) → Met s.log → Met (use_var w v r s).log
     unfolding use_var Met Here
-    var-M v none s h = h
-    var-M v (some (row i x k a b)) s h = (tt, h)
+    var-M v None s h = h
+    var-M v (Some (row i x k a b)) s h = (tt, h)
 
     if-M : (b : Bool) (f : Finding) (s : State) → Met s.log → Met (say_if b (find f) s).log
     unfolding say_if Met Here
@@ -95,8 +95,8 @@ module _ (warns : Bool) (st : Statement) where
 
     name-M : (x : ℕ) (o : Option ℕ) (s : State) → Met s.log → Met (use_name w x o s).log
     unfolding use_name Met Here
-    name-M x (some v) s h = (tt, h)
-    name-M x none s h = if-M (not (w.is_star x)) _ _ (tt, h)
+    name-M x (Some v) s h = (tt, h)
+    name-M x None s h = if-M (not (w.is_star x)) _ _ (tt, h)
 
     visit-M : (hushed : Bool) (x : ℕ) (o : Option ℕ) (s : State) → Met s.log → Met (visit w hushed x o s).log
     unfolding visit
@@ -113,18 +113,18 @@ module _ (warns : Bool) (st : Statement) where
 
     path-M : (o : Option ℕ) (s : State) → Met s.log → Met (bind_path w o s).log
     unfolding bind_path
-    path-M none s h = h
-    path-M (some v) s h = anew-M 0 0 (name_of w v) v path_kind s h
+    path-M None s h = h
+    path-M (Some v) s h = anew-M 0 0 (name_of w v) v path_kind s h
 
     new-M : (o : Option ℕ) (x v k : ℕ) (s : State) → Met s.log → Met (bind_new w o x v k s).log
     unfolding bind_new
-    new-M none x v k s h = bind-M false x v k s h
-    new-M (some u) x v k s h = h
+    new-M None x v k s h = bind-M false x v k s h
+    new-M (Some u) x v k s h = h
 
     elem-M : (k : ℕ) (o : Option ℕ) (s : State) → Met s.log → Met (bind_elem w k o s).log
     unfolding bind_elem
-    elem-M k none s h = h
-    elem-M k (some v) s h = new-M (lookup (name_of w v) s.visible) (name_of w v) v k s h
+    elem-M k None s h = h
+    elem-M k (Some v) s h = new-M (lookup (name_of w v) s.visible) (name_of w v) v k s h
 
     carry-M : (ps : List Pair) (s : State) → Met s.log → Met (carry_all w ps s).log
     unfolding carry_all
@@ -298,7 +298,7 @@ module _ (warns : Bool) (st : Statement) where
   unfolding log
   turn = refl
 
-  told : (l m : List Event) (p a b : ℕ) (i : Opened (reverse l) p a b) → log warns st ≡ l ++ open' (scope comprehension_scope (some p) a b) ∷ m → Agree.Inner warns st l m p
+  told : (l m : List Event) (p a b : ℕ) (i : Opened (reverse l) p a b) → log warns st ≡ l ++ open' (scope comprehension_scope (Some p) a b) ∷ m → Agree.Inner warns st l m p
   unfolding opened_after
   told l m p a b i q =
       let t = i.state in
@@ -306,7 +306,7 @@ module _ (warns : Bool) (st : Statement) where
       let w = hush k.hushed W in
       let j = subst (λ w. Inner all w k.beyond t a b i.pattern) k.known i.its in
       let u : State = record { visible = t.visible; cur = suc t.last; last = suc t.last; log = [] } in
-      let ev = open' (scope comprehension_scope (some t.cur) a b) in
+      let ev = open' (scope comprehension_scope (Some t.cur) a b) in
       let el : reverse t.log ≡ l = ap reverse i.before ∙ reverse-reverse l in
       let n : opened l ≡ suc t.last = ap opened (sym el) ∙ j.counts in
       let pat = pattern-after w (ev ∷ t.log) i.pattern u in
@@ -333,13 +333,13 @@ module _ (warns : Bool) (st : Statement) where
       }
 
   -- Every comprehension's scope of the finished log.
-  pub inners : (l m : List Event) (p a b : ℕ) → log warns st ≡ l ++ open' (scope comprehension_scope (some p) a b) ∷ m → Agree.Inner warns st l m p
-  inners l m p a b q = told l m p a b (here (met_at (reverse m) (open' (scope comprehension_scope (some p) a b)) (reverse l) (subst Met turned met))) q
+  pub inners : (l m : List Event) (p a b : ℕ) → log warns st ≡ l ++ open' (scope comprehension_scope (Some p) a b) ∷ m → Agree.Inner warns st l m p
+  inners l m p a b q = told l m p a b (here (met_at (reverse m) (open' (scope comprehension_scope (Some p) a b)) (reverse l) (subst Met turned met))) q
     where
-      turned : all ≡ reverse m ++ open' (scope comprehension_scope (some p) a b) ∷ reverse l
+      turned : all ≡ reverse m ++ open' (scope comprehension_scope (Some p) a b) ∷ reverse l
       turned =
-          let ev = open' (scope comprehension_scope (some p) a b) in
+          let ev = open' (scope comprehension_scope (Some p) a b) in
           sym (reverse-reverse all) ∙ ap reverse (sym turn ∙ q) ∙ reverse-append l (ev ∷ m) ∙ ap (λ z. z ++ reverse l) (reverse-cons ev m) ∙ append_assoc (reverse m) (ev ∷ []) (reverse l)
 
-      here : Here (open' (scope comprehension_scope (some p) a b)) (reverse l) → Opened (reverse l) p a b
+      here : Here (open' (scope comprehension_scope (Some p) a b)) (reverse l) → Opened (reverse l) p a b
       here h = unfold Here in h refl

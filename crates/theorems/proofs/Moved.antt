@@ -3,12 +3,12 @@
 -- `clause-R`, `clauses-R`, `arms-R`. `blank` takes spans away from an event, `number` renumbers its scopes, `number_bound` and
 -- `number_carried` those of an entry; `eqb-up`: moved numbers are equal where the numbers are; `exprs-erase`, `keys-erase`: projections and
 -- sort keys without spans have the expressions without spans.
+use Rattle.std.specs.Prelude.{Option, None, Some}
 use Prim.Native.Nat.{ℕ, zero, suc, ◌+◌}
 use native.Mathlib.Omega.{arith}
 use mathlib.Core.Path.{◌≡◌, refl, sym, ◌∙◌, ap, ap₂, subst}
 use mathlib.Core.Bool.{Bool, true, false, cond, not, ◌&&◌, ◌||◌}
 use mathlib.Core.List.{List, [], ◌∷◌, ◌++◌, map, map-append}
-use mathlib.Core.Option.{Option, none, some}
 use lib.Dec.{eqb, eqb→eq}
 use Rattle.scope.specs.Graph.{comprehension_scope, return_scope, with_barrier, call_scope, unwind_scope, root_scope, scope, Carried, carried}
 use Rattle.expr.specs.Tree.{Expr, var, unresolved, node, predicate, comprehension, Exprs, done, more, mark, Steps, end, part, elem}
@@ -98,7 +98,7 @@ module _ (w : World) (m : ℕ) where
   lookup-up : (x : ℕ) (vis : List Seen) → lookup x (map (number_seen (up m)) vis) ≡ lookup x vis
   unfolding lookup
   lookup-up x [] = refl
-  lookup-up x (seen y v p ∷ vis) = ap (cond (eqb x y) (some v)) (lookup-up x vis)
+  lookup-up x (seen y v p ∷ vis) = ap (cond (eqb x y) (Some v)) (lookup-up x vis)
 
   binds-up : (c x : ℕ) (vis : List Seen) → binds (up m c) x (map (number_seen (up m)) vis) ≡ binds c x vis
   unfolding binds
@@ -107,12 +107,12 @@ module _ (w : World) (m : ℕ) where
 
   carries-up : (a : Option ℕ) (d : Direct) (vis : List Seen) → carries w a d (map (number_seen (up m)) vis) ≡ carries w a d vis
   unfolding carries
-  carries-up (some x) (a_var v) vis = refl
-  carries-up (some x) (a_name y) vis = rw (lookup-up y vis)
-  carries-up (some x) other vis = refl
-  carries-up none (a_var v) vis = refl
-  carries-up none (a_name x) vis = rw (lookup-up x vis)
-  carries-up none other vis = refl
+  carries-up (Some x) (a_var v) vis = refl
+  carries-up (Some x) (a_name y) vis = rw (lookup-up y vis)
+  carries-up (Some x) other vis = refl
+  carries-up None (a_var v) vis = refl
+  carries-up None (a_name x) vis = rw (lookup-up x vis)
+  carries-up None other vis = refl
 
   projected-up : (ps : List Projection) (vis : List Seen) → projected w ps (map (number_seen (up m)) vis) ≡ projected w (map erase_projection ps) vis
   unfolding projected erase_projection
@@ -149,7 +149,7 @@ module _ (w : World) (m : ℕ) where
 
     enter-R : (k a b : ℕ) → R m (enter k a b s) (enter k 0 0 c)
     unfolding blank blank_scope number number_scope up
-    enter-R k a b = record { visible = h.visible; cur = ap suc h.last; last = omega (arith, h.last); log = ap₂ (λ n l. open' (scope k (some n) 0 0) ∷ l) h.cur h.log }
+    enter-R k a b = record { visible = h.visible; cur = ap suc h.last; last = omega (arith, h.last); log = ap₂ (λ n l. open' (scope k (Some n) 0 0) ∷ l) h.cur h.log }
 
     bind-R : (over : Bool) (x v k : ℕ) → R m (bind_over over x v k s) (bind_over over x v k c)
     unfolding blank number number_bound
@@ -168,13 +168,13 @@ module _ (w : World) (m : ℕ) where
 
     var-R : (v : ℕ) (r : Option Row) → R m (use_var w v r s) (use_var w v r c)
     unfolding use_var
-    var-R v none = h
-    var-R v (some (row i x k a b)) = say-R (unfold blank number in refl)
+    var-R v None = h
+    var-R v (Some (row i x k a b)) = say-R (unfold blank number in refl)
 
     new-R : (o : Option ℕ) (x v k : ℕ) → R m (bind_new w o x v k s) (bind_new w o x v k c)
     unfolding bind_new
-    new-R none x v k = bind-R false x v k
-    new-R (some u) x v k = h
+    new-R None x v k = bind-R false x v k
+    new-R (Some u) x v k = h
 
   say_if-R : (b : Bool) (e f : Event) {s c : State} → R m s c → blank e ≡ number (up m) f → R m (say_if b e s) (say_if b f c)
   unfolding say_if
@@ -183,8 +183,8 @@ module _ (w : World) (m : ℕ) where
 
   name-R : (x : ℕ) (o : Option ℕ) {s c : State} → R m s c → R m (use_name w x o s) (use_name w x o c)
   unfolding use_name blank number blank_finding
-  name-R x (some v) h = say-R h refl
-  name-R x none h = say_if-R (not (w.is_star x)) _ _ (say-R h refl) refl
+  name-R x (Some v) h = say-R h refl
+  name-R x None h = say_if-R (not (w.is_star x)) _ _ (say-R h refl) refl
 
   visit-R : (hushed : Bool) (x : ℕ) (o : Option ℕ) {s c : State} → R m s c → R m (visit w hushed x o s) (visit w hushed x o c)
   unfolding visit
@@ -199,13 +199,13 @@ module _ (w : World) (m : ℕ) where
 
   path-R : (o : Option ℕ) {s c : State} → R m s c → R m (bind_path w o s) (bind_path w o c)
   unfolding bind_path
-  path-R none h = h
-  path-R (some v) h = anew-R 0 0 (name_of w v) v path_kind h
+  path-R None h = h
+  path-R (Some v) h = anew-R 0 0 (name_of w v) v path_kind h
 
   elem-R : (k : ℕ) (o : Option ℕ) {s c : State} → R m s c → R m (bind_elem w k o s) (bind_elem w k o c)
   unfolding bind_elem
-  elem-R k none h = h
-  elem-R k (some v) h = rw (found-R h (name_of w v)) (new-R h _ (name_of w v) v k)
+  elem-R k None h = h
+  elem-R k (Some v) h = rw (found-R h (name_of w v)) (new-R h _ (name_of w v) v k)
 
   mutual
     unfolding resolve erase_e

@@ -4,13 +4,13 @@
 -- it says to make, and nothing visible stands in a scope that is still to come; expressions and clauses keep it (`resolves-N`, `clause-N`,
 -- `clauses-N`, `arms-N`). `Owns s`: besides, what is visible of the current scope is what the log binds there; so from its opening on, as
 -- long as names are bound in it (`enter-N`, `bind-N`, `pattern-N`).
+use Rattle.std.specs.Prelude.{Option, None, Some}
 use Prim.Native.Nat.{ℕ, suc, ◌+◌, ◌≤◌, ◌<◌}
 use native.Mathlib.Nat.{add-zero, le_refl}
 use native.Mathlib.Omega.{arith}
 use mathlib.Core.Path.{◌≡◌, refl, sym, ◌∙◌, ap, ap₂, subst}
 use mathlib.Core.Bool.{Bool, true, false, cond, not, ◌&&◌, ◌||◌, and_comm, or_assoc}
 use mathlib.Core.List.{List, [], ◌∷◌, ◌++◌, reverse_aux, flat_map}
-use mathlib.Core.Option.{Option, none, some}
 use lib.Dec.{T, eqb, eqb→eq}
 use lib.ListN.{length}
 use Rattle.scope.specs.Graph.{comprehension_scope, return_scope, with_barrier, call_scope, unwind_scope, root_scope, carried, Entry, entry}
@@ -66,7 +66,7 @@ has-put c x t y v k (entry o z u j r ∷ es) = go (eqb t o && eqb y z) refl (has
     turn false b d = refl
 
     go : (a : Bool) → eqb t o && eqb y z ≡ a → has c x (put (bound t y v k) es) ≡ (eqb c t && eqb x y || has c x es)
-        → has c x (cond a (entry t y v k (some u) ∷ es) (entry o z u j r ∷ put (bound t y v k) es)) ≡ (eqb c t && eqb x y || (eqb c o && eqb x z || has c x es))
+        → has c x (cond a (entry t y v k (Some u) ∷ es) (entry o z u j r ∷ put (bound t y v k) es)) ≡ (eqb c t && eqb x y || (eqb c o && eqb x z || has c x es))
     go true e ih =
         let f = both (eqb t o) (eqb y z) (subst T (sym e) tt) in
         rw (← eqb→eq t o f.0, ← eqb→eq y z f.1) (twice (eqb c t && eqb x y) (has c x es))
@@ -78,7 +78,7 @@ put-length c x v k [] = refl
 put-length c x v k (entry t y u j r ∷ es) = go (eqb c t && eqb x y) (has c x es) (put-length c x v k es)
   where
     go : (a b : Bool) → length (put (bound c x v k) es) ≡ cond b (length es) (suc (length es))
-        → length (cond a (entry c x v k (some u) ∷ es) (entry t y u j r ∷ put (bound c x v k) es)) ≡ cond (a || b) (suc (length es)) (suc (suc (length es)))
+        → length (cond a (entry c x v k (Some u) ∷ es) (entry t y u j r ∷ put (bound c x v k) es)) ≡ cond (a || b) (suc (length es)) (suc (suc (length es)))
     go true b e = refl
     go false true e = ap suc e
     go false false e = ap suc e
@@ -222,14 +222,14 @@ module _ (w : World) where
 
   var-N : (v : ℕ) (r : Option Row) {s : State} → Counted s → Counted (use_var w v r s)
   unfolding use_var
-  var-N v none h = h
-  var-N v (some (row i x k a b)) h = answer-N _ h
+  var-N v None h = h
+  var-N v (Some (row i x k a b)) h = answer-N _ h
 
   visit-N : (hushed : Bool) (x : ℕ) (o : Option ℕ) {s : State} → Counted s → Counted (visit w hushed x o s)
   unfolding visit use_name
   visit-N true x o h = h
-  visit-N false x (some v) h = answer-N _ h
-  visit-N false x none h = find-N (not (w.is_star x)) (finding e1001 0 0 (suc x) 0 0) (answer-N _ h)
+  visit-N false x (Some v) h = answer-N _ h
+  visit-N false x None h = find-N (not (w.is_star x)) (finding e1001 0 0 (suc x) 0 0) (answer-N _ h)
 
   anew-N : (a b x v k : ℕ) {s : State} → Owns s → Owns (bind_anew w a b x v k s)
   unfolding bind_anew
@@ -237,18 +237,18 @@ module _ (w : World) where
 
   path-N : (o : Option ℕ) {s : State} → Owns s → Owns (bind_path w o s)
   unfolding bind_path
-  path-N none h = h
-  path-N (some v) h = anew-N 0 0 (name_of w v) v path_kind h
+  path-N None h = h
+  path-N (Some v) h = anew-N 0 0 (name_of w v) v path_kind h
 
   new-N : (o : Option ℕ) (x v k : ℕ) {s : State} → Owns s → Owns (bind_new w o x v k s)
   unfolding bind_new
-  new-N none x v k h = bind-N false x v k h
-  new-N (some u) x v k h = h
+  new-N None x v k h = bind-N false x v k h
+  new-N (Some u) x v k h = h
 
   elem-N : (k : ℕ) (o : Option ℕ) {s : State} → Owns s → Owns (bind_elem w k o s)
   unfolding bind_elem
-  elem-N k none h = h
-  elem-N k (some v) {s} h = new-N (lookup (name_of w v) s.visible) (name_of w v) v k h
+  elem-N k None h = h
+  elem-N k (Some v) {s} h = new-N (lookup (name_of w v) s.visible) (name_of w v) v k h
 
   pattern-last : (t : Steps) {s : State} → Owns s → s.last ≤ (bind_pattern w t s).last
   pattern-last t h = (pattern-W w 0 0 t h.inner h.high h.counted.well).later

@@ -6,13 +6,13 @@
 -- `pairs-listed`: the pieces in each list. `carry-log`: what a barrier says; `inside-carries`: a log carries at its own barriers
 -- (`CarriedIn`); `clauses-append`, `arms-append`: a run in two pieces; `start-W`: where a statement begins; `silent-W`: where nothing was
 -- said.
+use Rattle.std.specs.Prelude.{None, Some}
 use Prim.Native.Nat.{ℕ, suc, ◌+◌, ◌≤◌, ◌<◌}
 use native.Mathlib.Nat.{le_refl}
 use native.Mathlib.Omega.{arith}
 use mathlib.Core.Path.{◌≡◌, refl, sym, ◌∙◌, ap, subst}
 use mathlib.Core.Bool.{Bool, true, false, cond}
 use mathlib.Core.List.{List, [], ◌∷◌, ◌++◌, map, reverse, reverse_aux, reverse_aux-eq, reverse_aux-reverse_aux-nil, reverse-append, append-nil, append_assoc, Memᴰ}
-use mathlib.Core.Option.{none, some}
 use lib.ListN.{drop}
 use lib.Seq.{drop_at}
 use lib.Dec.{eqb, eqb_refl}
@@ -198,7 +198,7 @@ module _ (warns : Bool) (s : Statement) where
   barrier-fine p = barrier-W w 0 0 _ _ (pairs warns s p) (resolved-W p)
 
   -- What the new Root says, and its number.
-  pub root_said : (p : Site) → root_log warns s p ≡ open' (scope root_scope (some (barrier_of warns s p)) (cut_of p).stop (cut_of p).stop) ∷ bound_at w (new_root warns s p) (pairs warns s p) []
+  pub root_said : (p : Site) → root_log warns s p ≡ open' (scope root_scope (Some (barrier_of warns s p)) (cut_of p).stop (cut_of p).stop) ∷ bound_at w (new_root warns s p) (pairs warns s p) []
   unfolding root_log fresh new_root
   root_said p =
       let b = at_barrier warns s p in
@@ -206,7 +206,7 @@ module _ (warns : Bool) (s : Statement) where
       ap reverse (bind_is w (pairs warns s p) t).0 ∙ reverse_aux-reverse_aux-nil (bound_at w t.cur (pairs warns s p) []) t.log ∙ rw ((root-at warns s p).0, (root-at warns s p).1) refl
 
   pub root-quiet : (p : Site) → (answers_in (root_log warns s p) ≡ []) × (finds_in (root_log warns s p) ≡ [])
-      × (scopes_in (root_log warns s p) ≡ scope root_scope (some (barrier_of warns s p)) (cut_of p).stop (cut_of p).stop ∷ [])
+      × (scopes_in (root_log warns s p) ≡ scope root_scope (Some (barrier_of warns s p)) (cut_of p).stop (cut_of p).stop ∷ [])
   unfolding logs
   root-quiet p = let q = binds-quiet w (new_root warns s p) (pairs warns s p) [] in rw (root_said p, q.0, q.1, q.2) (refl, refl, refl)
 
@@ -280,7 +280,7 @@ module _ (warns : Bool) (s : Statement) (p : Site) (q : Stands s p) where
   unfolding part_log
   part-answers = answers-append (root_log warns s p) (rest_log warns s p) ∙ ap (λ l. l ++ answers_in (rest_log warns s p)) (root-quiet warns s p).0
 
-  pub answer-from : (i : ℕ) (a : Answer) → Memᴰ (write i a) (answers_in (part_log warns s p)) → answer_for i (recorded warns s) ≡ last_write i (answers_in (part_log warns s p)) none
+  pub answer-from : (i : ℕ) (a : Answer) → Memᴰ (write i a) (answers_in (part_log warns s p)) → answer_for i (recorded warns s) ≡ last_write i (answers_in (part_log warns s p)) None
   unfolding recorded tail_log
   answer-from i a m =
       let o = pre_log warns s p ++ (root_log warns s p ++ keys_log warns s p) in

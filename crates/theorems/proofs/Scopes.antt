@@ -1,12 +1,12 @@
 -- Which scopes expressions open depends neither on what is visible nor on spans. `Opens m s c`: s has opened what c has but for spans, its
 -- scope numbers moved up by m (`up`: 0 stays 0). Expressions keep it (`resolves-Opens`), whatever lists the two states have: a use or a
 -- binding opens nothing (`Still`). `opens-log`: the scopes of the two logs, oldest first.
+use Rattle.std.specs.Prelude.{Option, None, Some}
 use Prim.Native.Nat.{ℕ, suc, ◌+◌}
 use native.Mathlib.Omega.{arith}
 use mathlib.Core.Path.{◌≡◌, refl, sym, ◌∙◌, ap, ap₂}
 use mathlib.Core.Bool.{Bool, true, false, not}
 use mathlib.Core.List.{List, [], ◌∷◌, map, reverse, reverse_aux}
-use mathlib.Core.Option.{Option, none, some}
 use Rattle.scope.specs.Graph.{comprehension_scope, scope}
 use Rattle.expr.specs.Tree.{Expr, var, unresolved, node, predicate, comprehension, Exprs, done, more, mark, Steps, end, part, elem}
 use Rattle.expr.specs.Erase.{erase_e, erases, erase_s}
@@ -35,29 +35,29 @@ find-still false f s = stay
 module _ (w : World) where
   var-still : (v : ℕ) (r : Option Row) (s : State) → Still s (use_var w v r s)
   unfolding use_var logs
-  var-still v none s = stay
-  var-still v (some (row i x k a b)) s = record { cur = refl; last = refl; scopes = refl }
+  var-still v None s = stay
+  var-still v (Some (row i x k a b)) s = record { cur = refl; last = refl; scopes = refl }
 
   visit-still : (hushed : Bool) (x : ℕ) (o : Option ℕ) (s : State) → Still s (visit w hushed x o s)
   unfolding visit use_name logs
   visit-still true x o s = stay
-  visit-still false x (some v) s = record { cur = refl; last = refl; scopes = refl }
-  visit-still false x none s = let h = find-still (not (w.is_star x)) _ _ in record { cur = h.cur; last = h.last; scopes = h.scopes }
+  visit-still false x (Some v) s = record { cur = refl; last = refl; scopes = refl }
+  visit-still false x None s = let h = find-still (not (w.is_star x)) _ _ in record { cur = h.cur; last = h.last; scopes = h.scopes }
 
   path-still : (o : Option ℕ) (s : State) → Still s (bind_path w o s)
   unfolding bind_path bind_anew logs
-  path-still none s = stay
-  path-still (some v) s = let h = find-still _ _ (bind_name (name_of w v) v path_kind s) in record { cur = h.cur; last = h.last; scopes = h.scopes }
+  path-still None s = stay
+  path-still (Some v) s = let h = find-still _ _ (bind_name (name_of w v) v path_kind s) in record { cur = h.cur; last = h.last; scopes = h.scopes }
 
   new-still : (o : Option ℕ) (x v k : ℕ) (s : State) → Still s (bind_new w o x v k s)
   unfolding bind_new logs
-  new-still none x v k s = record { cur = refl; last = refl; scopes = refl }
-  new-still (some u) x v k s = stay
+  new-still None x v k s = record { cur = refl; last = refl; scopes = refl }
+  new-still (Some u) x v k s = stay
 
   elem-still : (k : ℕ) (o : Option ℕ) (s : State) → Still s (bind_elem w k o s)
   unfolding bind_elem
-  elem-still k none s = stay
-  elem-still k (some v) s = new-still (lookup (name_of w v) s.visible) (name_of w v) v k s
+  elem-still k None s = stay
+  elem-still k (Some v) s = new-still (lookup (name_of w v) s.visible) (name_of w v) v k s
 
 -- s has opened what c has but for spans, with the numbers moved up by m
 pub record Opens (m : ℕ) (s c : State) : Type 0 where
@@ -89,7 +89,7 @@ module _ (w : World) (m : ℕ) where
 
   enter-Opens : {s c : State} (k a b : ℕ) → Opens m s c → Opens m (enter k a b s) (enter k 0 0 c)
   unfolding logs blank_scope number_scope up
-  enter-Opens k a b h = record { cur = ap suc h.last; last = omega (arith, h.last); scopes = ap₂ (λ n l. scope k (some n) 0 0 ∷ l) h.cur h.scopes }
+  enter-Opens k a b h = record { cur = ap suc h.last; last = omega (arith, h.last); scopes = ap₂ (λ n l. scope k (Some n) 0 0 ∷ l) h.cur h.scopes }
 
   mutual
     unfolding resolve erase_e

@@ -3,13 +3,13 @@
 -- step of the walk keeps it: `enter-A`, `path-A`, `elem-A`, `resolves-A`, `pattern-A`, `root-at-A`, `clause-A`, `clauses-A`, and `left-A`,
 -- `arm-start-A` where a RETURN or an arm looks from elsewhere; `root-A` and `arm-A` say it where head and arms begin. `settle`: what the log
 -- shows between clauses the lists show in the end, since all that is said later stands in scopes above.
+use Rattle.std.specs.Prelude.{Option, None, Some}
 use Prim.Native.Nat.{ℕ, zero, suc, ◌≤◌, ◌<◌}
 use native.Mathlib.Nat.{le_refl}
 use native.Mathlib.Omega.{arith}
 use mathlib.Core.Path.{◌≡◌, refl, sym, ◌∙◌, ap, ap₂, subst}
 use mathlib.Core.Bool.{Bool, true, false, cond, ◌&&◌, ◌||◌, or-false}
 use mathlib.Core.List.{List, [], ◌∷◌, ◌++◌, reverse, reverse-cons, reverse-append, append-nil}
-use mathlib.Core.Option.{Option, none, some}
 use lib.Dec.{eqb, ltb, lt→ltb}
 use Rattle.tables.specs.Row.{value_kind, path_kind}
 use Rattle.scope.specs.Graph.{return_scope, with_barrier, call_scope, unwind_scope, root_scope, Scope, scope, carried}
@@ -54,7 +54,7 @@ unfolding inside
 just-carry s y v e = cons {e = carry (carried s y v)} (omega arith, omega arith) nil
 
 answer-bind : (s v : ℕ) (o : Option ℕ) (c g : Bool) (p : Option ℕ) (f h : ℕ → Looked) → ((q : ℕ) → q < s → f q ≡ h q)
-    → answer_at s (cond c (some v) o) g p f ≡ cond c (at v s) (answer_at s o g p h)
+    → answer_at s (cond c (Some v) o) g p f ≡ cond c (at v s) (answer_at s o g p h)
 unfolding answer_at
 answer-bind s v o true g p f h e = refl
 answer-bind s v o false g p f h e = answer-same s o g p f h e
@@ -167,18 +167,18 @@ module _ (w : World) where
 
   new-A : (o : Option ℕ) (x v k : ℕ) {beyond : List Seen} {s : State} → 0 < s.cur → Shows [] beyond s → Shows [] beyond (bind_new w o x v k s)
   unfolding bind_new
-  new-A none x v k z h = bind-A false x v k z (more (pair x v) h)
-  new-A (some u) x v k z h = h
+  new-A None x v k z h = bind-A false x v k z (more (pair x v) h)
+  new-A (Some u) x v k z h = h
 
   pub path-A : (o : Option ℕ) {beyond : List Seen} {s : State} → 0 < s.cur → Shows [] beyond s → Shows [] beyond (bind_path w o s)
   unfolding bind_path
-  path-A none z h = h
-  path-A (some v) z h = anew-A 0 0 (name_of w v) v path_kind z h
+  path-A None z h = h
+  path-A (Some v) z h = anew-A 0 0 (name_of w v) v path_kind z h
 
   pub elem-A : (k : ℕ) (o : Option ℕ) {beyond : List Seen} {s : State} → 0 < s.cur → Shows [] beyond s → Shows [] beyond (bind_elem w k o s)
   unfolding bind_elem
-  elem-A k none z h = h
-  elem-A k (some v) {s = s} z h = new-A (lookup (name_of w v) s.visible) (name_of w v) v k z h
+  elem-A k None z h = h
+  elem-A k (Some v) {s = s} z h = new-A (lookup (name_of w v) s.visible) (name_of w v) v k z h
 
   pub pattern-A : (p : Steps) {beyond : List Seen} {s : State} → 0 < s.cur → Shows [] beyond s → Shows [] beyond (bind_pattern w p s)
   unfolding bind_pattern
@@ -196,7 +196,7 @@ module _ (w : World) where
   -- A scope that is no barrier sees what its parent sees.
   pub enter-A : {but : List Pair} {beyond : List Seen} {s : State} (k a b : ℕ) → eqb k with_barrier ≡ false → Shows but beyond s → Shows but beyond (enter k a b s)
   enter-A {s = s} k a b e h =
-      let o = open' (scope k (some s.cur) a b) in
+      let o = open' (scope k (Some s.cur) a b) in
       record {
         fine = enter-W w 0 0 k a b h.fine;
         low = le_refl _;
@@ -206,7 +206,7 @@ module _ (w : World) where
             ap (λ l. look l (suc s.last) x) (reverse-cons o s.log)
             ∙ look-open (reverse s.log) [] s.last k s.cur a b x (within-reverse h.fine.within nil) (count h.fine)
             ∙ rw e (unfold logs newest answer_at in rw (holds (ltb s.cur (suc s.last)) (lt→ltb s.cur _ (omega (arith, h.low)))) refl)
-            ∙ look-stays (reverse s.log) s.cur x (just-open s.last (scope k (some s.cur) a b)) h.low (omega (arith, count h.fine, h.low)) ∙ h.gives x n;
+            ∙ look-stays (reverse s.log) s.cur x (just-open s.last (scope k (Some s.cur) a b)) h.low (omega (arith, count h.fine, h.low)) ∙ h.gives x n;
       }
 
   -- A barrier lets nothing through but what it carries.
@@ -237,7 +237,7 @@ module _ (w : World) where
         splits = refl;
         gives = λ x n.
             ap (λ c. look (reverse (carry_all w ps t).log) c x) r.cur ∙ carry-look ps t x (omega arith) (le_refl _) f n
-            ∙ ap (λ l. look l (suc s.last) x) (reverse-cons (open' (scope with_barrier (some s.cur) a b)) s.log)
+            ∙ ap (λ l. look l (suc s.last) x) (reverse-cons (open' (scope with_barrier (Some s.cur) a b)) s.log)
             ∙ look-open (reverse s.log) [] s.last with_barrier s.cur a b x (within-reverse h.fine.within nil) (count h.fine)
             ∙ unfold logs newest answer_at carries seen_as in refl;
       }
@@ -250,7 +250,7 @@ module _ (w : World) where
   -- the state in which a RETURN's expressions look from outside its scope
   pub left-A : (k a b : ℕ) {s : State} → Shows [] [] s → Shows [] [] (leave s (enter k a b s))
   left-A k a b {s} h =
-      stays (open' (scope k (some s.cur) a b) ∷ []) h (record { visible = refl; cur = refl }) refl (just-open s.last (scope k (some s.cur) a b)) (omega arith)
+      stays (open' (scope k (Some s.cur) a b) ∷ []) h (record { visible = refl; cur = refl }) refl (just-open s.last (scope k (Some s.cur) a b)) (omega arith)
       (standing-W w 0 0 s.visible s.cur (enter-W w 0 0 k a b h.fine))
 
   -- a WITH's new Root; and where its sort keys look, the list vis beyond

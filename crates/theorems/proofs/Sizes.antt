@@ -8,7 +8,6 @@ use native.Mathlib.Omega.{arith}
 use mathlib.Core.Path.{◌≡◌, refl, ap}
 use mathlib.Core.Bool.{Bool, true, false, cond, not, ◌&&◌}
 use mathlib.Core.List.{List, [], ◌∷◌, ◌++◌, flat_map}
-use mathlib.Core.Option.{Option, none, some}
 use lib.Dec.{eqb, leb}
 use lib.ListN.{length, length-append, length-reverse, length-take, length-drop}
 use Rattle.words.specs.Words.{words}
@@ -69,17 +68,17 @@ type-few (listed c o) t = cond-few (eqb t no_type) _ _ (omega arith) (omega arit
 
 row-few : (c : Setting) (r : Option Row) → length (at_row c r) ≤ 1
 unfolding at_row
-row-few c none = omega arith
-row-few general (some (row i x k a b)) = omega arith
-row-few arithmetic (some (row i x k a b)) = cond-few (eqb k value_kind) _ _ (omega arith) (omega arith)
-row-few property (some (row i x k a b)) = cond-few (eqb k path_kind) _ _ (omega arith) (omega arith)
-row-few boolean (some (row i x k a b)) = omega arith
-row-few (listed d o) (some (row i x k a b)) = cond-few (eqb k value_kind) _ _ (omega arith) (omega arith)
+row-few c None = omega arith
+row-few general (Some (row i x k a b)) = omega arith
+row-few arithmetic (Some (row i x k a b)) = cond-few (eqb k value_kind) _ _ (omega arith) (omega arith)
+row-few property (Some (row i x k a b)) = cond-few (eqb k path_kind) _ _ (omega arith) (omega arith)
+row-few boolean (Some (row i x k a b)) = omega arith
+row-few (listed d o) (Some (row i x k a b)) = cond-few (eqb k value_kind) _ _ (omega arith) (omega arith)
 
 misplaced-few : (one want a b : ℕ) (r : Option Row) → length (misplaced one want a b r) ≤ 1
 unfolding misplaced
-misplaced-few one want a b none = omega arith
-misplaced-few one want a b (some (row i x k c d)) = cond-few (eqb k want) _ _ (omega arith) (omega arith)
+misplaced-few one want a b None = omega arith
+misplaced-few one want a b (Some (row i x k c d)) = cond-few (eqb k want) _ _ (omega arith) (omega arith)
 
 -- how much was said, save what WITHs carry and bind
 abbrev said : State → ℕ
@@ -112,18 +111,18 @@ bind-few : (x v k : ℕ) (s : State) → said (bind_name x v k s) ≤ suc (said 
 bind-few x v k s = one_more (bind false (binds s.cur x s.visible) (bound s.cur x v k)) s.log
 
 enter-few : (k a b : ℕ) (s : State) → said (enter k a b s) ≤ suc (said s)
-enter-few k a b s = one_more (open' (scope k (some s.cur) a b)) s.log
+enter-few k a b s = one_more (open' (scope k (Some s.cur) a b)) s.log
 
 module _ (w : World) where
   var-few : (v : ℕ) (r : Option Row) (s : State) → said (use_var w v r s) ≤ 1 + said s
   unfolding use_var
-  var-few v none s = omega arith
-  var-few v (some (row i x k a b)) s = omega (arith, one_more (answer (write v (found v k 0))) s.log)
+  var-few v None s = omega arith
+  var-few v (Some (row i x k a b)) s = omega (arith, one_more (answer (write v (found v k 0))) s.log)
 
   name-few : (x : ℕ) (o : Option ℕ) (s : State) → said (use_name w x o s) ≤ suc (suc (said s))
   unfolding use_name
-  name-few x (some v) s = omega (arith, one_more (answer (write (w.id x) (found v (kind_of w v) 0))) s.log)
-  name-few x none s = omega (arith, one_more (answer (write (w.id x) missing)) s.log, if-few (not (w.is_star x)) (find (finding e1001 0 0 (suc x) 0 0)) (say (answer (write (w.id x) missing)) s))
+  name-few x (Some v) s = omega (arith, one_more (answer (write (w.id x) (found v (kind_of w v) 0))) s.log)
+  name-few x None s = omega (arith, one_more (answer (write (w.id x) missing)) s.log, if-few (not (w.is_star x)) (find (finding e1001 0 0 (suc x) 0 0)) (say (answer (write (w.id x) missing)) s))
 
   -- a hushed name says nothing
   visit-few : (hushed : Bool) (x : ℕ) (o : Option ℕ) (s : State) → said (visit w hushed x o s) ≤ suc (suc (said s))
@@ -142,8 +141,8 @@ module _ (w : World) where
 
   new-few : (o : Option ℕ) (x v k : ℕ) (s : State) → said (bind_new w o x v k s) ≤ 1 + said s
   unfolding bind_new
-  new-few none x v k s = omega (arith, bind-few x v k s)
-  new-few (some u) x v k s = omega arith
+  new-few None x v k s = omega (arith, bind-few x v k s)
+  new-few (Some u) x v k s = omega arith
 
   elem-few : (k : ℕ) (p : Option ℕ) (s : State) → said (bind_elem w k (variable p) s) ≤ length (maybe_words p) + said s
   unfolding bind_elem variable maybe_words
@@ -261,7 +260,7 @@ few warns st =
       arith,
       ap length (written-reverse l),
       length-reverse (written l),
-      one_more (open' (scope root_scope none st.start st.stop)) [],
+      one_more (open' (scope root_scope None st.start st.stop)) [],
       nothing_said,
       few-Cs w st.head (start st),
       few-As w st.arms (clauses w st.head (start st)),

@@ -1,13 +1,13 @@
 -- E1001 and the unresolved record arise at the uses whose name is not visible, and nowhere else: `arises` at one use, also where others are
 -- hushed (`arises-hushed`), `of-uses` over a statement. One induction (`sees`) serves every view of the log that passes over all else
 -- (`Quiet`). `lacking` and `lookup-none`: the test, and lookup, of a name that is not visible.
+use Rattle.std.specs.Prelude.{Option, None, Some}
 use Prim.Native.Nat.{ℕ, suc}
 use mathlib.Core.Path.{◌≡◌, refl, sym, ◌∙◌, ap, ap₂, subst}
 use mathlib.Core.Logic.{◌↔◌, ◌⊎◌, inl, inr}
 use mathlib.Core.Bool.{Bool, true, false, cond, not, ◌&&◌}
 use mathlib.Core.List.Memᴰ
 use mathlib.Core.List.{List, [], ◌∷◌, ◌++◌, flat_map, reverse, reverse_aux, append-nil, append_assoc, Memᴰ}
-use mathlib.Core.Option.{Option, none, some}
 use native.Mathlib.Omega.{arith}
 use lib.Dec.{eqb}
 use borrow.Author.Tests.{eqb-true, eq-eqb}
@@ -98,23 +98,23 @@ module _ {B : Type 0} {f : Event → List B} (q : Quiet f) (w : World) where
 
   sees-new : (o : Option ℕ) (x v k : ℕ) (s : State) → Seen' s.log (bind_new w o x v k s).log []
   unfolding bind_new
-  sees-new none x v k s = quiet _ (q.binds _ _ _)
-  sees-new (some u) x v k s = none'
+  sees-new None x v k s = quiet _ (q.binds _ _ _)
+  sees-new (Some u) x v k s = none'
 
   sees-path : (o : Option ℕ) (s : State) → Seen' s.log (bind_path w o s).log []
   unfolding bind_path
-  sees-path none s = none'
-  sees-path (some v) s = sees-anew 0 0 (name_of w v) v path_kind s
+  sees-path None s = none'
+  sees-path (Some v) s = sees-anew 0 0 (name_of w v) v path_kind s
 
   sees-elem : (k : ℕ) (o : Option ℕ) (s : State) → Seen' s.log (bind_elem w k o s).log []
   unfolding bind_elem
-  sees-elem k none s = none'
-  sees-elem k (some v) s = sees-new (lookup (name_of w v) s.visible) (name_of w v) v k s
+  sees-elem k None s = none'
+  sees-elem k (Some v) s = sees-new (lookup (name_of w v) s.visible) (name_of w v) v k s
 
   sees-var : (v : ℕ) (r : Option Row) (s : State) → view f (use_var w v r s).log ≡ view f s.log ++ (view f (use_var w v r nought).log ++ [])
   unfolding use_var view
-  sees-var v none s = sym (append-nil _)
-  sees-var v (some (row i x k a b)) s = rw append-nil refl
+  sees-var v None s = sym (append-nil _)
+  sees-var v (Some (row i x k a b)) s = rw append-nil refl
 
   sees-if : (b : Bool) (a e : Event) (s : State) → view f (say_if b e (say a s)).log ≡ view f s.log ++ (view f (say_if b e (say a nought)).log ++ [])
   unfolding say_if view
@@ -123,8 +123,8 @@ module _ {B : Type 0} {f : Event → List B} (q : Quiet f) (w : World) where
 
   sees-name : (x : ℕ) (o : Option ℕ) (s : State) → view f (use_name w x o s).log ≡ view f s.log ++ (view f (use_name w x o nought).log ++ [])
   unfolding use_name view
-  sees-name x (some v) s = rw append-nil refl
-  sees-name x none s = sees-if (not (w.is_star x)) _ _ s
+  sees-name x (Some v) s = rw append-nil refl
+  sees-name x None s = sees-if (not (w.is_star x)) _ _ s
 
   sees-visit : (hushed : Bool) (x : ℕ) (s : State) → Seen' s.log (visit w hushed x (lookup x s.visible) s).log (cond hushed [] (by_name x s.visible ∷ []))
   unfolding visit at_use flat_map
@@ -207,22 +207,22 @@ sees f q warns s =
 
 -- The visible list: what the lookup finds none for, it lacks.
 unfoldable is_none : Option ℕ → Bool
-is_none none = true
-is_none (some v) = false
+is_none None = true
+is_none (Some v) = false
 
 lacks-lookup : (x : ℕ) (vis : List Seen) → lacks x vis ≡ is_none (lookup x vis)
 unfolding lacks lookup is_none
 lacks-lookup x [] = refl
 lacks-lookup x (seen y v r ∷ vis) = go (eqb x y) (lacks-lookup x vis)
   where
-    go : (b : Bool) → lacks x vis ≡ is_none (lookup x vis) → (not b && lacks x vis) ≡ is_none (cond b (some v) (lookup x vis))
+    go : (b : Bool) → lacks x vis ≡ is_none (lookup x vis) → (not b && lacks x vis) ≡ is_none (cond b (Some v) (lookup x vis))
     go true ih = refl
     go false ih = ih
 
-is-none : (o : Option ℕ) → (is_none o ≡ true) ↔ (o ≡ none)
+is-none : (o : Option ℕ) → (is_none o ≡ true) ↔ (o ≡ None)
 unfolding is_none
-is-none none = (λ e. refl, λ e. refl)
-is-none (some v) = (λ e. never (cc), λ e. never (cc))
+is-none None = (λ e. refl, λ e. refl)
+is-none (Some v) = (λ e. never (cc), λ e. never (cc))
 
 test-lacks : (x : ℕ) (vis : List Seen) → lacks x vis ≡ true → Lacks x vis
 unfolding lacks
@@ -246,7 +246,7 @@ lacks-test x (seen y u r ∷ vis) h = go (eqb x y) (eqb-true x y) (lacks-test x 
 pub lacking : (x : ℕ) (vis : List Seen) → (lacks x vis ≡ true) ↔ Lacks x vis
 lacking x vis = (test-lacks x vis, lacks-test x vis)
 
-pub lookup-none : (x : ℕ) (vis : List Seen) → (lookup x vis ≡ none) ↔ Lacks x vis
+pub lookup-none : (x : ℕ) (vis : List Seen) → (lookup x vis ≡ None) ↔ Lacks x vis
 lookup-none x vis = (
   λ e. test-lacks x vis (lacks-lookup x vis ∙ (is-none (lookup x vis)).1 e),
   λ h. (is-none (lookup x vis)).0 (sym (lacks-lookup x vis) ∙ lacks-test x vis h),
@@ -294,20 +294,20 @@ module _ (warns : Bool) (st : Statement) (x : ℕ) (vis : List Seen) where
 
   same_log : (o : Option ℕ) (cur last : ℕ) → (use_name w x o (record { visible = vis; cur = cur; last = last; log = [] })).log ≡ (use_name w x o nought).log
   unfolding use_name
-  same_log (some v) cur last = refl
-  same_log none cur last = either (not (w.is_star x)) _ _
+  same_log (Some v) cur last = refl
+  same_log None cur last = either (not (w.is_star x)) _ _
     where
       either : (b : Bool) (a e : Event) → (say_if b e (say a (record { visible = vis; cur = cur; last = last; log = [] }))).log ≡ (say_if b e (say a nought)).log
       either true a e = unfold say_if in refl
       either false a e = unfold say_if in refl
 
-  arises-at : (o : Option ℕ) → (o ≡ none) ↔ Lacks x vis → Arises st x vis (reverse (use_name w x o nought).log)
+  arises-at : (o : Option ℕ) → (o ≡ None) ↔ Lacks x vis → Arises st x vis (reverse (use_name w x o nought).log)
   unfolding use_name world_of
-  arises-at (some v) h = record {
+  arises-at (Some v) h = record {
     finds = λ f. (λ m. never (let e = Memᴰ.eq_of_singleton m in cc), λ p. never (let e = h.1 p.1 in cc));
     records = λ i. (λ m. never (let e = Memᴰ.eq_of_singleton m in cc), λ p. never (let e = h.1 p.1 in cc));
   }
-  arises-at none h = rw (said-is (star_name (bytes_of st x))) (arises-missing (star_name (bytes_of st x)) (star (bytes_of st x)) (h.0 refl))
+  arises-at None h = rw (said-is (star_name (bytes_of st x))) (arises-missing (star_name (bytes_of st x)) (star (bytes_of st x)) (h.0 refl))
 
   -- In a state where vis is visible and nothing was said yet; and so where other names are hushed.
   pub arises : (cur last : ℕ) → Arises st x vis (reverse (resolve w (unresolved x) (record { visible = vis; cur = cur; last = last; log = [] })).log)
@@ -347,8 +347,8 @@ module _ (w : World) where
   found_at (by_var v) = go (w.row v)
     where
       go : (r : Option Row) → view finds_of (use_var w v r nought).log ≡ []
-      go none = refl
-      go (some (row i x k a b)) = refl
+      go None = refl
+      go (Some (row i x k a b)) = refl
   found_at (by_name x vis) = rw (lacks-lookup x vis) (go (lookup x vis))
     where
       unless-star : (b : Bool) (a : Write) → view finds_of (say_if (not b) (find (its-finding x)) (say (answer a) nought)).log ≡ cond (not b) (its-finding x ∷ []) []
@@ -356,16 +356,16 @@ module _ (w : World) where
       unless-star false a = unfold say_if in refl
 
       go : (o : Option ℕ) → view finds_of (use_name w x o nought).log ≡ cond (is_none o && not (w.is_star x)) (its-finding x ∷ []) []
-      go none = unless-star (w.is_star x) _
-      go (some v) = refl
+      go None = unless-star (w.is_star x) _
+      go (Some v) = refl
 
   recorded-at : (u : Use) → view answer_of (at_use w u) ≡ record_of w u
   unfolding at_use record_of view answer_of use_var use_name of_row answer_by
   recorded-at (by_var v) = go (w.row v)
     where
       go : (r : Option Row) → view answer_of (use_var w v r nought).log ≡ of_row v r
-      go none = refl
-      go (some (row i x k a b)) = refl
+      go None = refl
+      go (Some (row i x k a b)) = refl
   recorded-at (by_name x vis) = go (lookup x vis)
     where
       no_more : (b : Bool) (a : Write) → view answer_of (say_if (not b) (find (its-finding x)) (say (answer a) nought)).log ≡ a ∷ []
@@ -373,21 +373,21 @@ module _ (w : World) where
       no_more false a = unfold say_if in refl
 
       go : (o : Option ℕ) → view answer_of (use_name w x o nought).log ≡ write (w.id x) (answer_by w o) ∷ []
-      go none = no_more (w.is_star x) _
-      go (some v) = refl
+      go None = no_more (w.is_star x) _
+      go (Some v) = refl
 
   unresolved-at : (u : Use) → flat_map unresolved_as (record_of w u) ≡ unresolved_of w u
   unfolding record_of unresolved_of unresolved_as of_row flat_map is_none answer_by
   unresolved-at (by_var v) = go (w.row v)
     where
       go : (r : Option Row) → flat_map unresolved_as (of_row v r) ≡ []
-      go none = refl
-      go (some (row i x k a b)) = refl
+      go None = refl
+      go (Some (row i x k a b)) = refl
   unresolved-at (by_name x vis) = rw (lacks-lookup x vis) (go (lookup x vis))
     where
       go : (o : Option ℕ) → flat_map unresolved_as (write (w.id x) (answer_by w o) ∷ []) ≡ cond (is_none o) (write (w.id x) missing ∷ []) []
-      go none = refl
-      go (some v) = refl
+      go None = refl
+      go (Some v) = refl
 
 pub of-uses : (warns : Bool) (s : Statement) → OfUses warns s
 unfolding findings finds_in answers_in with_code unresolved_in

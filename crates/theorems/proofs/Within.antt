@@ -5,13 +5,13 @@
 -- well. For each step `-W` says that a state stays well: `standing-W`, `enter-W`, `answer-W`, `find-W`, `carry-W`, `bind-W`, `anew-W`,
 -- `new-W`, `path-W`, `elem-W`; the walks `resolve-W`, `resolves-W`, `pattern-W`; and the clauses' steps `carry_all-W`, `bind_all-W`,
 -- `yields-W`, `barrier-W`, `fresh-W`, `sort-W`, `clause-W`, `clauses-W`, `arms-W`.
+use Rattle.std.specs.Prelude.{Option, None, Some}
 use Prim.Native.Nat.{ℕ, suc, ◌+◌, ◌≤◌, ◌<◌}
 use native.Mathlib.Nat.{le_refl, le_trans}
 use native.Mathlib.Omega.{arith}
 use mathlib.Core.Path.{◌≡◌, refl, ◌∙◌}
 use mathlib.Core.Bool.{Bool, true, false, not, ◌&&◌}
 use mathlib.Core.List.{List, [], ◌∷◌, ◌++◌, reverse_aux}
-use mathlib.Core.Option.{Option, none, some}
 use Rattle.scope.specs.Graph.{comprehension_scope, return_scope, with_barrier, call_scope, unwind_scope, root_scope, carried}
 use Rattle.expr.specs.Tree.{Expr, var, unresolved, node, predicate, comprehension, Exprs, done, more, mark, Steps, end, part, elem}
 use Rattle.clauses.specs.Tree.{Yield, yield, Clause, opening, reading, with', return, unwind, call, Arm, arm, exprs, keys_of}
@@ -101,13 +101,13 @@ module _ (w : World) (lo z : ℕ) where
 
   var-W : (v : ℕ) (r : Option Row) {s : State} → Fine s → Runs s (use_var w v r s)
   unfolding use_var
-  var-W v none h = still refl refl h
-  var-W v (some (row i x k a b)) h = still refl refl (answer-W _ h)
+  var-W v None h = still refl refl h
+  var-W v (Some (row i x k a b)) h = still refl refl (answer-W _ h)
 
   name-W : (x : ℕ) (o : Option ℕ) {s : State} → Fine s → Runs s (use_name w x o s)
   unfolding use_name
-  name-W x (some v) h = still refl refl (answer-W _ h)
-  name-W x none {s} h = then (still refl refl (answer-W _ h)) (find-W (not (w.is_star x)) (finding e1001 0 0 (suc x) 0 0) (answer-W _ h))
+  name-W x (Some v) h = still refl refl (answer-W _ h)
+  name-W x None {s} h = then (still refl refl (answer-W _ h)) (find-W (not (w.is_star x)) (finding e1001 0 0 (suc x) 0 0) (answer-W _ h))
 
   visit-W : (hushed : Bool) (x : ℕ) (o : Option ℕ) {s : State} → Fine s → Runs s (visit w hushed x o s)
   unfolding visit
@@ -120,18 +120,18 @@ module _ (w : World) (lo z : ℕ) where
 
   pub new-W : (o : Option ℕ) (x v k : ℕ) {s : State} → lo < s.cur → s.cur ≤ s.last → Fine s → Runs s (bind_new w o x v k s)
   unfolding bind_new
-  new-W none x v k p q h = bind-W false x v k p q h
-  new-W (some u) x v k p q h = still refl refl h
+  new-W None x v k p q h = bind-W false x v k p q h
+  new-W (Some u) x v k p q h = still refl refl h
 
   pub path-W : (o : Option ℕ) {s : State} → lo < s.cur → s.cur ≤ s.last → Fine s → Runs s (bind_path w o s)
   unfolding bind_path
-  path-W none p q h = still refl refl h
-  path-W (some v) p q h = anew-W 0 0 (name_of w v) v path_kind p q h
+  path-W None p q h = still refl refl h
+  path-W (Some v) p q h = anew-W 0 0 (name_of w v) v path_kind p q h
 
   pub elem-W : (k : ℕ) (o : Option ℕ) {s : State} → lo < s.cur → s.cur ≤ s.last → Fine s → Runs s (bind_elem w k o s)
   unfolding bind_elem
-  elem-W k none p q h = still refl refl h
-  elem-W k (some v) {s} p q h = new-W (lookup (name_of w v) s.visible) (name_of w v) v k p q h
+  elem-W k None p q h = still refl refl h
+  elem-W k (Some v) {s} p q h = new-W (lookup (name_of w v) s.visible) (name_of w v) v k p q h
 
   mutual
     unfolding resolve

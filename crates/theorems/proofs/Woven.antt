@@ -3,13 +3,13 @@
 -- don't see what its WITHs carry and bind. `Weaves kind s`: whatever is written and carried later, the log of s gives its bindings, if the
 -- first carried later stands at a barrier above the last scope. Each step keeps it (`resolves-V`, `pattern-V`, `root-V`, `clause-V`,
 -- `clauses-V`, `arms-V`), and so `woven-log` of a statement.
+use Rattle.std.specs.Prelude.{Option, None, Some}
 use Prim.Native.Nat.{ℕ, suc, ◌<◌}
 use native.Mathlib.Nat.{le_refl}
 use native.Mathlib.Omega.{arith}
 use mathlib.Core.Path.{◌≡◌, refl, sym, ◌∙◌, ap, ap₂}
 use mathlib.Core.Bool.{Bool, true, false, not, ◌&&◌}
 use mathlib.Core.List.{List, [], ◌∷◌, ◌++◌, reverse, reverse_aux}
-use mathlib.Core.Option.{Option, none, some}
 use lib.Dec.{eqb}
 use Rattle.scope.specs.Graph.{comprehension_scope, return_scope, with_barrier, call_scope, unwind_scope, root_scope, scope, Carried, carried}
 use Rattle.expr.specs.Tree.{Expr, var, unresolved, node, predicate, comprehension, Exprs, done, more, mark, Steps, end, part, elem}
@@ -166,19 +166,19 @@ module _ (kind : ℕ → ℕ) (w : World) where
   unfolding written logs woven
   enter-V k a b {s} e h = record {
     weaves = λ l cs p.
-        h.weaves (open' (scope k (some s.cur) a b) ∷ l) cs (above_down cs (omega arith) p) ∙ ap (reverse_aux (binds_in s.log)) (rw e refl);
+        h.weaves (open' (scope k (Some s.cur) a b) ∷ l) cs (above_down cs (omega arith) p) ∙ ap (reverse_aux (binds_in s.log)) (rw e refl);
   }
 
   var-V : (v : ℕ) (r : Option Row) {s : State} → Weaves kind s → Weaves kind (use_var w v r s)
   unfolding use_var
-  var-V v none h = h
-  var-V v (some (row i x k a b)) h = answer-V _ h
+  var-V v None h = h
+  var-V v (Some (row i x k a b)) h = answer-V _ h
 
   visit-V : (hushed : Bool) (x : ℕ) (o : Option ℕ) {s : State} → Weaves kind s → Weaves kind (visit w hushed x o s)
   unfolding visit use_name
   visit-V true x o h = h
-  visit-V false x (some v) h = answer-V _ h
-  visit-V false x none h = find-V (not (w.is_star x)) (finding e1001 0 0 (suc x) 0 0) (answer-V _ h)
+  visit-V false x (Some v) h = answer-V _ h
+  visit-V false x None h = find-V (not (w.is_star x)) (finding e1001 0 0 (suc x) 0 0) (answer-V _ h)
 
   anew-V : (a b x v k : ℕ) {s : State} → Weaves kind s → Weaves kind (bind_anew w a b x v k s)
   unfolding bind_anew
@@ -186,18 +186,18 @@ module _ (kind : ℕ → ℕ) (w : World) where
 
   path-V : (o : Option ℕ) {s : State} → Weaves kind s → Weaves kind (bind_path w o s)
   unfolding bind_path
-  path-V none h = h
-  path-V (some v) h = anew-V 0 0 (name_of w v) v path_kind h
+  path-V None h = h
+  path-V (Some v) h = anew-V 0 0 (name_of w v) v path_kind h
 
   new-V : (o : Option ℕ) (x v k : ℕ) {s : State} → Weaves kind s → Weaves kind (bind_new w o x v k s)
   unfolding bind_new
-  new-V none x v k h = bind-V x v k h
-  new-V (some u) x v k h = h
+  new-V None x v k h = bind-V x v k h
+  new-V (Some u) x v k h = h
 
   elem-V : (k : ℕ) (o : Option ℕ) {s : State} → Weaves kind s → Weaves kind (bind_elem w k o s)
   unfolding bind_elem
-  elem-V k none h = h
-  elem-V k (some v) {s} h = new-V (lookup (name_of w v) s.visible) (name_of w v) v k h
+  elem-V k None h = h
+  elem-V k (Some v) {s} h = new-V (lookup (name_of w v) s.visible) (name_of w v) v k h
 
   mutual
     unfolding resolve
@@ -229,29 +229,29 @@ record Carries (n : ℕ) (ps : List Pair) (s t : State) : Type 0 where
   pub last : t.last ≡ s.last
   pub cur : t.cur ≡ s.cur
   pub stays : written t.log ≡ written s.log
-  pub none : binds_in t.log ≡ binds_in s.log
+  pub None : binds_in t.log ≡ binds_in s.log
   pub adds : carries_in t.log ≡ reverse_aux (carried_at n ps) (carries_in s.log)
 
 record Binds (kind : ℕ → ℕ) (n : ℕ) (ps : List Pair) (s t : State) : Type 0 where
   pub last : t.last ≡ s.last
   pub stays : written t.log ≡ written s.log
-  pub none : carries_in t.log ≡ carries_in s.log
+  pub None : carries_in t.log ≡ carries_in s.log
   pub adds : binds_in t.log ≡ reverse_aux (bound_at kind n ps) (binds_in s.log)
 
 module _ (w : World) where
   carry-all : (ps : List Pair) (s : State) → Carries s.cur ps s (carry_all w ps s)
   unfolding carry_all carried_at written logs
-  carry-all [] s = record { last = refl; cur = refl; stays = refl; none = refl; adds = refl }
+  carry-all [] s = record { last = refl; cur = refl; stays = refl; None = refl; adds = refl }
   carry-all (pair x v ∷ ps) s =
       let h = carry-all ps (say (carry (carried s.cur x v)) s) in
-      record { last = h.last; cur = h.cur; stays = h.stays; none = h.none; adds = h.adds }
+      record { last = h.last; cur = h.cur; stays = h.stays; None = h.none; adds = h.adds }
 
   bind_all_lem : (ps : List Pair) (s : State) → Binds (kind_of w) s.cur ps s (bind_all w ps s)
   unfolding bind_all bound_at written logs
-  bind_all_lem [] s = record { last = refl; stays = refl; none = refl; adds = refl }
+  bind_all_lem [] s = record { last = refl; stays = refl; None = refl; adds = refl }
   bind_all_lem (pair x v ∷ ps) s =
       let h = bind_all_lem ps (bind_over true x v (kind_of w v) s) in
-      record { last = h.last; stays = h.stays; none = h.none; adds = h.adds }
+      record { last = h.last; stays = h.stays; None = h.none; adds = h.adds }
 
   -- a barrier with its Root
   pub root-V : (a b : ℕ) (ps : List Pair) {s : State} → Weaves (kind_of w) s → Weaves (kind_of w) (fresh w b ps (barrier w a b ps s))
@@ -261,10 +261,10 @@ module _ (w : World) where
         let lower : Above n cs = above_down cs (omega (arith, i.last, j.last)) p in
         let adopt = adopts kind n ps cs lower in
         ap₂ (λ x y. woven kind (reverse_aux x l) (reverse_aux y cs))
-        (j.stays ∙ ap₂ (λ c x. open' (scope root_scope (some c) b b) ∷ x) i.cur i.stays)
+        (j.stays ∙ ap₂ (λ c x. open' (scope root_scope (Some c) b b) ∷ x) i.cur i.stays)
         (j.none ∙ i.adds)
-        ∙ ap (woven kind (reverse_aux (written s.log) (bar ∷ open' (scope root_scope (some n) b b) ∷ l))) (reverse_twice (carried_at n ps) (carries_in s.log) cs)
-        ∙ h.weaves (bar ∷ open' (scope root_scope (some n) b b) ∷ l) (carried_at n ps ++ cs) (above-pairs s.last ps cs (above_down cs (omega arith) lower))
+        ∙ ap (woven kind (reverse_aux (written s.log) (bar ∷ open' (scope root_scope (Some n) b b) ∷ l))) (reverse_twice (carried_at n ps) (carries_in s.log) cs)
+        ∙ h.weaves (bar ∷ open' (scope root_scope (Some n) b b) ∷ l) (carried_at n ps ++ cs) (above-pairs s.last ps cs (above_down cs (omega arith) lower))
         ∙ ap (reverse_aux (binds_in s.log)) (ap₂ (λ x y. x ++ woven kind l y) adopt.0 adopt.1)
         ∙ sym
         (ap (λ x. reverse_aux x (woven kind l cs)) (j.adds ∙ ap₂ (λ c x. reverse_aux (bound_at kind (suc c) ps) x) i.last i.none)
@@ -278,7 +278,7 @@ module _ (w : World) where
       n = suc s.last
 
       bar : Event
-      bar = open' (scope with_barrier (some s.cur) a b)
+      bar = open' (scope with_barrier (Some s.cur) a b)
 
       u : State
       u = carry_all w ps (enter with_barrier a b s)

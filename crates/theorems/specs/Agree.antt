@@ -1,6 +1,5 @@
 -- Lookup on the finished lists gives what the walk saw: the variable of a name's newest binding, and the scope that binds it.
-use Rattle.std.specs.Prelude.{ℕ, ◌<◌, ◌≡◌, Bool, cond, List, [], ◌∷◌, ◌++◌, reverse, eqb}
-use Rattle.std.proofs.Math.Option.{some}
+use Rattle.std.specs.Prelude.{ℕ, ◌<◌, ◌≡◌, Bool, cond, List, [], ◌∷◌, ◌++◌, reverse, eqb, Some}
 use Rattle.scope.specs.Graph.{comprehension_scope, scope}
 use Rattle.scope.specs.Lookup.{carries}
 use Rattle.semantics.specs.Lookup.{Looked, at, nothing, refused, lookup_in}
@@ -80,4 +79,4 @@ module _ (warns : Bool) (s : Statement) where
     pub barrier : (p : Site) (x : ℕ) → Stands s p
         → in_lists (barrier_of warns s p) x ≡ cond (carries (carried_list warns s) (barrier_of warns s p) x) (seen_as x (before warns s p).visible) nothing
     -- from a comprehension's scope
-    pub inner : (l m : List Event) (p a b : ℕ) → log warns s ≡ l ++ open' (scope comprehension_scope (some p) a b) ∷ m → Inner l m p
+    pub inner : (l m : List Event) (p a b : ℕ) → log warns s ≡ l ++ open' (scope comprehension_scope (Some p) a b) ∷ m → Inner l m p

@@ -1,6 +1,6 @@
 -- What "Before and after a WITH" compares: entries without their spans, and with their scope numbers moved.
 use Rattle.std.specs.Prelude.{ℕ, zero, suc, ◌+◌, ◌-◌, cond, ◌&&◌, List, [], ◌∷◌, leb, ltb}
-use Rattle.std.proofs.Math.Option.{map}
+use Rattle.std.specs.Option.{option_map}
 use Rattle.scope.specs.Graph.{Scope, scope, Entry, entry}
 use Rattle.semantics.specs.Log.{Finding, finding}
 
@@ -13,7 +13,7 @@ blank_finding (finding c a b x o t) = finding c 0 0 x o t
 
 -- scope numbers by f
 unfoldable pub number_scope : (ℕ → ℕ) → Scope → Scope
-number_scope f (scope k p a b) = scope k (map f p) a b
+number_scope f (scope k p a b) = scope k (option_map f p) a b
 
 unfoldable pub number_entry : (ℕ → ℕ) → Entry → Entry
 number_entry f (entry s x v k r) = entry (f s) x v k r

@@ -1,8 +1,7 @@
 -- Where a WITH, its sort keys and the part after it stand in the five lists: the numbers, pairs and pieces that With compares are the
 -- lists' own.
-use Rattle.std.specs.Prelude.{ℕ, ◌≡◌, Bool, length}
+use Rattle.std.specs.Prelude.{ℕ, ◌≡◌, Bool, length, Some}
 use mathlib.Core.List.{List, [], ◌∷◌, ◌++◌, Memᴰ}
-use Rattle.std.proofs.Math.Option.{some}
 use Rattle.scope.specs.Graph.{root_scope, with_barrier, Scope, scope}
 use Rattle.clauses.specs.Tree.{with'}
 use Rattle.sheet.specs.Statement.{Statement}
@@ -36,9 +35,9 @@ pub record InLists (warns : Bool) (s : Statement) (p : Site) : Type 0 where
   pub scopes : Lists.scopes warns s ≡ scopes_in before ++ (scopes_in (root_log warns s p) ++ (scopes_in (keys_log warns s p) ++ scopes_in (rest_log warns s p)))
   pub earlier : List Scope
   pub parent : ℕ
-  pub barrier : scopes_in before ≡ earlier ++ scope with_barrier (some parent) (cut_of p).start (cut_of p).stop ∷ []
+  pub barrier : scopes_in before ≡ earlier ++ scope with_barrier (Some parent) (cut_of p).start (cut_of p).stop ∷ []
   pub barrier_at : length earlier ≡ barrier_of warns s p
-  pub root : scopes_in (root_log warns s p) ≡ scope root_scope (some (barrier_of warns s p)) (cut_of p).stop (cut_of p).stop ∷ []
+  pub root : scopes_in (root_log warns s p) ≡ scope root_scope (Some (barrier_of warns s p)) (cut_of p).stop (cut_of p).stop ∷ []
   pub root_at : length (scopes_in before) ≡ new_root warns s p
   pub keys_at : length (scopes_in (keys_log warns s p)) ≡ key_scopes warns s p
   -- Bindings: those of scopes before the new Root, its own, those of the sort keys' scopes, and the rest's; from its number on, besides the

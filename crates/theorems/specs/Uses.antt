@@ -1,8 +1,7 @@
 -- The uses of names and variables, each with what is visible there, and what each leaves in the lists (document 01, "Walking clauses
 -- (000)": "E1001 comes at each visit of an Unresolved name not visible, except `*`, recorded unresolved without it").
-use Rattle.std.specs.Prelude.{ℕ, suc, ◌≡◌, ◌↔◌, Bool, true, cond, not, ◌&&◌, eqb}
+use Rattle.std.specs.Prelude.{ℕ, suc, ◌≡◌, ◌↔◌, Bool, true, cond, not, ◌&&◌, eqb, Option, None, Some}
 use mathlib.Core.List.{List, [], ◌∷◌, ◌++◌, flat_map, Memᴰ}
-use Rattle.std.proofs.Math.Option.{Option, none, some}
 use Rattle.words.specs.Fnv.{use_id}
 use Rattle.scope.specs.Graph.{return_scope, comprehension_scope}
 use Rattle.expr.specs.Tree.{Expr, var, unresolved, node, predicate, comprehension, Exprs, done, more, mark, Steps, end, part, elem}
@@ -30,8 +29,8 @@ lacks x (seen y v p ∷ vis) = not (eqb x y) && lacks x vis
 
 -- "A Var records its own id, visible or not, if the sheet's bindings section has it."
 unfoldable pub of_row : ℕ → Option Row → List Write
-of_row v none = []
-of_row v (some (row i x k a b)) = write v (found v k 0) ∷ []
+of_row v None = []
+of_row v (Some (row i x k a b)) = write v (found v k 0) ∷ []
 
 module _ (w : World) where
   -- The uses of a tree in walk order, each with what the walk has visible there. A PatternPredicate is not resolved, a hushed name is no
@@ -89,8 +88,8 @@ module _ (w : World) where
 
   -- The record of a name: its use id, and the variable that the visible list has for it.
   unfoldable pub answer_by : Option ℕ → Answer
-  answer_by none = missing
-  answer_by (some v) = found v (kind_of w v) 0
+  answer_by None = missing
+  answer_by (Some v) = found v (kind_of w v) 0
 
   unfoldable pub record_of : Use → List Write
   record_of (by_var v) = of_row v (w.row v)

@@ -1,7 +1,6 @@
 -- What a WITH carries and binds can stand apart from the rest of a log: the carried list has the names and variables, and a Root under a barrier
 -- binds what that barrier carries. So the bindings list comes from the rest of the log and the carried list. Only contracts need these.
-use Rattle.std.specs.Prelude.{ℕ, suc, ◌≡◌, Bool, true, false, cond, List, [], ◌∷◌, ◌++◌, eqb}
-use Rattle.std.proofs.Math.Option.{Option, none, some}
+use Rattle.std.specs.Prelude.{ℕ, suc, ◌≡◌, Bool, true, false, cond, List, [], ◌∷◌, ◌++◌, eqb, Option, None, Some}
 use Rattle.scope.specs.Graph.{root_scope, Scope, scope, Carried, carried}
 use Rattle.sheet.specs.Statement.{Statement}
 use Rattle.semantics.specs.Log.{Bound, bound, Event, open', bind, carry, answer, find, binds_in, carries_in}
@@ -23,8 +22,8 @@ written (e ∷ l) = written_one e (written l)
 
 -- the barrier above a scope that is a WITH's new Root
 abbrev pub barrier_of : Scope → Option ℕ
-barrier_of (scope k none a b) = none
-barrier_of (scope k (some p) a b) = cond (eqb k root_scope) (some p) none
+barrier_of (scope k None a b) = None
+barrier_of (scope k (Some p) a b) = cond (eqb k root_scope) (Some p) None
 
 module _ (kind : ℕ → ℕ) where
   -- what barrier b carries, of entries that begin with it, bound in its Root, which has the next number; and the entries after them
@@ -38,12 +37,12 @@ module _ (kind : ℕ → ℕ) where
 
   -- the bindings that a log makes, oldest first, with the entries that its barriers carry
   abbrev pub adopted_by : Option ℕ → List Carried → List Bound
-  adopted_by none cs = []
-  adopted_by (some b) cs = adopted b cs
+  adopted_by None cs = []
+  adopted_by (Some b) cs = adopted b cs
 
   abbrev pub beyond_by : Option ℕ → List Carried → List Carried
-  beyond_by none cs = cs
-  beyond_by (some b) cs = beyond b cs
+  beyond_by None cs = cs
+  beyond_by (Some b) cs = beyond b cs
 
   unfoldable pub woven : List Event → List Carried → List Bound
   woven [] cs = []

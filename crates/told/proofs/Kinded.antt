@@ -6,7 +6,6 @@ use native.Mathlib.Omega.{arith}
 use mathlib.Core.Path.{◌≡◌, refl}
 use mathlib.Core.Bool.{Bool, true, false, cond, ◌&&◌}
 use mathlib.Core.List.{List, [], ◌∷◌}
-use mathlib.Core.Option.{Option, none, some}
 use lib.Dec.{eqb, leb}
 use lib.ListN.{length, get_or}
 use borrow.Author.Tests.{eqb-true, eqb-false, leb-true}
@@ -128,22 +127,22 @@ module _ (names : List (List ℕ)) where
 
   gives_row : (c : Setting) (r : Option Row) → Known c → RowIn (length names) r → Gives (at_row c r)
   unfolding at_row
-  gives_row c none h g = nil
-  gives_row general (some (row i x k a b)) h g = nil
-  gives_row arithmetic (some (row i x k a b)) h g = gives-unless (eqb k 4) (λ e. pushed.arithmetic g.0 g.1 (omega (arith, eqb-false k 4 e)))
-  gives_row property (some (row i x k a b)) h g = gives-if (eqb k 3) (λ e. rw (eqb-true k 3 e) (pushed.property g.0))
-  gives_row boolean (some (row i x k a b)) h g = nil
-  gives_row (listed d o) (some (row i x k a b)) h g = gives-unless (eqb k 4) (λ e. h (k + 7) (omega arith, omega (arith, eqb-false k 4 e)))
+  gives_row c None h g = nil
+  gives_row general (Some (row i x k a b)) h g = nil
+  gives_row arithmetic (Some (row i x k a b)) h g = gives-unless (eqb k 4) (λ e. pushed.arithmetic g.0 g.1 (omega (arith, eqb-false k 4 e)))
+  gives_row property (Some (row i x k a b)) h g = gives-if (eqb k 3) (λ e. rw (eqb-true k 3 e) (pushed.property g.0))
+  gives_row boolean (Some (row i x k a b)) h g = nil
+  gives_row (listed d o) (Some (row i x k a b)) h g = gives-unless (eqb k 4) (λ e. h (k + 7) (omega arith, omega (arith, eqb-false k 4 e)))
 
   gives-path : (r : Option Row) → RowIn (length names) r → Gives (misplaced 1 3 0 0 r)
   unfolding misplaced
-  gives-path none g = nil
-  gives-path (some (row i x k c d)) g = gives-unless (eqb k 3) (λ e. pushed.path g.0 (g.1, g.2, eqb-false k 3 e))
+  gives-path None g = nil
+  gives-path (Some (row i x k c d)) g = gives-unless (eqb k 3) (λ e. pushed.path g.0 (g.1, g.2, eqb-false k 3 e))
 
   gives-elem : (want a b : ℕ) (r : Option Row) → 1 ≤ want → want ≤ 2 → RowIn (length names) r → Gives (misplaced (suc want) want a b r)
   unfolding misplaced
-  gives-elem want a b none h i g = nil
-  gives-elem want a b (some (row j x k c d)) h i g = gives-unless (eqb k want) (λ e. pushed.element g.0 h i (g.1, g.2, eqb-false k want e))
+  gives-elem want a b None h i g = nil
+  gives-elem want a b (Some (row j x k c d)) h i g = gives-unless (eqb k want) (λ e. pushed.element g.0 h i (g.1, g.2, eqb-false k want e))
 
 module _ (warns : Bool) (st : Statement) (rows : Each (WellRow (length st.names)) st.bindings) where
   abbrev w : World

@@ -5,7 +5,6 @@ use Prim.Native.Nat.{ℕ, ◌-◌, ◌<◌}
 use mathlib.Core.Path.{◌≡◌, refl}
 use mathlib.Core.Bool.{Bool, true, false, not, ◌&&◌}
 use mathlib.Core.List.{List, [], ◌∷◌, ◌++◌, flat_map, reverse_aux}
-use mathlib.Core.Option.{Option, none, some}
 use lib.ListN.{length}
 use borrow.Author.Tests.{not-true}
 use Rattle.scope.specs.Graph.{comprehension_scope, return_scope, call_scope}
@@ -78,8 +77,8 @@ module _ (warns : Bool) (st : Statement) where
 
     fine-name : (x : ℕ) (o : Option ℕ) (s : State) → x < size → Says s → Says (use_name w' x o s)
     unfolding use_name world_of bytes_of
-    fine-name x (some v) s h k = cons tt k
-    fine-name x none s h k = fine-if (not (star_name (bytes_of st x))) _ _ (λ e. pushed.unresolved h (not-true (star_name (bytes_of st x)) e)) (cons tt k)
+    fine-name x (Some v) s h k = cons tt k
+    fine-name x None s h k = fine-if (not (star_name (bytes_of st x))) _ _ (λ e. pushed.unresolved h (not-true (star_name (bytes_of st x)) e)) (cons tt k)
 
     fine-visit : (b : Bool) (x : ℕ) (o : Option ℕ) (s : State) → x < size → Says s → Says (visit w' b x o s)
     unfolding visit
@@ -88,8 +87,8 @@ module _ (warns : Bool) (st : Statement) where
 
     fine-var : (v : ℕ) (o : Option Row) (s : State) → Says s → Says (use_var w' v o s)
     unfolding use_var
-    fine-var v none s k = k
-    fine-var v (some (row i x j a b)) s k = cons tt k
+    fine-var v None s k = k
+    fine-var v (Some (row i x j a b)) s k = cons tt k
 
     fine-anew : (a b x v j : ℕ) (s : State) → x < size → Says s → Says (bind_anew w' a b x v j s)
     unfolding bind_anew
@@ -102,8 +101,8 @@ module _ (warns : Bool) (st : Statement) where
 
     fine-new : (o : Option ℕ) (x v j : ℕ) (s : State) → Says s → Says (bind_new w' o x v j s)
     unfolding bind_new
-    fine-new none x v j s k = cons tt k
-    fine-new (some u) x v j s k = k
+    fine-new None x v j s k = cons tt k
+    fine-new (Some u) x v j s k = k
 
     fine-elem : (j : ℕ) (p : Option ℕ) (s : State) → Says s → Says (bind_elem w' j (variable p) s)
     unfolding bind_elem variable
@@ -142,8 +141,8 @@ module _ (warns : Bool) (st : Statement) where
 
   yield-name : (x : ℕ) (o : Option ℕ) → x < size → WellAlias (any_binder size) o → yield_name x o < size
   unfolding yield_name WellAlias
-  yield-name x none h g = h
-  yield-name x (some y) h g = g
+  yield-name x None h g = h
+  yield-name x (Some y) h g = g
 
   fine-yields : (a b : ℕ) (ys : List Yield) (s : State) → Each (WellYield (any_binder size)) ys → Says s → Says (yields w a b ys s)
   unfolding yields Each WellYield

@@ -1,10 +1,10 @@
 -- Rows of an accepted sheet: a row that a variable has is within the tables, and a variable that is bound has one. And what holds of every
 -- one of a list: of pieces, of members.
+use Rattle.std.specs.Prelude.{Option, None, Some}
 use Prim.Native.Nat.{ℕ, ◌≤◌, ◌<◌}
 use mathlib.Core.Path.{◌≡◌, refl}
 use mathlib.Core.Bool.{Bool, true, false, cond, ◌&&◌}
 use mathlib.Core.List.{List, [], ◌∷◌, ◌++◌, map, Memᴰ}
-use mathlib.Core.Option.{Option, none, some}
 use lib.Dec.{eqb}
 use Rattle.heads.specs.Answer.{is_in}
 use Rattle.expr.specs.Binders.{all_known}
@@ -39,15 +39,15 @@ both_true false b e = never (cc)
 
 -- a row within the tables
 abbrev pub RowIn : ℕ → Option Row → Type 0
-RowIn names none = Unit {0}
-RowIn names (some (row i x k a b)) = (x < names) × (1 ≤ k) × (k ≤ 4)
+RowIn names None = Unit {0}
+RowIn names (Some (row i x k a b)) = (x < names) × (1 ≤ k) × (k ≤ 4)
 
 pub row_in : (names v : ℕ) (t : List Row) → Each (WellRow names) t → RowIn names (row_of v t)
 unfolding row_of Each WellRow
 row_in names v [] h = tt
 row_in names v (row i x k a b ∷ t) h = go (eqb v i) (row_in names v t h.1)
   where
-    go : (q : Bool) → RowIn names (row_of v t) → RowIn names (cond q (some (row i x k a b)) (row_of v t))
+    go : (q : Bool) → RowIn names (row_of v t) → RowIn names (cond q (Some (row i x k a b)) (row_of v t))
     go true g = (h.0.1, h.0.2.0, h.0.2.1)
     go false g = g
 
@@ -57,7 +57,7 @@ unfolding row_of Each WellRow is_in row_id row_name
 name_in_lem names v [] h e = never (cc)
 name_in_lem names v (row i x k a b ∷ t) h e = go (eqb v i) (name_in_lem names v t h.1) e
   where
-    go : (q : Bool) → (is_in v (map row_id t) ≡ true → row_name (row_of v t) < names) → cond q true (is_in v (map row_id t)) ≡ true → row_name (cond q (some (row i x k a b)) (row_of v t)) < names
+    go : (q : Bool) → (is_in v (map row_id t) ≡ true → row_name (row_of v t) < names) → cond q true (is_in v (map row_id t)) ≡ true → row_name (cond q (Some (row i x k a b)) (row_of v t)) < names
     go true g e = h.0.1
     go false g e = g e
 

@@ -1,11 +1,11 @@
 -- Laws of what the words say of a name: a 0 where it is not visible (`zero-unseen`, `unseen-zero`), the scope of its newest entry alone
 -- where its own scope binds it (`newest-binds`; `descends-above` where a scope is opened), and words that hold nothing yet (`empty`).
+use Rattle.std.specs.Prelude.{None, Some}
 use Prim.Native.Nat.{ℕ, suc, ◌<◌, ◌≤◌}
 use native.Mathlib.Omega.{arith}
 use mathlib.Core.Path.{◌≡◌, refl, sym, ◌∙◌}
 use mathlib.Core.Bool.{Bool, true, false, cond, ◌&&◌, ◌||◌}
 use mathlib.Core.List.{List, [], ◌∷◌}
-use mathlib.Core.Option.{none, some}
 use lib.Dec.{eqb}
 use lib.ListN.{length, get_or}
 use borrow.Author.Tests.{ne_eqb, eqb-false}
@@ -13,28 +13,28 @@ use Rattle.semantics.specs.Resolve.{Seen, seen, lookup, binds}
 use Rattle.visible.specs.Visible.{scope_of, answer, place, seens, Descends, is_of, Tabled}
 
 -- a name without a place is not visible, and the other way round
-unplaced : (x : ℕ) (l : List Seen) → place x l ≡ 0 → lookup x l ≡ none
+unplaced : (x : ℕ) (l : List Seen) → place x l ≡ 0 → lookup x l ≡ None
 unfolding place lookup
 unplaced x [] e = refl
 unplaced x (seen y v p ∷ l) e = go (eqb x y) e (unplaced x l)
   where
-    go : (b : Bool) → cond b (suc (length l)) (place x l) ≡ 0 → (place x l ≡ 0 → lookup x l ≡ none) → cond b (some v) (lookup x l) ≡ none
+    go : (b : Bool) → cond b (suc (length l)) (place x l) ≡ 0 → (place x l ≡ 0 → lookup x l ≡ None) → cond b (Some v) (lookup x l) ≡ None
     go true e h = absurd (omega arith)
     go false e h = h e
 
-unseen-place : (x : ℕ) (l : List Seen) → lookup x l ≡ none → place x l ≡ 0
+unseen-place : (x : ℕ) (l : List Seen) → lookup x l ≡ None → place x l ≡ 0
 unfolding place lookup
 unseen-place x [] e = refl
 unseen-place x (seen y v p ∷ l) e = go (eqb x y) e (unseen-place x l)
   where
-    go : (b : Bool) → cond b (some v) (lookup x l) ≡ none → (lookup x l ≡ none → place x l ≡ 0) → cond b (suc (length l)) (place x l) ≡ 0
+    go : (b : Bool) → cond b (Some v) (lookup x l) ≡ None → (lookup x l ≡ None → place x l ≡ 0) → cond b (suc (length l)) (place x l) ≡ 0
     go true e h = cc e
     go false e h = h e
 
-pub zero-unseen : {n top x : ℕ} {m : List ℕ} → Tabled n top m → x < n → get_or m x 0 ≡ 0 → lookup x (seens n top m) ≡ none
+pub zero-unseen : {n top x : ℕ} {m : List ℕ} → Tabled n top m → x < n → get_or m x 0 ≡ 0 → lookup x (seens n top m) ≡ None
 zero-unseen {n} {top} {x} {m} w h e = unplaced x (seens n top m) (sym (w.heads x h) ∙ e)
 
-pub unseen-zero : {n top x : ℕ} {m : List ℕ} → Tabled n top m → x < n → lookup x (seens n top m) ≡ none → get_or m x 0 ≡ 0
+pub unseen-zero : {n top x : ℕ} {m : List ℕ} → Tabled n top m → x < n → lookup x (seens n top m) ≡ None → get_or m x 0 ≡ 0
 unseen-zero {n} {top} {x} {m} w h e = w.heads x h ∙ unseen-place x (seens n top m) e
 
 -- a list that descends from p descends from any higher c, as from a scope that is opened
@@ -59,7 +59,7 @@ newest-binds c x [] f = refl
 newest-binds c x (seen y v p ∷ l) f = go (eqb x y) (eqb p c) refl (newest-binds c x l (descends-above c p l f.0 f.1))
   where
     go : (b d : Bool) → eqb p c ≡ d → is_of c (answer (lookup x l) (scope_of x l)) ≡ binds c x l →
-        is_of c (answer (cond b (some v) (lookup x l)) (cond b p (scope_of x l))) ≡ b && d || binds c x l
+        is_of c (answer (cond b (Some v) (lookup x l)) (cond b p (scope_of x l))) ≡ b && d || binds c x l
     go true true e h = e
     go true false e h = e ∙ sym (unbound c p x l (omega (arith, f.0, eqb-false p c e)) f.1)
     go false true e h = h

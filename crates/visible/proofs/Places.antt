@@ -1,5 +1,6 @@
 -- Laws of the stack of visible names: where the newest entry of a name stands and what it tells (`told`), an entry as it is written
 -- (`write`), one entry more (`bind-new`), and one less (`fall`).
+use Rattle.std.specs.Prelude.{Option, Some}
 use Prim.Native.Nat.{ℕ, zero, suc, ◌+◌, ◌-◌, ◌*◌, ◌<◌, ◌≤◌}
 use native.Mathlib.Omega.{arith}
 use native.Mathlib.Numerals.{add-one}
@@ -7,7 +8,6 @@ use mathlib.Core.Path.{◌≡◌, refl, ap, ◌∙◌}
 use mathlib.Core.Logic.{◌≢◌}
 use mathlib.Core.Bool.{Bool, true, false, cond}
 use mathlib.Core.List.{List, ◌∷◌}
-use mathlib.Core.Option.{Option, some}
 use lib.Dec.{eqb, ltb}
 use lib.ListN.{length, get_or, set, length-set}
 use lib.Seq.{get_or-set_same, get_or-set_other}
@@ -36,7 +36,7 @@ abbrev pub Told : ℕ → List ℕ → ℕ → Found → Type 0
 Told n m p r = (p ≡ 0 → r ≡ found.No) × ((j : ℕ) → p ≡ suc j → r ≡ found.Is (get_or m (n + j * 4 + 1) 0) (get_or m (n + j * 4 + 2) 0))
 
 told-head : (c : Bool) (n t l q : ℕ) (m : List ℕ) (u : Option ℕ) (s : ℕ) → l ≡ t → Told n m q (answer u s) →
-    Told n m (cond c (suc l) q) (answer (cond c (some (get_or m (n + t * 4 + 1) 0)) u) (cond c (get_or m (n + t * 4 + 2) 0) s))
+    Told n m (cond c (suc l) q) (answer (cond c (Some (get_or m (n + t * 4 + 1) 0)) u) (cond c (get_or m (n + t * 4 + 2) 0) s))
 told-head true n t l q m u s e k = ((λ g. absurd (omega arith)), (λ j g. let z : t ≡ j = omega (arith, e, g) in rw z))
 told-head false n t l q m u s e k = k
 

@@ -1,6 +1,5 @@
 -- The list of visible names of the resolve walk, and how it stands in words.
-use Rattle.std.specs.Prelude.{ℕ, zero, suc, ◌+◌, ◌*◌, ◌<◌, ◌≤◌, ◌≡◌, Bool, false, cond, List, [], ◌∷◌, eqb, length, get_or}
-use Rattle.std.proofs.Math.Option.{Option, none, some}
+use Rattle.std.specs.Prelude.{ℕ, zero, suc, ◌+◌, ◌*◌, ◌<◌, ◌≤◌, ◌≡◌, Bool, false, cond, List, [], ◌∷◌, eqb, length, get_or, Option, None, Some}
 use Rattle.semantics.specs.Resolve.{Seen, seen, Pair, pair, once}
 use Rattle.visible.specs.declared.Found.{Found}
 use Rattle.visible.specs.declared.Found.TheVariants as found
@@ -12,8 +11,8 @@ scope_of x (seen y v p ∷ l) = cond (eqb x y) p (scope_of x l)
 
 -- what is told of a name: the variable that is looked up, and the scope
 abbrev pub answer : Option ℕ → ℕ → Found
-answer none p = found.No
-answer (some v) p = found.Is v p
+answer None p = found.No
+answer (Some v) p = found.Is v p
 
 -- no scope is above c, and from the newest to the oldest they do not rise
 unfoldable pub Descends : ℕ → List Seen → Type 0

@@ -6,7 +6,6 @@ use native.Mathlib.Omega.{arith}
 use mathlib.Core.Path.{◌≡◌, refl, sym}
 use mathlib.Core.Bool.{Bool, true, false, ◌&&◌}
 use mathlib.Core.List.{List, []}
-use mathlib.Core.Option.{none}
 use Rattle.heads.specs.Form.{shape_of, form_one}
 use Rattle.expr.specs.Binders.{binder, all_known}
 use Rattle.semantics.specs.World.{variable}
@@ -73,4 +72,4 @@ when-same false f a q = refl
 pub path-none : {ws tab m vis found : List ℕ} {j : ℕ} {x : Option ℕ} (mode : ℕ) → x ≡ None → Steps j ws tab m vis found m vis found (λ id. path_step (world_at ws tab id) (mode_of mode) x)
 unfolding binder all_known variable bind_path row_for misplaced told
 path-none {ws} {tab} mode q =
-    rw q (idle-step _ (λ id s h. rw (and-true s.known, when-same (mode_of mode).resolves (bind_path (world_at ws tab id) none) s.names refl, when-same (mode_of mode).checks (told []) s.kinds refl) h))
+    rw q (idle-step _ (λ id s h. rw (and-true s.known, when-same (mode_of mode).resolves (bind_path (world_at ws tab id) None) s.names refl, when-same (mode_of mode).checks (told []) s.kinds refl) h))

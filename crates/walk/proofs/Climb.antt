@@ -3,13 +3,13 @@
 -- (`row-fall`). A plain head is read (`Heading`), and does nothing (`head-calm`) or its act (`head-acted`; what it asks is `act-asks`); without
 -- parts the row goes on (`row-leaf`; `head_at_lem` where the two meet), else it waits a level higher while the parts are walked (`row-down`).
 -- The loop of `walk_many` keeps `Counting` (`count-begin`, `count-one`, `count-fall`, `count-done`).
+use Rattle.std.specs.Prelude.{Some}
 use Prim.Native.Nat.{ℕ, zero, suc, ◌+◌, ◌-◌, ◌*◌, ◌/◌, ◌%◌, ◌^◌, ◌<◌, ◌≤◌}
 use native.Mathlib.Omega.{arith}
 use native.Mathlib.Numerals.{add-one}
 use mathlib.Core.Path.{◌≡◌, refl, ap, sym, ◌∙◌}
 use mathlib.Core.Bool.{Bool, true, false}
 use mathlib.Core.List.{List}
-use mathlib.Core.Option.{some}
 use lib.Dec.{eqb, ltb}
 use borrow.Author.Tests.{ltb-true, ltb-false}
 use lib.ListN.{length, get_or, set, drop, length-set}
@@ -86,7 +86,7 @@ pub record Rowing (ws tab m₀ vis₀ found₀ : List ℕ) (room mode n : ℕ) (
   pub others : later < 8
   pub count : left ≤ 524287
   pub size : length m ≡ 64
-  pub stage : Stage (some room) 0 ws tab m₀ vis₀ found₀ (row_at ws tab room mode n) 0 (set m 0 at) vis found
+  pub stage : Stage (Some room) 0 ws tab m₀ vis₀ found₀ (row_at ws tab room mode n) 0 (set m 0 at) vis found
       (λ id s t. step (row_go (within ws tab mode id d) left (both (setting_of now) (setting_of later)) t) (waits ws tab room mode (level_of m) d id))
 
 -- a plain head was read, and did what it does
@@ -97,7 +97,7 @@ pub record Heading (ws tab m₀ vis₀ found₀ : List ℕ) (room mode n : ℕ) 
   pub more : 0 < left
   pub deep : 0 < d
   pub size : length m ≡ 64
-  pub stage : Stage (some room) 0 ws tab m₀ vis₀ found₀ (row_at ws tab room mode n) 0 (set m 0 at) vis found (after_head ws tab room mode left now later d code a (level_of m))
+  pub stage : Stage (Some room) 0 ws tab m₀ vis₀ found₀ (row_at ws tab room mode n) 0 (set m 0 at) vis found (after_head ws tab room mode left now later d code a (level_of m))
 
 pub row-begin : {ws tab m vis found : List ℕ} (room mode n : ℕ) → room ≤ 48 → n ≤ 524287 → Ready 0 ws tab m vis found → Rowing ws tab m vis found room mode n m vis found (at_of m) n (mode % 8) (mode / 8 % 8) room
 unfolding climb
@@ -143,7 +143,7 @@ module _ {ws tab m₀ vis₀ found₀ : List ℕ} {room mode n : ℕ} {m vis fou
         stage = recast _ o.stage (λ id s t r. rw (l, z));
       })
 
-  next : 0 < left → Stage (some room) 0 ws tab m₀ vis₀ found₀ (row_at ws tab room mode n) 0 (set m 0 at) vis found
+  next : 0 < left → Stage (Some room) 0 ws tab m₀ vis₀ found₀ (row_at ws tab room mode n) 0 (set m 0 at) vis found
       (λ id s t. step (within ws tab mode id d (setting_of now) t) (λ x. step (row_go (within ws tab mode id d) (left - 1) (both (setting_of later) (setting_of later)) x) (waits ws tab room mode (level_of m) d id)))
   next h = recast _ o.stage (λ id s t r. ahead (within ws tab mode id d) left (setting_of now) (setting_of later) t r _ h)
 
@@ -179,7 +179,7 @@ module _ {ws tab m₀ vis₀ found₀ : List ℕ} {room mode n : ℕ} {m vis fou
     shaped : 0 < shape code
     shaped = omega (arith, f.shaped)
 
-    head : Stage (some room) 0 ws tab m₀ vis₀ found₀ (row_at ws tab room mode n) (1 + t % 2) (set m 0 end) vis found
+    head : Stage (Some room) 0 ws tab m₀ vis₀ found₀ (row_at ws tab room mode n) (1 + t % 2) (set m 0 end) vis found
         (λ id s u. after_head ws tab room mode left now later d code word (level_of m) id s (head_of (world_at ws tab id) (mode_of mode) (headed code word) (setting_of now) u))
     head =
         let one : d ≡ suc (d - 1) = omega (arith, f.level) in
@@ -246,7 +246,7 @@ module _ {ws tab m₀ vis₀ found₀ : List ℕ} {room mode n : ℕ} {m vis fou
         }
 
 -- ---- a level's word
-leveled : {room c : ℕ} {ws tab m₀ vis₀ found₀ : List ℕ} {G : Goer} {m vis found : List ℕ} {K : Rest} (d x : ℕ) → d ≤ room → Stage (some room) 0 ws tab m₀ vis₀ found₀ G c m vis found K → Stage (some room) 0 ws tab m₀ vis₀ found₀ G c (set m (10 + d) x) vis found K
+leveled : {room c : ℕ} {ws tab m₀ vis₀ found₀ : List ℕ} {G : Goer} {m vis found : List ℕ} {K : Rest} (d x : ℕ) → d ≤ room → Stage (Some room) 0 ws tab m₀ vis₀ found₀ G c m vis found K → Stage (Some room) 0 ws tab m₀ vis₀ found₀ G c (set m (10 + d) x) vis found K
 leveled {m = m} d x b o =
     let e : (j : ℕ) → j < 10 → get_or (set m (10 + d) x) j 0 ≡ get_or m j 0 = λ j h. get_or-set_other m (10 + d) j x 0 (λ q. omega arith) in
     let at = e 0 (omega arith) in
@@ -347,13 +347,13 @@ lighter n at p room d left k h l g b m =
 pub record Counting (ws tab m₀ vis₀ found₀ : List ℕ) (room mode n : ℕ) (m vis found : List ℕ) (left now later : ℕ) : Type 0 where
   pub first : now < 8
   pub others : later < 8
-  pub stage : Stage (some room) 0 ws tab m₀ vis₀ found₀ (row_at ws tab room mode n) 0 m vis found (λ id s t. last (row_go (within ws tab mode id room) left (both (setting_of now) (setting_of later)) t))
+  pub stage : Stage (Some room) 0 ws tab m₀ vis₀ found₀ (row_at ws tab room mode n) 0 m vis found (λ id s t. last (row_go (within ws tab mode id room) left (both (setting_of now) (setting_of later)) t))
 
 pub count-begin : {ws tab m vis found : List ℕ} (room mode n : ℕ) → Ready 0 ws tab m vis found → Counting ws tab m vis found room mode n m vis found n (mode % 8) (mode / 8 % 8)
 count-begin room mode n h = record { first = omega arith; others = omega arith; stage = start _ h (λ id s r. refl) }
 
 module _ {ws tab m₀ vis₀ found₀ : List ℕ} {room mode n : ℕ} {m vis found : List ℕ} {left now later : ℕ} (o : Counting ws tab m₀ vis₀ found₀ room mode n m vis found left now later) where
-  count_next : 0 < left → Stage (some room) 0 ws tab m₀ vis₀ found₀ (row_at ws tab room mode n) 0 m vis found
+  count_next : 0 < left → Stage (Some room) 0 ws tab m₀ vis₀ found₀ (row_at ws tab room mode n) 0 m vis found
       (λ id s t. step (within ws tab mode id room (setting_of now) t) (λ x. last (row_go (within ws tab mode id room) (left - 1) (both (setting_of later) (setting_of later)) x)))
   unfolding row_go
   count_next h =

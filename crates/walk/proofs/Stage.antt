@@ -4,11 +4,11 @@
 -- a step or a walk may begin there (`ready`). What was refused is G's refusal (`stop`, `halt`; `refused` and `fell` for a walk that keeps what was
 -- visible). At the end stands G's answer (`comes`, `done`, `tail`, `close`). A loop is a walk of which `rounds` are left (`begun`, `unrolled`,
 -- `turn`, `fall`, `ran`, `over`).
+use Rattle.std.specs.Prelude.{Option, None, Some}
 use Prim.Native.Nat.{ℕ, zero, suc, ◌+◌, ◌-◌, ◌<◌, ◌≤◌}
 use native.Mathlib.Omega.{arith}
 use mathlib.Core.Path.{◌≡◌, refl, ap, ◌∙◌}
 use mathlib.Core.List.{List}
-use mathlib.Core.Option.{Option, none, some}
 use lib.ListN.{length, get_or, set, drop}
 use Rattle.heads.specs.Got.{Got, ok, no, bind}
 use Rattle.heads.specs.Answer.{Ans}
@@ -63,32 +63,32 @@ module _ (m : List ℕ) (p : ℕ) (size : length m ≡ 64) where
 
 -- ---- what is kept: with `some room` what was visible and the levels above the room; a WITH keeps nothing (`none`)
 abbrev KeepsAs : Option ℕ → (tab m vis m' vis' : List ℕ) → Type 0
-KeepsAs none tab m vis m' vis' = Unit {0}
-KeepsAs (some room) tab m vis m' vis' = Frame room tab m vis m' vis'
+KeepsAs None tab m vis m' vis' = Unit {0}
+KeepsAs (Some room) tab m vis m' vis' = Frame room tab m vis m' vis'
 
 pub record Keeps (keep : Option ℕ) (tab m vis m' vis' : List ℕ) : Type 0 where
   pub kept : KeepsAs keep tab m vis m' vis'
 
 -- a frame of this room keeps it
 abbrev pub Under : ℕ → Option ℕ → Type 0
-Under i none = Unit {0}
-Under i (some room) = i ≤ room
+Under i None = Unit {0}
+Under i (Some room) = i ≤ room
 
 keeps-idle : (k : Option ℕ) {tab m vis : List ℕ} → Keeps k tab m vis m vis
-keeps-idle none = record { kept = tt }
-keeps-idle (some room) = record { kept = framed-idle }
+keeps-idle None = record { kept = tt }
+keeps-idle (Some room) = record { kept = framed-idle }
 
 keeps-both : (k : Option ℕ) {tab m vis m1 vis1 m2 vis2 : List ℕ} → Keeps k tab m vis m1 vis1 → Keeps k tab m1 vis1 m2 vis2 → Keeps k tab m vis m2 vis2
-keeps-both none x y = record { kept = tt }
-keeps-both (some room) x y = record { kept = framed x.kept y.kept }
+keeps-both None x y = record { kept = tt }
+keeps-both (Some room) x y = record { kept = framed x.kept y.kept }
 
 keeps_then : (k : Option ℕ) {i : ℕ} {tab m vis m1 vis1 m2 vis2 : List ℕ} → Under i k → Keeps k tab m vis m1 vis1 → Frame i tab m1 vis1 m2 vis2 → Keeps k tab m vis m2 vis2
-keeps_then none u x f = record { kept = tt }
-keeps_then (some room) u x f = record { kept = framed x.kept (frame-more u f) }
+keeps_then None u x f = record { kept = tt }
+keeps_then (Some room) u x f = record { kept = framed x.kept (frame-more u f) }
 
 under_none : (k : Option ℕ) → Under 0 k
-under_none none = tt
-under_none (some room) = omega arith
+under_none None = tt
+under_none (Some room) = omega arith
 
 -- ---- how far
 abbrev pub Rest : Type 1
@@ -256,11 +256,11 @@ comes o id s h = let n = o.on id s h in record { state = n.state; holds = n.hold
 -- of a walk that keeps what was visible
 module _ {room : ℕ} {ws tab m₀ vis₀ found₀ : List ℕ} {G : Goer} {c : ℕ} {m vis found : List ℕ} where
   -- refused at m
-  pub refused : {K : Rest} (a : ℕ) → (a ≡ 0 → ⊥) → Stage (some room) 0 ws tab m₀ vis₀ found₀ G c m vis found K → Refuses ws tab m₀ vis₀ found₀ G a → Walked room ws tab m₀ vis₀ found₀ m vis found G a
+  pub refused : {K : Rest} (a : ℕ) → (a ≡ 0 → ⊥) → Stage (Some room) 0 ws tab m₀ vis₀ found₀ G c m vis found K → Refuses ws tab m₀ vis₀ found₀ G a → Walked room ws tab m₀ vis₀ found₀ m vis found G a
   refused zero q o g = absurd (q refl)
   refused (suc a) q o g = record { sized = o.sized; seen = o.seen; wrote = o.wrote; goes = g.same }
 
-  pub done : Stage (some room) 0 ws tab m₀ vis₀ found₀ G c m vis found (λ id s t. last (ok t)) → Walked room ws tab m₀ vis₀ found₀ m vis found G 0
+  pub done : Stage (Some room) 0 ws tab m₀ vis₀ found₀ G c m vis found (λ id s t. last (ok t)) → Walked room ws tab m₀ vis₀ found₀ m vis found G 0
   done o =
       record {
         sized = o.sized;
@@ -280,17 +280,17 @@ bind_ok (no e) = refl
 
 module _ {room : ℕ} {ws tab m₀ vis₀ found₀ : List ℕ} {G : Goer} {c : ℕ} {m vis found : List ℕ} {i : ℕ} {H : Goer} {m' vis' found' : List ℕ} where
   -- refused by the walk within
-  pub fell : {K : Rest} (a : ℕ) → (a ≡ 0 → ⊥) → Stage (some room) 0 ws tab m₀ vis₀ found₀ G c m vis found (λ id s t. step (H id t) (K id s)) → Walked i ws tab m vis found m' vis' found' H a → Walked room ws tab m₀ vis₀ found₀ m' vis' found' G a
+  pub fell : {K : Rest} (a : ℕ) → (a ≡ 0 → ⊥) → Stage (Some room) 0 ws tab m₀ vis₀ found₀ G c m vis found (λ id s t. step (H id t) (K id s)) → Walked i ws tab m vis found m' vis' found' H a → Walked room ws tab m₀ vis₀ found₀ m' vis' found' G a
   fell zero q o x = absurd (q refl)
   fell (suc a) q o x = record { sized = x.sized ∙ o.sized; seen = x.seen ∙ o.seen; wrote = x.wrote ∙ o.wrote; goes = (halt o x q).same }
 
   -- the walk within is the last one
-  pub tail : (a : ℕ) → i ≤ room → Stage (some room) 0 ws tab m₀ vis₀ found₀ G c m vis found (λ id s t. last (H id t)) → Walked i ws tab m vis found m' vis' found' H a → Walked room ws tab m₀ vis₀ found₀ m' vis' found' G a
+  pub tail : (a : ℕ) → i ≤ room → Stage (Some room) 0 ws tab m₀ vis₀ found₀ G c m vis found (λ id s t. last (H id t)) → Walked i ws tab m vis found m' vis' found' H a → Walked room ws tab m₀ vis₀ found₀ m' vis' found' G a
   tail zero l o x = done (go {K = λ id s u. last (ok u)} (recast (λ id s t. step (H id t) (λ u. last (ok u))) o (λ id s t r. bind_ok (H id t r))) x l refl)
   tail (suc a) l o x = fell {K = λ id s u. last (ok u)} (suc a) (λ e. never (cc)) (recast (λ id s t. step (H id t) (λ u. last (ok u))) o (λ id s t r. bind_ok (H id t r))) x
 
 -- ---- out of the scope that a head opened at m₀
-pub close : {room : ℕ} {ws tab m₀ vis₀ found₀ : List ℕ} {G : Goer} {c : ℕ} {m vis found m' vis' : List ℕ} (mode : Mode) (f : Form) → Ready 0 ws tab m₀ vis₀ found₀ → Stage (some room) 0 ws tab m₀ vis₀ found₀ G c m vis found (λ id s t. last (ok (tail_of mode f s t))) → Closed tab m vis m' vis' (top_of m₀) (cur_of m₀) mode f → Walked room ws tab m₀ vis₀ found₀ m' vis' found G 0
+pub close : {room : ℕ} {ws tab m₀ vis₀ found₀ : List ℕ} {G : Goer} {c : ℕ} {m vis found m' vis' : List ℕ} (mode : Mode) (f : Form) → Ready 0 ws tab m₀ vis₀ found₀ → Stage (Some room) 0 ws tab m₀ vis₀ found₀ G c m vis found (λ id s t. last (ok (tail_of mode f s t))) → Closed tab m vis m' vis' (top_of m₀) (cur_of m₀) mode f → Walked room ws tab m₀ vis₀ found₀ m' vis' found G 0
 close mode f h o l =
     let r = o.keeps.kept in
     let g = (ready {i = 0} (omega arith) h o).fit in
@@ -336,7 +336,7 @@ module _ {keep : Option ℕ} {ws tab m₀ vis₀ found₀ : List ℕ} {n : ℕ} 
       let z : left ≡ 0 = omega arith in
       recast (λ id s t. last (ok t)) o.stage (λ id s t r. ap (λ (k : ℕ). rounds k (one id) t r) z)
 
-module _ {room : ℕ} {ws tab m₀ vis₀ found₀ : List ℕ} {n : ℕ} {one : Goer} {m vis found : List ℕ} {left : ℕ} (o : Turning (some room) ws tab m₀ vis₀ found₀ n one m vis found left) where
+module _ {room : ℕ} {ws tab m₀ vis₀ found₀ : List ℕ} {n : ℕ} {one : Goer} {m vis found : List ℕ} {left : ℕ} (o : Turning (Some room) ws tab m₀ vis₀ found₀ n one m vis found left) where
   pub fall : {m' vis' found' : List ℕ} {i : ℕ} (a : ℕ) → 0 < left → (a ≡ 0 → ⊥) → Walked i ws tab m vis found m' vis' found' one a → Walked room ws tab m₀ vis₀ found₀ m' vis' found' (λ id. rounds n (one id)) a
   fall a h q x = fell a q (unrolled o h) x
 

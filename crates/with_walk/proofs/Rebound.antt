@@ -2,12 +2,12 @@
 -- and the pairs are seen is the definition's, but for counts (`rooted-quiet`). With a star the names before are seen once each, which is what the
 -- star's pairs are when they are bound (`spread-seen`), and all of them are first (`spread-first`). The whole: `rebinds`; what each step asks:
 -- `root-asks`, `root-ready`, `leave-asks`, `spread-asks`, `pairs-ask`, `count-asks`.
+use Rattle.std.specs.Prelude.{Some}
 use Prim.Native.Nat.{ℕ, zero, suc, ◌+◌, ◌*◌, ◌<◌, ◌≤◌}
 use native.Mathlib.Omega.{arith}
 use mathlib.Core.Path.{◌≡◌, refl, ap, sym, ◌∙◌}
 use mathlib.Core.Bool.{Bool, true, false, cond, ◌&&◌, ◌||◌}
 use mathlib.Core.List.{List, [], ◌∷◌, ◌++◌, reverse, reverse_aux}
-use mathlib.Core.Option.{some}
 use lib.Dec.{eqb}
 use lib.ListN.{length, get_or, set, length-set, length-append}
 use lib.Seq.{get_or-set_same, get_or-set_other}
@@ -86,7 +86,7 @@ bind-beside wants w (pair x v ∷ ps) s =
     one b = counted_if b (bound s.cur x v (kind_of w v)) s.log
 
 -- a scope that is opened is written of two states alike
-open-alike : (wants : Bool) (a b c d : ℕ) (l r : List Event) → a ≡ b → kept wants l ≡ kept wants r → kept wants (open' (scope c (some a) d d) ∷ l) ≡ kept wants (open' (scope c (some b) d d) ∷ r)
+open-alike : (wants : Bool) (a b c d : ℕ) (l r : List Event) → a ≡ b → kept wants l ≡ kept wants r → kept wants (open' (scope c (Some a) d d) ∷ l) ≡ kept wants (open' (scope c (Some b) d d) ∷ r)
 unfolding kept written
 open-alike true a b c d l r e q = rw (e, q)
 open-alike false a b c d l r e q = q

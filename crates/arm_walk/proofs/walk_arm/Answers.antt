@@ -1,6 +1,6 @@
 -- The span and the count are read, nothing is visible any more, and the clauses are walked.
+use Rattle.std.specs.Prelude.{None}
 use mathlib.Core.List.{[]}
-use mathlib.Core.Option.{none}
 use mathlib.Core.Path.{refl}
 use native.Mathlib.Omega.{arith}
 use Rattle.fused.specs.Clauses.{arm_go}
@@ -26,21 +26,21 @@ next_word-requires c =
 pub returns-in_default : goal.returns-in_default
 unfolding arm_go
 returns-in_default c =
-    let begun = let a = c.args in start {keep = none} {G = arm_at (words a.s.now) a.tab.now 192} (λ id u w. step (word_in 0 4294967296) (λ x. step (word_in x 4294967296) (λ y. step (word_in 0 4294967296) (λ n. last (clauses_at (words a.s.now) a.tab.now 64 n id (on_names (standing [] 0) w)))))) c.requires.1 (λ id s r. refl) in
+    let begun = let a = c.args in start {keep = None} {G = arm_at (words a.s.now) a.tab.now 192} (λ id u w. step (word_in 0 4294967296) (λ x. step (word_in x 4294967296) (λ y. step (word_in 0 4294967296) (λ n. last (clauses_at (words a.s.now) a.tab.now 64 n id (on_names (standing [] 0) w)))))) c.requires.1 (λ id s r. refl) in
     let fell = halted begun c.next_word.ensures c.in_default.is refl in
     record { takes = refused-takes 5 (λ z. omega arith) refl fell; tab_unchanged = (refl, fell) }
 
 pub next_word-requires-2 : goal.next_word-requires-2
 unfolding arm_go
 next_word-requires-2 c =
-    let begun = let a = c.args in start {keep = none} {G = arm_at (words a.s.now) a.tab.now 192} (λ id u w. step (word_in 0 4294967296) (λ x. step (word_in x 4294967296) (λ y. step (word_in 0 4294967296) (λ n. last (clauses_at (words a.s.now) a.tab.now 64 n id (on_names (standing [] 0) w)))))) c.requires.1 (λ id s r. refl) in
+    let begun = let a = c.args in start {keep = None} {G = arm_at (words a.s.now) a.tab.now 192} (λ id u w. step (word_in 0 4294967296) (λ x. step (word_in x 4294967296) (λ y. step (word_in 0 4294967296) (λ n. last (clauses_at (words a.s.now) a.tab.now 64 n id (on_names (standing [] 0) w)))))) c.requires.1 (λ id s r. refl) in
     let one = past begun c.next_word.ensures c.in-Is.is in
     asked (ready {i = 0} (omega arith) c.requires.1 one)
 
 pub returns-in_default-next_word : goal.returns-in_default-next_word
 unfolding arm_go
 returns-in_default-next_word c =
-    let begun = let a = c.args in start {keep = none} {G = arm_at (words a.s.now) a.tab.now 192} (λ id u w. step (word_in 0 4294967296) (λ x. step (word_in x 4294967296) (λ y. step (word_in 0 4294967296) (λ n. last (clauses_at (words a.s.now) a.tab.now 64 n id (on_names (standing [] 0) w)))))) c.requires.1 (λ id s r. refl) in
+    let begun = let a = c.args in start {keep = None} {G = arm_at (words a.s.now) a.tab.now 192} (λ id u w. step (word_in 0 4294967296) (λ x. step (word_in x 4294967296) (λ y. step (word_in 0 4294967296) (λ n. last (clauses_at (words a.s.now) a.tab.now 64 n id (on_names (standing [] 0) w)))))) c.requires.1 (λ id s r. refl) in
     let one = past begun c.next_word.ensures c.in-Is.is in
     let fell2 = halted one c.next_word-2.ensures c.in_default-next_word.is refl in
     record { takes = refused-takes 5 (λ z. omega arith) refl fell2; tab_unchanged = (refl, fell2) }
@@ -48,7 +48,7 @@ returns-in_default-next_word c =
 pub next_word-requires-3 : goal.next_word-requires-3
 unfolding arm_go
 next_word-requires-3 c =
-    let begun = let a = c.args in start {keep = none} {G = arm_at (words a.s.now) a.tab.now 192} (λ id u w. step (word_in 0 4294967296) (λ x. step (word_in x 4294967296) (λ y. step (word_in 0 4294967296) (λ n. last (clauses_at (words a.s.now) a.tab.now 64 n id (on_names (standing [] 0) w)))))) c.requires.1 (λ id s r. refl) in
+    let begun = let a = c.args in start {keep = None} {G = arm_at (words a.s.now) a.tab.now 192} (λ id u w. step (word_in 0 4294967296) (λ x. step (word_in x 4294967296) (λ y. step (word_in 0 4294967296) (λ n. last (clauses_at (words a.s.now) a.tab.now 64 n id (on_names (standing [] 0) w)))))) c.requires.1 (λ id s r. refl) in
     let one = past begun c.next_word.ensures c.in-Is.is in
     let two = past one c.next_word-2.ensures c.in-Is-next_word.is in
     asked (ready {i = 0} (omega arith) c.requires.1 two)
@@ -56,7 +56,7 @@ next_word-requires-3 c =
 pub returns-in_default-next_word-2 : goal.returns-in_default-next_word-2
 unfolding arm_go
 returns-in_default-next_word-2 c =
-    let begun = let a = c.args in start {keep = none} {G = arm_at (words a.s.now) a.tab.now 192} (λ id u w. step (word_in 0 4294967296) (λ x. step (word_in x 4294967296) (λ y. step (word_in 0 4294967296) (λ n. last (clauses_at (words a.s.now) a.tab.now 64 n id (on_names (standing [] 0) w)))))) c.requires.1 (λ id s r. refl) in
+    let begun = let a = c.args in start {keep = None} {G = arm_at (words a.s.now) a.tab.now 192} (λ id u w. step (word_in 0 4294967296) (λ x. step (word_in x 4294967296) (λ y. step (word_in 0 4294967296) (λ n. last (clauses_at (words a.s.now) a.tab.now 64 n id (on_names (standing [] 0) w)))))) c.requires.1 (λ id s r. refl) in
     let one = past begun c.next_word.ensures c.in-Is.is in
     let two = past one c.next_word-2.ensures c.in-Is-next_word.is in
     let fell3 = halted two c.next_word-3.ensures c.in_default-next_word-2.is refl in
@@ -65,7 +65,7 @@ returns-in_default-next_word-2 c =
 pub leave-requires : goal.leave-requires
 unfolding arm_go
 leave-requires c =
-    let begun = let a = c.args in start {keep = none} {G = arm_at (words a.s.now) a.tab.now 192} (λ id u w. step (word_in 0 4294967296) (λ x. step (word_in x 4294967296) (λ y. step (word_in 0 4294967296) (λ n. last (clauses_at (words a.s.now) a.tab.now 64 n id (on_names (standing [] 0) w)))))) c.requires.1 (λ id s r. refl) in
+    let begun = let a = c.args in start {keep = None} {G = arm_at (words a.s.now) a.tab.now 192} (λ id u w. step (word_in 0 4294967296) (λ x. step (word_in x 4294967296) (λ y. step (word_in 0 4294967296) (λ n. last (clauses_at (words a.s.now) a.tab.now 64 n id (on_names (standing [] 0) w)))))) c.requires.1 (λ id s r. refl) in
     let one = past begun c.next_word.ensures c.in-Is.is in
     let two = past one c.next_word-2.ensures c.in-Is-next_word.is in
     let three = past two c.next_word-3.ensures c.in-Is-next_word-2.is in
@@ -74,7 +74,7 @@ leave-requires c =
 pub walk_clauses-requires : goal.walk_clauses-requires
 unfolding arm_go
 walk_clauses-requires c =
-    let begun = let a = c.args in start {keep = none} {G = arm_at (words a.s.now) a.tab.now 192} (λ id u w. step (word_in 0 4294967296) (λ x. step (word_in x 4294967296) (λ y. step (word_in 0 4294967296) (λ n. last (clauses_at (words a.s.now) a.tab.now 64 n id (on_names (standing [] 0) w)))))) c.requires.1 (λ id s r. refl) in
+    let begun = let a = c.args in start {keep = None} {G = arm_at (words a.s.now) a.tab.now 192} (λ id u w. step (word_in 0 4294967296) (λ x. step (word_in x 4294967296) (λ y. step (word_in 0 4294967296) (λ n. last (clauses_at (words a.s.now) a.tab.now 64 n id (on_names (standing [] 0) w)))))) c.requires.1 (λ id s r. refl) in
     let one = past begun c.next_word.ensures c.in-Is.is in
     let two = past one c.next_word-2.ensures c.in-Is-next_word.is in
     let three = past two c.next_word-3.ensures c.in-Is-next_word-2.is in
@@ -84,7 +84,7 @@ walk_clauses-requires c =
 pub returns : goal.returns
 unfolding arm_go
 returns c =
-    let begun = let a = c.args in start {keep = none} {G = arm_at (words a.s.now) a.tab.now 192} (λ id u w. step (word_in 0 4294967296) (λ x. step (word_in x 4294967296) (λ y. step (word_in 0 4294967296) (λ n. last (clauses_at (words a.s.now) a.tab.now 64 n id (on_names (standing [] 0) w)))))) c.requires.1 (λ id s r. refl) in
+    let begun = let a = c.args in start {keep = None} {G = arm_at (words a.s.now) a.tab.now 192} (λ id u w. step (word_in 0 4294967296) (λ x. step (word_in x 4294967296) (λ y. step (word_in 0 4294967296) (λ n. last (clauses_at (words a.s.now) a.tab.now 64 n id (on_names (standing [] 0) w)))))) c.requires.1 (λ id s r. refl) in
     let one = past begun c.next_word.ensures c.in-Is.is in
     let two = past one c.next_word-2.ensures c.in-Is-next_word.is in
     let three = past two c.next_word-3.ensures c.in-Is-next_word-2.is in

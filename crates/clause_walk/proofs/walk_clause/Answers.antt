@@ -1,6 +1,6 @@
 -- Three words are read, and pay for what the body opens.
+use Rattle.std.specs.Prelude.{None}
 use borrow.Author.Rules.{rules}
-use mathlib.Core.Option.{none}
 use mathlib.Core.Path.{refl}
 use native.Mathlib.Omega.{arith}
 use Rattle.fused.specs.Clauses.{clause_go}
@@ -20,27 +20,27 @@ next_word-requires c =
 pub returns-in_default : goal.returns-in_default
 unfolding clause_go
 returns-in_default c =
-    let begun = let a = c.args in start {keep = none} (λ id u w. step (word_in 0 4294967296) (λ kind. step (word_in 0 4294967296) (λ x. step (word_in x 4294967296) (λ y. last (body_at (words a.s.now) a.tab.now a.mode x y kind id w))))) c.requires.1 (λ id s r. refl) in
+    let begun = let a = c.args in start {keep = None} (λ id u w. step (word_in 0 4294967296) (λ kind. step (word_in 0 4294967296) (λ x. step (word_in x 4294967296) (λ y. last (body_at (words a.s.now) a.tab.now a.mode x y kind id w))))) c.requires.1 (λ id s r. refl) in
     (refl, halted begun c.next_word.ensures c.in_default.is refl)
 
 pub next_word-requires-2 : goal.next_word-requires-2
 unfolding clause_go
 next_word-requires-2 c =
-    let begun = let a = c.args in start {keep = none} (λ id u w. step (word_in 0 4294967296) (λ kind. step (word_in 0 4294967296) (λ x. step (word_in x 4294967296) (λ y. last (body_at (words a.s.now) a.tab.now a.mode x y kind id w))))) c.requires.1 (λ id s r. refl) in
+    let begun = let a = c.args in start {keep = None} (λ id u w. step (word_in 0 4294967296) (λ kind. step (word_in 0 4294967296) (λ x. step (word_in x 4294967296) (λ y. last (body_at (words a.s.now) a.tab.now a.mode x y kind id w))))) c.requires.1 (λ id s r. refl) in
     let one = past begun c.next_word.ensures c.in-Is.is in
     asked (ready {i = 0} (omega arith) c.requires.1 one)
 
 pub returns-in_default-next_word : goal.returns-in_default-next_word
 unfolding clause_go
 returns-in_default-next_word c =
-    let begun = let a = c.args in start {keep = none} (λ id u w. step (word_in 0 4294967296) (λ kind. step (word_in 0 4294967296) (λ x. step (word_in x 4294967296) (λ y. last (body_at (words a.s.now) a.tab.now a.mode x y kind id w))))) c.requires.1 (λ id s r. refl) in
+    let begun = let a = c.args in start {keep = None} (λ id u w. step (word_in 0 4294967296) (λ kind. step (word_in 0 4294967296) (λ x. step (word_in x 4294967296) (λ y. last (body_at (words a.s.now) a.tab.now a.mode x y kind id w))))) c.requires.1 (λ id s r. refl) in
     let one = past begun c.next_word.ensures c.in-Is.is in
     (refl, halted one c.next_word-2.ensures c.in_default-next_word.is refl)
 
 pub next_word-requires-3 : goal.next_word-requires-3
 unfolding clause_go
 next_word-requires-3 c =
-    let begun = let a = c.args in start {keep = none} (λ id u w. step (word_in 0 4294967296) (λ kind. step (word_in 0 4294967296) (λ x. step (word_in x 4294967296) (λ y. last (body_at (words a.s.now) a.tab.now a.mode x y kind id w))))) c.requires.1 (λ id s r. refl) in
+    let begun = let a = c.args in start {keep = None} (λ id u w. step (word_in 0 4294967296) (λ kind. step (word_in 0 4294967296) (λ x. step (word_in x 4294967296) (λ y. last (body_at (words a.s.now) a.tab.now a.mode x y kind id w))))) c.requires.1 (λ id s r. refl) in
     let one = past begun c.next_word.ensures c.in-Is.is in
     let two = past one c.next_word-2.ensures c.in-Is-next_word.is in
     asked (ready {i = 0} (omega arith) c.requires.1 two)
@@ -48,7 +48,7 @@ next_word-requires-3 c =
 pub returns-in_default-next_word-2 : goal.returns-in_default-next_word-2
 unfolding clause_go
 returns-in_default-next_word-2 c =
-    let begun = let a = c.args in start {keep = none} (λ id u w. step (word_in 0 4294967296) (λ kind. step (word_in 0 4294967296) (λ x. step (word_in x 4294967296) (λ y. last (body_at (words a.s.now) a.tab.now a.mode x y kind id w))))) c.requires.1 (λ id s r. refl) in
+    let begun = let a = c.args in start {keep = None} (λ id u w. step (word_in 0 4294967296) (λ kind. step (word_in 0 4294967296) (λ x. step (word_in x 4294967296) (λ y. last (body_at (words a.s.now) a.tab.now a.mode x y kind id w))))) c.requires.1 (λ id s r. refl) in
     let one = past begun c.next_word.ensures c.in-Is.is in
     let two = past one c.next_word-2.ensures c.in-Is-next_word.is in
     (refl, halted two c.next_word-3.ensures c.in_default-next_word-2.is refl)
@@ -56,7 +56,7 @@ returns-in_default-next_word-2 c =
 pub walk_body-requires : goal.walk_body-requires
 unfolding clause_go
 walk_body-requires c =
-    let begun = let a = c.args in start {keep = none} (λ id u w. step (word_in 0 4294967296) (λ kind. step (word_in 0 4294967296) (λ x. step (word_in x 4294967296) (λ y. last (body_at (words a.s.now) a.tab.now a.mode x y kind id w))))) c.requires.1 (λ id s r. refl) in
+    let begun = let a = c.args in start {keep = None} (λ id u w. step (word_in 0 4294967296) (λ kind. step (word_in 0 4294967296) (λ x. step (word_in x 4294967296) (λ y. last (body_at (words a.s.now) a.tab.now a.mode x y kind id w))))) c.requires.1 (λ id s r. refl) in
     let one = past begun c.next_word.ensures c.in-Is.is in
     let two = past one c.next_word-2.ensures c.in-Is-next_word.is in
     let three = past two c.next_word-3.ensures c.in-Is-next_word-2.is in
@@ -65,7 +65,7 @@ walk_body-requires c =
 pub returns : goal.returns
 unfolding clause_go
 returns c =
-    let begun = let a = c.args in start {keep = none} (λ id u w. step (word_in 0 4294967296) (λ kind. step (word_in 0 4294967296) (λ x. step (word_in x 4294967296) (λ y. last (body_at (words a.s.now) a.tab.now a.mode x y kind id w))))) c.requires.1 (λ id s r. refl) in
+    let begun = let a = c.args in start {keep = None} (λ id u w. step (word_in 0 4294967296) (λ kind. step (word_in 0 4294967296) (λ x. step (word_in x 4294967296) (λ y. last (body_at (words a.s.now) a.tab.now a.mode x y kind id w))))) c.requires.1 (λ id s r. refl) in
     let one = past begun c.next_word.ensures c.in-Is.is in
     let two = past one c.next_word-2.ensures c.in-Is-next_word.is in
     let three = past two c.next_word-3.ensures c.in-Is-next_word-2.is in

@@ -1,5 +1,5 @@
 -- The scope is opened, and the pattern is the walk's.
-use mathlib.Core.Option.{none}
+use Rattle.std.specs.Prelude.{None}
 use mathlib.Core.Path.{refl}
 use native.Mathlib.Omega.{arith}
 use Rattle.fused.specs.Clauses.{within}
@@ -22,12 +22,12 @@ enter-requires c =
 
 pub walk_pattern-requires : goal.walk_pattern-requires
 walk_pattern-requires c =
-    let begun = let a = c.args in start {keep = none} {G = scope_at (words a.s.now) a.tab.now a.mode a.head.start a.head.end a.kind} (λ id u v. last (pattern_go (world_at (words a.s.now) a.tab.now id) (within (world_at (words a.s.now) a.tab.now id) (tables_in a.tab.now)) (mode_of a.mode) (on_names (enter a.kind a.head.start a.head.end) v))) c.requires.1 (λ id s r. rw (names-step (mode_of a.mode) (enter a.kind a.head.start a.head.end) s c.requires.0)) in
+    let begun = let a = c.args in start {keep = None} {G = scope_at (words a.s.now) a.tab.now a.mode a.head.start a.head.end a.kind} (λ id u v. last (pattern_go (world_at (words a.s.now) a.tab.now id) (within (world_at (words a.s.now) a.tab.now id) (tables_in a.tab.now)) (mode_of a.mode) (on_names (enter a.kind a.head.start a.head.end) v))) c.requires.1 (λ id s r. rw (names-step (mode_of a.mode) (enter a.kind a.head.start a.head.end) s c.requires.0)) in
     let one = let a = c.args in did (λ id u v. last (pattern_go (world_at (words a.s.now) a.tab.now id) (within (world_at (words a.s.now) a.tab.now id) (tables_in a.tab.now)) (mode_of a.mode) v)) 2 (omega arith) (omega arith) begun c.enter.ensures in
     (omega arith, ready (omega arith) c.requires.1 one)
 
 pub returns : goal.returns
 returns c =
-    let begun = let a = c.args in start {keep = none} {G = scope_at (words a.s.now) a.tab.now a.mode a.head.start a.head.end a.kind} (λ id u v. last (pattern_go (world_at (words a.s.now) a.tab.now id) (within (world_at (words a.s.now) a.tab.now id) (tables_in a.tab.now)) (mode_of a.mode) (on_names (enter a.kind a.head.start a.head.end) v))) c.requires.1 (λ id s r. rw (names-step (mode_of a.mode) (enter a.kind a.head.start a.head.end) s c.requires.0)) in
+    let begun = let a = c.args in start {keep = None} {G = scope_at (words a.s.now) a.tab.now a.mode a.head.start a.head.end a.kind} (λ id u v. last (pattern_go (world_at (words a.s.now) a.tab.now id) (within (world_at (words a.s.now) a.tab.now id) (tables_in a.tab.now)) (mode_of a.mode) (on_names (enter a.kind a.head.start a.head.end) v))) c.requires.1 (λ id s r. rw (names-step (mode_of a.mode) (enter a.kind a.head.start a.head.end) s c.requires.0)) in
     let one = let a = c.args in did (λ id u v. last (pattern_go (world_at (words a.s.now) a.tab.now id) (within (world_at (words a.s.now) a.tab.now id) (tables_in a.tab.now)) (mode_of a.mode) v)) 2 (omega arith) (omega arith) begun c.enter.ensures in
     last_one _ (omega arith) refl one (forget _ c.walk_pattern.ensures)

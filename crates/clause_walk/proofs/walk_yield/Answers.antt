@@ -1,6 +1,6 @@
 -- Three words are read, and pay for the binding.
+use Rattle.std.specs.Prelude.{None}
 use Prim.Native.Nat.{◌+◌}
-use mathlib.Core.Option.{none}
 use mathlib.Core.Path.{◌≡◌, ◌∙◌, refl}
 use native.Mathlib.Omega.{arith}
 use Rattle.clauses.specs.Read.{alias_of}
@@ -22,27 +22,27 @@ use Rattle.clause_walk.proofs.walk_yield.Goals as goal
 pub returns-in_default : goal.returns-in_default
 returns-in_default c =
     let given = let a = c.args in let p : Ready 0 (words a.s.now) a.tab.now a.m.now a.vis.now a.found.now = c.requires in p in
-    let begun = let a = c.args in start {keep = none} {G = yield_at (words a.s.now) a.tab.now a.head.start a.head.end} (λ id u w. step (word_in 0 (names_in a.tab.now)) (λ x. step (word_in 0 (names_in a.tab.now + 1)) (λ y. step (word_in 0 4294967296) (λ v. last (ok (on_names (bind_anew (world_at (words a.s.now) a.tab.now id) a.head.start a.head.end (yield_name x (alias_of y)) v value_kind) w)))))) given (λ id s r. yield-as (words a.s.now) a.tab.now a.head.start a.head.end id s r) in
+    let begun = let a = c.args in start {keep = None} {G = yield_at (words a.s.now) a.tab.now a.head.start a.head.end} (λ id u w. step (word_in 0 (names_in a.tab.now)) (λ x. step (word_in 0 (names_in a.tab.now + 1)) (λ y. step (word_in 0 4294967296) (λ v. last (ok (on_names (bind_anew (world_at (words a.s.now) a.tab.now id) a.head.start a.head.end (yield_name x (alias_of y)) v value_kind) w)))))) given (λ id s r. yield-as (words a.s.now) a.tab.now a.head.start a.head.end id s r) in
     halted begun c.next_word.ensures c.in_default.is refl
 
 pub next_word-requires-2 : goal.next_word-requires-2
 next_word-requires-2 c =
     let given = let a = c.args in let p : Ready 0 (words a.s.now) a.tab.now a.m.now a.vis.now a.found.now = c.requires in p in
-    let begun = let a = c.args in start {keep = none} {G = yield_at (words a.s.now) a.tab.now a.head.start a.head.end} (λ id u w. step (word_in 0 (names_in a.tab.now)) (λ x. step (word_in 0 (names_in a.tab.now + 1)) (λ y. step (word_in 0 4294967296) (λ v. last (ok (on_names (bind_anew (world_at (words a.s.now) a.tab.now id) a.head.start a.head.end (yield_name x (alias_of y)) v value_kind) w)))))) given (λ id s r. yield-as (words a.s.now) a.tab.now a.head.start a.head.end id s r) in
+    let begun = let a = c.args in start {keep = None} {G = yield_at (words a.s.now) a.tab.now a.head.start a.head.end} (λ id u w. step (word_in 0 (names_in a.tab.now)) (λ x. step (word_in 0 (names_in a.tab.now + 1)) (λ y. step (word_in 0 4294967296) (λ v. last (ok (on_names (bind_anew (world_at (words a.s.now) a.tab.now id) a.head.start a.head.end (yield_name x (alias_of y)) v value_kind) w)))))) given (λ id s r. yield-as (words a.s.now) a.tab.now a.head.start a.head.end id s r) in
     let one = past begun c.next_word.ensures c.in-Is.is in
     asked (ready {i = 0} (omega arith) given one)
 
 pub returns-in_default-next_word : goal.returns-in_default-next_word
 returns-in_default-next_word c =
     let given = let a = c.args in let p : Ready 0 (words a.s.now) a.tab.now a.m.now a.vis.now a.found.now = c.requires in p in
-    let begun = let a = c.args in start {keep = none} {G = yield_at (words a.s.now) a.tab.now a.head.start a.head.end} (λ id u w. step (word_in 0 (names_in a.tab.now)) (λ x. step (word_in 0 (names_in a.tab.now + 1)) (λ y. step (word_in 0 4294967296) (λ v. last (ok (on_names (bind_anew (world_at (words a.s.now) a.tab.now id) a.head.start a.head.end (yield_name x (alias_of y)) v value_kind) w)))))) given (λ id s r. yield-as (words a.s.now) a.tab.now a.head.start a.head.end id s r) in
+    let begun = let a = c.args in start {keep = None} {G = yield_at (words a.s.now) a.tab.now a.head.start a.head.end} (λ id u w. step (word_in 0 (names_in a.tab.now)) (λ x. step (word_in 0 (names_in a.tab.now + 1)) (λ y. step (word_in 0 4294967296) (λ v. last (ok (on_names (bind_anew (world_at (words a.s.now) a.tab.now id) a.head.start a.head.end (yield_name x (alias_of y)) v value_kind) w)))))) given (λ id s r. yield-as (words a.s.now) a.tab.now a.head.start a.head.end id s r) in
     let one = past begun c.next_word.ensures c.in-Is.is in
     halted one c.next_word-2.ensures c.in_default-next_word.is refl
 
 pub next_word-requires-3 : goal.next_word-requires-3
 next_word-requires-3 c =
     let given = let a = c.args in let p : Ready 0 (words a.s.now) a.tab.now a.m.now a.vis.now a.found.now = c.requires in p in
-    let begun = let a = c.args in start {keep = none} {G = yield_at (words a.s.now) a.tab.now a.head.start a.head.end} (λ id u w. step (word_in 0 (names_in a.tab.now)) (λ x. step (word_in 0 (names_in a.tab.now + 1)) (λ y. step (word_in 0 4294967296) (λ v. last (ok (on_names (bind_anew (world_at (words a.s.now) a.tab.now id) a.head.start a.head.end (yield_name x (alias_of y)) v value_kind) w)))))) given (λ id s r. yield-as (words a.s.now) a.tab.now a.head.start a.head.end id s r) in
+    let begun = let a = c.args in start {keep = None} {G = yield_at (words a.s.now) a.tab.now a.head.start a.head.end} (λ id u w. step (word_in 0 (names_in a.tab.now)) (λ x. step (word_in 0 (names_in a.tab.now + 1)) (λ y. step (word_in 0 4294967296) (λ v. last (ok (on_names (bind_anew (world_at (words a.s.now) a.tab.now id) a.head.start a.head.end (yield_name x (alias_of y)) v value_kind) w)))))) given (λ id s r. yield-as (words a.s.now) a.tab.now a.head.start a.head.end id s r) in
     let one = past begun c.next_word.ensures c.in-Is.is in
     let two = past one c.next_word-2.ensures c.in-Is-next_word.is in
     asked (ready {i = 0} (omega arith) given two)
@@ -50,7 +50,7 @@ next_word-requires-3 c =
 pub returns-in_default-next_word-2 : goal.returns-in_default-next_word-2
 returns-in_default-next_word-2 c =
     let given = let a = c.args in let p : Ready 0 (words a.s.now) a.tab.now a.m.now a.vis.now a.found.now = c.requires in p in
-    let begun = let a = c.args in start {keep = none} {G = yield_at (words a.s.now) a.tab.now a.head.start a.head.end} (λ id u w. step (word_in 0 (names_in a.tab.now)) (λ x. step (word_in 0 (names_in a.tab.now + 1)) (λ y. step (word_in 0 4294967296) (λ v. last (ok (on_names (bind_anew (world_at (words a.s.now) a.tab.now id) a.head.start a.head.end (yield_name x (alias_of y)) v value_kind) w)))))) given (λ id s r. yield-as (words a.s.now) a.tab.now a.head.start a.head.end id s r) in
+    let begun = let a = c.args in start {keep = None} {G = yield_at (words a.s.now) a.tab.now a.head.start a.head.end} (λ id u w. step (word_in 0 (names_in a.tab.now)) (λ x. step (word_in 0 (names_in a.tab.now + 1)) (λ y. step (word_in 0 4294967296) (λ v. last (ok (on_names (bind_anew (world_at (words a.s.now) a.tab.now id) a.head.start a.head.end (yield_name x (alias_of y)) v value_kind) w)))))) given (λ id s r. yield-as (words a.s.now) a.tab.now a.head.start a.head.end id s r) in
     let one = past begun c.next_word.ensures c.in-Is.is in
     let two = past one c.next_word-2.ensures c.in-Is-next_word.is in
     halted two c.next_word-3.ensures c.in_default-next_word-2.is refl
@@ -58,7 +58,7 @@ returns-in_default-next_word-2 c =
 pub bind_anew-requires : goal.bind_anew-requires
 bind_anew-requires c =
     let given = let a = c.args in let p : Ready 0 (words a.s.now) a.tab.now a.m.now a.vis.now a.found.now = c.requires in p in
-    let begun = let a = c.args in start {keep = none} {G = yield_at (words a.s.now) a.tab.now a.head.start a.head.end} (λ id u w. step (word_in 0 (names_in a.tab.now)) (λ x. step (word_in 0 (names_in a.tab.now + 1)) (λ y. step (word_in 0 4294967296) (λ v. last (ok (on_names (bind_anew (world_at (words a.s.now) a.tab.now id) a.head.start a.head.end (yield_name x (alias_of y)) v value_kind) w)))))) given (λ id s r. yield-as (words a.s.now) a.tab.now a.head.start a.head.end id s r) in
+    let begun = let a = c.args in start {keep = None} {G = yield_at (words a.s.now) a.tab.now a.head.start a.head.end} (λ id u w. step (word_in 0 (names_in a.tab.now)) (λ x. step (word_in 0 (names_in a.tab.now + 1)) (λ y. step (word_in 0 4294967296) (λ v. last (ok (on_names (bind_anew (world_at (words a.s.now) a.tab.now id) a.head.start a.head.end (yield_name x (alias_of y)) v value_kind) w)))))) given (λ id s r. yield-as (words a.s.now) a.tab.now a.head.start a.head.end id s r) in
     let one = past begun c.next_word.ensures c.in-Is.is in
     let two = past one c.next_word-2.ensures c.in-Is-next_word.is in
     let three = past two c.next_word-3.ensures c.in-Is-next_word-2.is in
@@ -68,7 +68,7 @@ bind_anew-requires c =
 pub returns : goal.returns
 returns c =
     let given = let a = c.args in let p : Ready 0 (words a.s.now) a.tab.now a.m.now a.vis.now a.found.now = c.requires in p in
-    let begun = let a = c.args in start {keep = none} {G = yield_at (words a.s.now) a.tab.now a.head.start a.head.end} (λ id u w. step (word_in 0 (names_in a.tab.now)) (λ x. step (word_in 0 (names_in a.tab.now + 1)) (λ y. step (word_in 0 4294967296) (λ v. last (ok (on_names (bind_anew (world_at (words a.s.now) a.tab.now id) a.head.start a.head.end (yield_name x (alias_of y)) v value_kind) w)))))) given (λ id s r. yield-as (words a.s.now) a.tab.now a.head.start a.head.end id s r) in
+    let begun = let a = c.args in start {keep = None} {G = yield_at (words a.s.now) a.tab.now a.head.start a.head.end} (λ id u w. step (word_in 0 (names_in a.tab.now)) (λ x. step (word_in 0 (names_in a.tab.now + 1)) (λ y. step (word_in 0 4294967296) (λ v. last (ok (on_names (bind_anew (world_at (words a.s.now) a.tab.now id) a.head.start a.head.end (yield_name x (alias_of y)) v value_kind) w)))))) given (λ id s r. yield-as (words a.s.now) a.tab.now a.head.start a.head.end id s r) in
     let one = past begun c.next_word.ensures c.in-Is.is in
     let two = past one c.next_word-2.ensures c.in-Is-next_word.is in
     let three = past two c.next_word-3.ensures c.in-Is-next_word-2.is in

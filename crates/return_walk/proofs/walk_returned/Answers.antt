@@ -1,5 +1,5 @@
 -- The count is read, and the projections are walked.
-use mathlib.Core.Option.{some}
+use Rattle.std.specs.Prelude.{Some}
 use mathlib.Core.Path.{refl}
 use native.Mathlib.Omega.{arith}
 use Rattle.fused.specs.Fused.{rounds}
@@ -15,19 +15,19 @@ use Rattle.return_walk.proofs.walk_returned.Goals as goal
 pub returns-in_default : goal.returns-in_default
 returns-in_default c =
     let given = let a = c.args in let p : Ready 0 (words a.s.now) a.tab.now a.m.now a.vis.now a.found.now = c.requires in p in
-    let begun = let a = c.args in start {keep = some 48} (λ id u v. step (word_in 0 4294967296) (λ n. last (rounds n (output_at (words a.s.now) a.tab.now a.mode id) v))) given (λ id s r. refl) in
+    let begun = let a = c.args in start {keep = Some 48} (λ id u v. step (word_in 0 4294967296) (λ n. last (rounds n (output_at (words a.s.now) a.tab.now a.mode id) v))) given (λ id s r. refl) in
     rw (stays c.next_word.ensures c.in_default.is) (refused 5 (λ e. omega arith) begun (stopped begun c.next_word.ensures c.in_default.is))
 
 pub walk_outputs-requires : goal.walk_outputs-requires
 walk_outputs-requires c =
     let given = let a = c.args in let p : Ready 0 (words a.s.now) a.tab.now a.m.now a.vis.now a.found.now = c.requires in p in
-    let begun = let a = c.args in start {keep = some 48} (λ id u v. step (word_in 0 4294967296) (λ n. last (rounds n (output_at (words a.s.now) a.tab.now a.mode id) v))) given (λ id s r. refl) in
+    let begun = let a = c.args in start {keep = Some 48} (λ id u v. step (word_in 0 4294967296) (λ n. last (rounds n (output_at (words a.s.now) a.tab.now a.mode id) v))) given (λ id s r. refl) in
     let one = past begun c.next_word.ensures c.in-Is.is in
     ready (omega arith) given one
 
 pub returns : goal.returns
 returns c =
     let given = let a = c.args in let p : Ready 0 (words a.s.now) a.tab.now a.m.now a.vis.now a.found.now = c.requires in p in
-    let begun = let a = c.args in start {keep = some 48} (λ id u v. step (word_in 0 4294967296) (λ n. last (rounds n (output_at (words a.s.now) a.tab.now a.mode id) v))) given (λ id s r. refl) in
+    let begun = let a = c.args in start {keep = Some 48} (λ id u v. step (word_in 0 4294967296) (λ n. last (rounds n (output_at (words a.s.now) a.tab.now a.mode id) v))) given (λ id s r. refl) in
     let one = past begun c.next_word.ensures c.in-Is.is in
     tail _ (omega arith) one c.walk_outputs.ensures

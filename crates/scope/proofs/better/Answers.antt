@@ -1,6 +1,6 @@
 -- A span that covers the offset is taken where it is no wider than the best so far.
+use Rattle.std.specs.Prelude.{Option}
 use Rattle.std.proofs.Common.{◌≡◌, ℕ, ◌<◌, ◌≤◌, ◌⊎◌, arith}
-use Rattle.std.proofs.Math.Option.{Option}
 use Rattle.std.proofs.lemmas.Bool.Decides.{nat_tests}
 use Rattle.scope.specs.Graph.{scope}
 use Rattle.scope.specs.Offset.{Best, none', best, better, covers, width}

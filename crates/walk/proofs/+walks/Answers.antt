@@ -1,9 +1,9 @@
+use Rattle.std.specs.Prelude.{Some}
 use Prim.Native.Nat.{suc, ℕ, ◌*◌, ◌+◌, ◌-◌, ◌/◌, ◌<◌}
 use native.Mathlib.Omega.{arith}
 use mathlib.Core.Path.{ap, refl, sym, ◌∙◌, ◌≡◌}
 use Rattle.words.specs.Words.{words}
 use Rattle.heads.proofs.Chain.{last, step}
-use mathlib.Core.Option.{some}
 use Rattle.heads.specs.Head.{mark_kids, read_elem, read_part}
 use Rattle.fused.specs.Fused.{elem_go, elem_step, expr_go, head_of, mark_go, part_go, part_step, pattern_go, rest_go, row_go, tail_of}
 use Rattle.semantics.specs.Kinds.{plain, settings}
@@ -38,7 +38,7 @@ pub walk_elem-returns-in_default : goal.walk_elem-returns-in_default
 unfolding elem_go
 walk_elem-returns-in_default t c =
     let begun = let a = c.args in
-    start {keep = some a.room} (λ id u v. step read_elem λ h. last (row_go (expr_go (world_at (words a.s.now) a.tab.now id) (tables_in a.tab.now) a.room (mode_of a.mode)) h.property plain (elem_step (world_at (words a.s.now) a.tab.now id) (mode_of a.mode) h v))) c.requires.1 (λ id z r. refl) in
+    start {keep = Some a.room} (λ id u v. step read_elem λ h. last (row_go (expr_go (world_at (words a.s.now) a.tab.now id) (tables_in a.tab.now) a.room (mode_of a.mode)) h.property plain (elem_step (world_at (words a.s.now) a.tab.now id) (mode_of a.mode) h v))) c.requires.1 (λ id z r. refl) in
     refused 5 (λ e. omega arith) begun (stop begun (rw c.in_default.is at c.read_elem_head.ensures))
 
 pub walk_elem-overflow_cast-m : goal.walk_elem-overflow_cast-m
@@ -56,7 +56,7 @@ pub walk_elem-bind_elem-requires : goal.walk_elem-bind_elem-requires
 unfolding elem_go
 walk_elem-bind_elem-requires t c =
     let begun = let a = c.args in
-    start {keep = some a.room} (λ id u v. step read_elem λ h. last (row_go (expr_go (world_at (words a.s.now) a.tab.now id) (tables_in a.tab.now) a.room (mode_of a.mode)) h.property plain (elem_step (world_at (words a.s.now) a.tab.now id) (mode_of a.mode) h v))) c.requires.1 (λ id z r. refl) in
+    start {keep = Some a.room} (λ id u v. step read_elem λ h. last (row_go (expr_go (world_at (words a.s.now) a.tab.now id) (tables_in a.tab.now) a.room (mode_of a.mode)) h.property plain (elem_step (world_at (words a.s.now) a.tab.now id) (mode_of a.mode) h v))) c.requires.1 (λ id z r. refl) in
     let answer = rw c.in-Is.is at c.read_elem_head.ensures in
     let paid = elem-paid _ _ _ _ answer in
     let one = read begun 3 answer (omega (arith, paid.0)) in
@@ -78,7 +78,7 @@ pub walk_elem-walk_row-requires : goal.walk_elem-walk_row-requires
 unfolding elem_go
 walk_elem-walk_row-requires t c =
     let begun = let a = c.args in
-    start {keep = some a.room} (λ id u v. step read_elem λ h. last (row_go (expr_go (world_at (words a.s.now) a.tab.now id) (tables_in a.tab.now) a.room (mode_of a.mode)) h.property plain (elem_step (world_at (words a.s.now) a.tab.now id) (mode_of a.mode) h v))) c.requires.1 (λ id z r. refl) in
+    start {keep = Some a.room} (λ id u v. step read_elem λ h. last (row_go (expr_go (world_at (words a.s.now) a.tab.now id) (tables_in a.tab.now) a.room (mode_of a.mode)) h.property plain (elem_step (world_at (words a.s.now) a.tab.now id) (mode_of a.mode) h v))) c.requires.1 (λ id z r. refl) in
     let answer = rw c.in-Is.is at c.read_elem_head.ensures in
     let paid = elem-paid _ _ _ _ answer in
     let one = read begun 3 answer (omega (arith, paid.0)) in
@@ -91,7 +91,7 @@ pub walk_elem-returns : goal.walk_elem-returns
 unfolding elem_go
 walk_elem-returns t c =
     let begun = let a = c.args in
-    start {keep = some a.room} (λ id u v. step read_elem λ h. last (row_go (expr_go (world_at (words a.s.now) a.tab.now id) (tables_in a.tab.now) a.room (mode_of a.mode)) h.property plain (elem_step (world_at (words a.s.now) a.tab.now id) (mode_of a.mode) h v))) c.requires.1 (λ id z r. refl) in
+    start {keep = Some a.room} (λ id u v. step read_elem λ h. last (row_go (expr_go (world_at (words a.s.now) a.tab.now id) (tables_in a.tab.now) a.room (mode_of a.mode)) h.property plain (elem_step (world_at (words a.s.now) a.tab.now id) (mode_of a.mode) h v))) c.requires.1 (λ id z r. refl) in
     let answer = rw c.in-Is.is at c.read_elem_head.ensures in
     let paid = elem-paid _ _ _ _ answer in
     let one = read begun 3 answer (omega (arith, paid.0)) in
@@ -134,7 +134,7 @@ pub walk_expr-returns-then-room-eq0 : goal.walk_expr-returns-then-room-eq0
 unfolding expr_go
 walk_expr-returns-then-room-eq0 t c =
     let a = c.args in
-    refused c.deep_cause.result (λ e. deep-some _ (sym c.deep_cause.ensures ∙ e)) (start {keep = some a.room} (λ id u v. last (expr_at (words a.s.now) a.tab.now a.room a.mode id v)) c.requires.1 (λ id z r. refl))
+    refused c.deep_cause.result (λ e. deep-some _ (sym c.deep_cause.ensures ∙ e)) (start {keep = Some a.room} (λ id u v. last (expr_at (words a.s.now) a.tab.now a.room a.mode id v)) c.requires.1 (λ id z r. refl))
     (record { same = λ id z h. rw (c.if-room-eq0.true, ← c.deep_cause.ensures) })
 
 pub walk_expr-bounds-tab-0 : goal.walk_expr-bounds-tab-0
@@ -152,7 +152,7 @@ unfolding expr_go
 walk_expr-returns-in_default t c =
     let begun = let a = c.args in
     let e : a.room ≡ suc (a.room - 1) = omega arith in
-    start {keep = some a.room} {G = expr_at (words a.s.now) a.tab.now a.room a.mode} (λ id u v. step (read_form (names_in a.tab.now)) λ f. step (rest_at (words a.s.now) a.tab.now (a.room - 1) a.mode f id (head_of (world_at (words a.s.now) a.tab.now id) (mode_of a.mode) f (first_of a.mode) v)) λ x. last (ok (tail_of (mode_of a.mode) f u x))) c.requires.1
+    start {keep = Some a.room} {G = expr_at (words a.s.now) a.tab.now a.room a.mode} (λ id u v. step (read_form (names_in a.tab.now)) λ f. step (rest_at (words a.s.now) a.tab.now (a.room - 1) a.mode f id (head_of (world_at (words a.s.now) a.tab.now id) (mode_of a.mode) f (first_of a.mode) v)) λ x. last (ok (tail_of (mode_of a.mode) f u x))) c.requires.1
     (λ id z r. ap (λ (d : ℕ). expr_go (world_at (words a.s.now) a.tab.now id) (tables_in a.tab.now) d (mode_of a.mode) (first_of a.mode) z r) e) in
     let o = begun in refused 5 (λ e. omega arith) o (stop o (rw c.in_default.is at c.read_form.ensures.ans))
 
@@ -182,7 +182,7 @@ unfolding expr_go
 walk_expr-begin-requires t c =
     let begun = let a = c.args in
     let e : a.room ≡ suc (a.room - 1) = omega arith in
-    start {keep = some a.room} {G = expr_at (words a.s.now) a.tab.now a.room a.mode} (λ id u v. step (read_form (names_in a.tab.now)) λ f. step (rest_at (words a.s.now) a.tab.now (a.room - 1) a.mode f id (head_of (world_at (words a.s.now) a.tab.now id) (mode_of a.mode) f (first_of a.mode) v)) λ x. last (ok (tail_of (mode_of a.mode) f u x))) c.requires.1
+    start {keep = Some a.room} {G = expr_at (words a.s.now) a.tab.now a.room a.mode} (λ id u v. step (read_form (names_in a.tab.now)) λ f. step (rest_at (words a.s.now) a.tab.now (a.room - 1) a.mode f id (head_of (world_at (words a.s.now) a.tab.now id) (mode_of a.mode) f (first_of a.mode) v)) λ x. last (ok (tail_of (mode_of a.mode) f u x))) c.requires.1
     (λ id z r. ap (λ (d : ℕ). expr_go (world_at (words a.s.now) a.tab.now id) (tables_in a.tab.now) d (mode_of a.mode) (first_of a.mode) z r) e) in
     let answer = rw c.in-Is.is at c.read_form.ensures.ans in
     let paid = let a = c.args in form-paid (words a.s.now) (at_of a.m.now) c.in-Is.p (names_in a.tab.now) (slots_in a.tab.now) c.in-Is.f c.requires.1.fine.places answer in
@@ -194,7 +194,7 @@ unfolding expr_go
 walk_expr-walk_rest-r-requires t c =
     let begun = let a = c.args in
     let e : a.room ≡ suc (a.room - 1) = omega arith in
-    start {keep = some a.room} {G = expr_at (words a.s.now) a.tab.now a.room a.mode} (λ id u v. step (read_form (names_in a.tab.now)) λ f. step (rest_at (words a.s.now) a.tab.now (a.room - 1) a.mode f id (head_of (world_at (words a.s.now) a.tab.now id) (mode_of a.mode) f (first_of a.mode) v)) λ x. last (ok (tail_of (mode_of a.mode) f u x))) c.requires.1
+    start {keep = Some a.room} {G = expr_at (words a.s.now) a.tab.now a.room a.mode} (λ id u v. step (read_form (names_in a.tab.now)) λ f. step (rest_at (words a.s.now) a.tab.now (a.room - 1) a.mode f id (head_of (world_at (words a.s.now) a.tab.now id) (mode_of a.mode) f (first_of a.mode) v)) λ x. last (ok (tail_of (mode_of a.mode) f u x))) c.requires.1
     (λ id z r. ap (λ (d : ℕ). expr_go (world_at (words a.s.now) a.tab.now id) (tables_in a.tab.now) d (mode_of a.mode) (first_of a.mode) z r) e) in
     let answer = rw c.in-Is.is at c.read_form.ensures.ans in
     let longer = rw c.in-Is.is at c.read_form.ensures.longer in
@@ -210,7 +210,7 @@ unfolding expr_go
 walk_expr-returns-then-r-ne0 t c =
     let begun = let a = c.args in
     let e : a.room ≡ suc (a.room - 1) = omega arith in
-    start {keep = some a.room} {G = expr_at (words a.s.now) a.tab.now a.room a.mode} (λ id u v. step (read_form (names_in a.tab.now)) λ f. step (rest_at (words a.s.now) a.tab.now (a.room - 1) a.mode f id (head_of (world_at (words a.s.now) a.tab.now id) (mode_of a.mode) f (first_of a.mode) v)) λ x. last (ok (tail_of (mode_of a.mode) f u x))) c.requires.1
+    start {keep = Some a.room} {G = expr_at (words a.s.now) a.tab.now a.room a.mode} (λ id u v. step (read_form (names_in a.tab.now)) λ f. step (rest_at (words a.s.now) a.tab.now (a.room - 1) a.mode f id (head_of (world_at (words a.s.now) a.tab.now id) (mode_of a.mode) f (first_of a.mode) v)) λ x. last (ok (tail_of (mode_of a.mode) f u x))) c.requires.1
     (λ id z r. ap (λ (d : ℕ). expr_go (world_at (words a.s.now) a.tab.now id) (tables_in a.tab.now) d (mode_of a.mode) (first_of a.mode) z r) e) in
     let answer = rw c.in-Is.is at c.read_form.ensures.ans in
     let paid = let a = c.args in form-paid (words a.s.now) (at_of a.m.now) c.in-Is.p (names_in a.tab.now) (slots_in a.tab.now) c.in-Is.f c.requires.1.fine.places answer in
@@ -225,7 +225,7 @@ unfolding expr_go
 walk_expr-finish-requires t c =
     let begun = let a = c.args in
     let e : a.room ≡ suc (a.room - 1) = omega arith in
-    start {keep = some a.room} {G = expr_at (words a.s.now) a.tab.now a.room a.mode} (λ id u v. step (read_form (names_in a.tab.now)) λ f. step (rest_at (words a.s.now) a.tab.now (a.room - 1) a.mode f id (head_of (world_at (words a.s.now) a.tab.now id) (mode_of a.mode) f (first_of a.mode) v)) λ x. last (ok (tail_of (mode_of a.mode) f u x))) c.requires.1
+    start {keep = Some a.room} {G = expr_at (words a.s.now) a.tab.now a.room a.mode} (λ id u v. step (read_form (names_in a.tab.now)) λ f. step (rest_at (words a.s.now) a.tab.now (a.room - 1) a.mode f id (head_of (world_at (words a.s.now) a.tab.now id) (mode_of a.mode) f (first_of a.mode) v)) λ x. last (ok (tail_of (mode_of a.mode) f u x))) c.requires.1
     (λ id z r. ap (λ (d : ℕ). expr_go (world_at (words a.s.now) a.tab.now id) (tables_in a.tab.now) d (mode_of a.mode) (first_of a.mode) z r) e) in
     let answer = rw c.in-Is.is at c.read_form.ensures.ans in
     let paid = let a = c.args in form-paid (words a.s.now) (at_of a.m.now) c.in-Is.p (names_in a.tab.now) (slots_in a.tab.now) c.in-Is.f c.requires.1.fine.places answer in
@@ -240,7 +240,7 @@ unfolding expr_go
 walk_expr-returns t c =
     let begun = let a = c.args in
     let e : a.room ≡ suc (a.room - 1) = omega arith in
-    start {keep = some a.room} {G = expr_at (words a.s.now) a.tab.now a.room a.mode} (λ id u v. step (read_form (names_in a.tab.now)) λ f. step (rest_at (words a.s.now) a.tab.now (a.room - 1) a.mode f id (head_of (world_at (words a.s.now) a.tab.now id) (mode_of a.mode) f (first_of a.mode) v)) λ x. last (ok (tail_of (mode_of a.mode) f u x))) c.requires.1
+    start {keep = Some a.room} {G = expr_at (words a.s.now) a.tab.now a.room a.mode} (λ id u v. step (read_form (names_in a.tab.now)) λ f. step (rest_at (words a.s.now) a.tab.now (a.room - 1) a.mode f id (head_of (world_at (words a.s.now) a.tab.now id) (mode_of a.mode) f (first_of a.mode) v)) λ x. last (ok (tail_of (mode_of a.mode) f u x))) c.requires.1
     (λ id z r. ap (λ (d : ℕ). expr_go (world_at (words a.s.now) a.tab.now id) (tables_in a.tab.now) d (mode_of a.mode) (first_of a.mode) z r) e) in
     let answer = rw c.in-Is.is at c.read_form.ensures.ans in
     let paid = let a = c.args in form-paid (words a.s.now) (at_of a.m.now) c.in-Is.p (names_in a.tab.now) (slots_in a.tab.now) c.in-Is.f c.requires.1.fine.places answer in
@@ -392,7 +392,7 @@ pub walk_mark-returns-in_default : goal.walk_mark-returns-in_default
 unfolding mark_go
 walk_mark-returns-in_default t c =
     let begun = let a = c.args in
-    start {keep = some a.room} {G = mark_at (words a.s.now) a.tab.now a.room a.mode a.kind} (λ id u v. step (word_in c.mark_low.result c.mark_high.result) λ w. last (row_go (expr_go (world_at (words a.s.now) a.tab.now id) (tables_in a.tab.now) a.room (mode_of a.mode)) (mark_kids a.kind w) plain v)) c.requires.1
+    start {keep = Some a.room} {G = mark_at (words a.s.now) a.tab.now a.room a.mode a.kind} (λ id u v. step (word_in c.mark_low.result c.mark_high.result) λ w. last (row_go (expr_go (world_at (words a.s.now) a.tab.now id) (tables_in a.tab.now) a.room (mode_of a.mode)) (mark_kids a.kind w) plain v)) c.requires.1
     (λ id z r. rw (← c.mark_low.ensures, ← c.mark_high.ensures)) in
     let o = begun in refused 5 (λ e. omega arith) o (stop o (rw c.in_default.is at c.word_in.ensures))
 
@@ -416,7 +416,7 @@ pub walk_mark-walk_row-requires : goal.walk_mark-walk_row-requires
 unfolding mark_go
 walk_mark-walk_row-requires t c =
     let begun = let a = c.args in
-    start {keep = some a.room} {G = mark_at (words a.s.now) a.tab.now a.room a.mode a.kind} (λ id u v. step (word_in c.mark_low.result c.mark_high.result) λ w. last (row_go (expr_go (world_at (words a.s.now) a.tab.now id) (tables_in a.tab.now) a.room (mode_of a.mode)) (mark_kids a.kind w) plain v)) c.requires.1
+    start {keep = Some a.room} {G = mark_at (words a.s.now) a.tab.now a.room a.mode a.kind} (λ id u v. step (word_in c.mark_low.result c.mark_high.result) λ w. last (row_go (expr_go (world_at (words a.s.now) a.tab.now id) (tables_in a.tab.now) a.room (mode_of a.mode)) (mark_kids a.kind w) plain v)) c.requires.1
     (λ id z r. rw (← c.mark_low.ensures, ← c.mark_high.ensures)) in
     let answer = rw c.in-Is.is at c.word_in.ensures in
     let few = let a = c.args in mark-few (words a.s.now) (at_of a.m.now) (at_of a.m.now + 1) a.kind c.in-Is.k (rw (c.mark_low.ensures, c.mark_high.ensures) at answer.same) in
@@ -427,7 +427,7 @@ pub walk_mark-returns : goal.walk_mark-returns
 unfolding mark_go
 walk_mark-returns t c =
     let begun = let a = c.args in
-    start {keep = some a.room} {G = mark_at (words a.s.now) a.tab.now a.room a.mode a.kind} (λ id u v. step (word_in c.mark_low.result c.mark_high.result) λ w. last (row_go (expr_go (world_at (words a.s.now) a.tab.now id) (tables_in a.tab.now) a.room (mode_of a.mode)) (mark_kids a.kind w) plain v)) c.requires.1
+    start {keep = Some a.room} {G = mark_at (words a.s.now) a.tab.now a.room a.mode a.kind} (λ id u v. step (word_in c.mark_low.result c.mark_high.result) λ w. last (row_go (expr_go (world_at (words a.s.now) a.tab.now id) (tables_in a.tab.now) a.room (mode_of a.mode)) (mark_kids a.kind w) plain v)) c.requires.1
     (λ id z r. rw (← c.mark_low.ensures, ← c.mark_high.ensures)) in
     let answer = rw c.in-Is.is at c.word_in.ensures in
     let one = read begun 0 answer (omega arith) in
@@ -473,7 +473,7 @@ pub walk_part-returns-in_default : goal.walk_part-returns-in_default
 unfolding part_go
 walk_part-returns-in_default t c =
     let begun = let a = c.args in
-    start {keep = some a.room} (λ id u v. step read_part λ h. last (elems_at (words a.s.now) a.tab.now a.room a.mode h.count id (part_step (world_at (words a.s.now) a.tab.now id) (mode_of a.mode) h v))) c.requires.1 (λ id z r. refl) in
+    start {keep = Some a.room} (λ id u v. step read_part λ h. last (elems_at (words a.s.now) a.tab.now a.room a.mode h.count id (part_step (world_at (words a.s.now) a.tab.now id) (mode_of a.mode) h v))) c.requires.1 (λ id z r. refl) in
     let o = begun in refused 5 (λ e. omega arith) o (stop o (rw c.in_default.is at c.read_part_head.ensures))
 
 pub walk_part-overflow_cast-m : goal.walk_part-overflow_cast-m
@@ -491,7 +491,7 @@ pub walk_part-bind_part-requires : goal.walk_part-bind_part-requires
 unfolding part_go
 walk_part-bind_part-requires t c =
     let begun = let a = c.args in
-    start {keep = some a.room} (λ id u v. step read_part λ h. last (elems_at (words a.s.now) a.tab.now a.room a.mode h.count id (part_step (world_at (words a.s.now) a.tab.now id) (mode_of a.mode) h v))) c.requires.1 (λ id z r. refl) in
+    start {keep = Some a.room} (λ id u v. step read_part λ h. last (elems_at (words a.s.now) a.tab.now a.room a.mode h.count id (part_step (world_at (words a.s.now) a.tab.now id) (mode_of a.mode) h v))) c.requires.1 (λ id z r. refl) in
     let answer = rw c.in-Is.is at c.read_part_head.ensures in
     let paid = part-paid _ _ _ _ answer in
     let one = read begun (path_cost c.in-Is.h.path) answer (omega (arith, paid.0)) in
@@ -501,7 +501,7 @@ pub walk_part-walk_elems-requires : goal.walk_part-walk_elems-requires
 unfolding part_go
 walk_part-walk_elems-requires t c =
     let begun = let a = c.args in
-    start {keep = some a.room} (λ id u v. step read_part λ h. last (elems_at (words a.s.now) a.tab.now a.room a.mode h.count id (part_step (world_at (words a.s.now) a.tab.now id) (mode_of a.mode) h v))) c.requires.1 (λ id z r. refl) in
+    start {keep = Some a.room} (λ id u v. step read_part λ h. last (elems_at (words a.s.now) a.tab.now a.room a.mode h.count id (part_step (world_at (words a.s.now) a.tab.now id) (mode_of a.mode) h v))) c.requires.1 (λ id z r. refl) in
     let answer = rw c.in-Is.is at c.read_part_head.ensures in
     let paid = part-paid _ _ _ _ answer in
     let one = read begun (path_cost c.in-Is.h.path) answer (omega (arith, paid.0)) in
@@ -514,7 +514,7 @@ pub walk_part-returns : goal.walk_part-returns
 unfolding part_go
 walk_part-returns t c =
     let begun = let a = c.args in
-    start {keep = some a.room} (λ id u v. step read_part λ h. last (elems_at (words a.s.now) a.tab.now a.room a.mode h.count id (part_step (world_at (words a.s.now) a.tab.now id) (mode_of a.mode) h v))) c.requires.1 (λ id z r. refl) in
+    start {keep = Some a.room} (λ id u v. step read_part λ h. last (elems_at (words a.s.now) a.tab.now a.room a.mode h.count id (part_step (world_at (words a.s.now) a.tab.now id) (mode_of a.mode) h v))) c.requires.1 (λ id z r. refl) in
     let answer = rw c.in-Is.is at c.read_part_head.ensures in
     let paid = part-paid _ _ _ _ answer in
     let one = read begun (path_cost c.in-Is.h.path) answer (omega (arith, paid.0)) in
@@ -561,7 +561,7 @@ pub walk_pattern-returns-in_default : goal.walk_pattern-returns-in_default
 unfolding pattern_go
 walk_pattern-returns-in_default t c =
     let begun = let a = c.args in
-    start {keep = some a.room} (λ id u v. step any_word λ n. last (parts_at (words a.s.now) a.tab.now a.room a.mode n id v)) c.requires.1 (λ id z r. refl) in
+    start {keep = Some a.room} (λ id u v. step any_word λ n. last (parts_at (words a.s.now) a.tab.now a.room a.mode n id v)) c.requires.1 (λ id z r. refl) in
     let o = begun in refused 5 (λ e. omega arith) o (stop o (rw c.in_default.is at c.word_in.ensures))
 
 pub walk_pattern-overflow_add-m : goal.walk_pattern-overflow_add-m
@@ -579,7 +579,7 @@ pub walk_pattern-walk_parts-requires : goal.walk_pattern-walk_parts-requires
 unfolding pattern_go
 walk_pattern-walk_parts-requires t c =
     let begun = let a = c.args in
-    start {keep = some a.room} (λ id u v. step any_word λ n. last (parts_at (words a.s.now) a.tab.now a.room a.mode n id v)) c.requires.1 (λ id z r. refl) in
+    start {keep = Some a.room} (λ id u v. step any_word λ n. last (parts_at (words a.s.now) a.tab.now a.room a.mode n id v)) c.requires.1 (λ id z r. refl) in
     let answer = rw c.in-Is.is at c.word_in.ensures in
     let one = read begun 0 answer (omega arith) in
     (omega (arith, answer.within, (placed c.args.m.now (at_of c.args.m.now + 1) c.requires.1.fit.size).at, c.requires.0), (c.requires.0, ready (omega arith) c.requires.1 one))
@@ -588,7 +588,7 @@ pub walk_pattern-returns : goal.walk_pattern-returns
 unfolding pattern_go
 walk_pattern-returns t c =
     let begun = let a = c.args in
-    start {keep = some a.room} (λ id u v. step any_word λ n. last (parts_at (words a.s.now) a.tab.now a.room a.mode n id v)) c.requires.1 (λ id z r. refl) in
+    start {keep = Some a.room} (λ id u v. step any_word λ n. last (parts_at (words a.s.now) a.tab.now a.room a.mode n id v)) c.requires.1 (λ id z r. refl) in
     let answer = rw c.in-Is.is at c.word_in.ensures in
     let one = read begun 0 answer (omega arith) in
     let ended = tail c.walk_parts.result (omega arith) one c.walk_parts.ensures in
@@ -604,7 +604,7 @@ pub walk_rest-returns-then-a-ne0 : goal.walk_rest-returns-then-a-ne0
 unfolding rest_go
 walk_rest-returns-then-a-ne0 t c =
     let begun = let a = c.args in
-    start {keep = some a.room} (λ id u v. step (inner_at (words a.s.now) a.tab.now a.room a.mode a.f id v) λ x. step (row_go (expr_go (world_at (words a.s.now) a.tab.now id) (tables_in a.tab.now) a.room (mode_of a.mode)) (kids_of a.f) (settings (world_at (words a.s.now) a.tab.now id).is_id a.f (first_of a.mode)) x) λ y. last (marks_at (words a.s.now) a.tab.now a.room a.mode 0 (items_of a.f) id y)) c.requires.1 (λ id z r. refl) in
+    start {keep = Some a.room} (λ id u v. step (inner_at (words a.s.now) a.tab.now a.room a.mode a.f id v) λ x. step (row_go (expr_go (world_at (words a.s.now) a.tab.now id) (tables_in a.tab.now) a.room (mode_of a.mode)) (kids_of a.f) (settings (world_at (words a.s.now) a.tab.now id).is_id a.f (first_of a.mode)) x) λ y. last (marks_at (words a.s.now) a.tab.now a.room a.mode 0 (items_of a.f) id y)) c.requires.1 (λ id z r. refl) in
     let bad = fell c.walk_inner-a.result c.if-a-ne0.true begun c.walk_inner-a.ensures in
     bad
 
@@ -627,7 +627,7 @@ pub walk_rest-walk_many-b-requires : goal.walk_rest-walk_many-b-requires
 unfolding rest_go
 walk_rest-walk_many-b-requires t c =
     let begun = let a = c.args in
-    start {keep = some a.room} (λ id u v. step (inner_at (words a.s.now) a.tab.now a.room a.mode a.f id v) λ x. step (row_go (expr_go (world_at (words a.s.now) a.tab.now id) (tables_in a.tab.now) a.room (mode_of a.mode)) (kids_of a.f) (settings (world_at (words a.s.now) a.tab.now id).is_id a.f (first_of a.mode)) x) λ y. last (marks_at (words a.s.now) a.tab.now a.room a.mode 0 (items_of a.f) id y)) c.requires.1 (λ id z r. refl) in
+    start {keep = Some a.room} (λ id u v. step (inner_at (words a.s.now) a.tab.now a.room a.mode a.f id v) λ x. step (row_go (expr_go (world_at (words a.s.now) a.tab.now id) (tables_in a.tab.now) a.room (mode_of a.mode)) (kids_of a.f) (settings (world_at (words a.s.now) a.tab.now id).is_id a.f (first_of a.mode)) x) λ y. last (marks_at (words a.s.now) a.tab.now a.room a.mode 0 (items_of a.f) id y)) c.requires.1 (λ id z r. refl) in
     let one = go begun c.walk_inner-a.ensures (omega arith) c.if-a-ne0.false in
     let o = one in (omega (arith, o.from, c.requires.0), (omega (arith, c.requires.0), ready (omega arith) c.requires.1 o))
 
@@ -635,7 +635,7 @@ pub walk_rest-returns-then-b-ne0 : goal.walk_rest-returns-then-b-ne0
 unfolding rest_go
 walk_rest-returns-then-b-ne0 t c =
     let begun = let a = c.args in
-    start {keep = some a.room} (λ id u v. step (inner_at (words a.s.now) a.tab.now a.room a.mode a.f id v) λ x. step (row_go (expr_go (world_at (words a.s.now) a.tab.now id) (tables_in a.tab.now) a.room (mode_of a.mode)) (kids_of a.f) (settings (world_at (words a.s.now) a.tab.now id).is_id a.f (first_of a.mode)) x) λ y. last (marks_at (words a.s.now) a.tab.now a.room a.mode 0 (items_of a.f) id y)) c.requires.1 (λ id z r. refl) in
+    start {keep = Some a.room} (λ id u v. step (inner_at (words a.s.now) a.tab.now a.room a.mode a.f id v) λ x. step (row_go (expr_go (world_at (words a.s.now) a.tab.now id) (tables_in a.tab.now) a.room (mode_of a.mode)) (kids_of a.f) (settings (world_at (words a.s.now) a.tab.now id).is_id a.f (first_of a.mode)) x) λ y. last (marks_at (words a.s.now) a.tab.now a.room a.mode 0 (items_of a.f) id y)) c.requires.1 (λ id z r. refl) in
     let one = go begun c.walk_inner-a.ensures (omega arith) c.if-a-ne0.false in
     let kids = let a = c.args in
     in-kids a.mode c.pair_of.result (a.mode / 64 * 64 + c.pair_of.result) c.pair_of.ensures.below refl a.room (kids_of a.f) c.pair_of.ensures.result_value (rw c.kids_of.ensures at c.walk_many-b.ensures) in
@@ -646,7 +646,7 @@ pub walk_rest-walk_marks-requires : goal.walk_rest-walk_marks-requires
 unfolding rest_go
 walk_rest-walk_marks-requires t c =
     let begun = let a = c.args in
-    start {keep = some a.room} (λ id u v. step (inner_at (words a.s.now) a.tab.now a.room a.mode a.f id v) λ x. step (row_go (expr_go (world_at (words a.s.now) a.tab.now id) (tables_in a.tab.now) a.room (mode_of a.mode)) (kids_of a.f) (settings (world_at (words a.s.now) a.tab.now id).is_id a.f (first_of a.mode)) x) λ y. last (marks_at (words a.s.now) a.tab.now a.room a.mode 0 (items_of a.f) id y)) c.requires.1 (λ id z r. refl) in
+    start {keep = Some a.room} (λ id u v. step (inner_at (words a.s.now) a.tab.now a.room a.mode a.f id v) λ x. step (row_go (expr_go (world_at (words a.s.now) a.tab.now id) (tables_in a.tab.now) a.room (mode_of a.mode)) (kids_of a.f) (settings (world_at (words a.s.now) a.tab.now id).is_id a.f (first_of a.mode)) x) λ y. last (marks_at (words a.s.now) a.tab.now a.room a.mode 0 (items_of a.f) id y)) c.requires.1 (λ id z r. refl) in
     let one = go begun c.walk_inner-a.ensures (omega arith) c.if-a-ne0.false in
     let kids = let a = c.args in
     in-kids a.mode c.pair_of.result (a.mode / 64 * 64 + c.pair_of.result) c.pair_of.ensures.below refl a.room (kids_of a.f) c.pair_of.ensures.result_value (rw c.kids_of.ensures at c.walk_many-b.ensures) in
@@ -657,7 +657,7 @@ pub walk_rest-returns : goal.walk_rest-returns
 unfolding rest_go
 walk_rest-returns t c =
     let begun = let a = c.args in
-    start {keep = some a.room} (λ id u v. step (inner_at (words a.s.now) a.tab.now a.room a.mode a.f id v) λ x. step (row_go (expr_go (world_at (words a.s.now) a.tab.now id) (tables_in a.tab.now) a.room (mode_of a.mode)) (kids_of a.f) (settings (world_at (words a.s.now) a.tab.now id).is_id a.f (first_of a.mode)) x) λ y. last (marks_at (words a.s.now) a.tab.now a.room a.mode 0 (items_of a.f) id y)) c.requires.1 (λ id z r. refl) in
+    start {keep = Some a.room} (λ id u v. step (inner_at (words a.s.now) a.tab.now a.room a.mode a.f id v) λ x. step (row_go (expr_go (world_at (words a.s.now) a.tab.now id) (tables_in a.tab.now) a.room (mode_of a.mode)) (kids_of a.f) (settings (world_at (words a.s.now) a.tab.now id).is_id a.f (first_of a.mode)) x) λ y. last (marks_at (words a.s.now) a.tab.now a.room a.mode 0 (items_of a.f) id y)) c.requires.1 (λ id z r. refl) in
     let one = go begun c.walk_inner-a.ensures (omega arith) c.if-a-ne0.false in
     let kids = let a = c.args in
     in-kids a.mode c.pair_of.result (a.mode / 64 * 64 + c.pair_of.result) c.pair_of.ensures.below refl a.room (kids_of a.f) c.pair_of.ensures.result_value (rw c.kids_of.ensures at c.walk_many-b.ensures) in

@@ -1,6 +1,6 @@
+use Rattle.std.specs.Prelude.{Some}
 use Prim.Native.Nat.{◌*◌, ◌+◌, ◌-◌}
 use Rattle.words.specs.Words.{words}
-use mathlib.Core.Option.{some}
 use Rattle.steps.specs.Memory.{at_of}
 use Rattle.walk.proofs.Stage.{Turning}
 use Rattle.walk.specs.Goes.{elem_at, mark_at, part_at}
@@ -48,7 +48,7 @@ abbrev pub decreases-walk_row : goal.decreases-walk_row
 decreases-walk_row l = 8 * (length (words l.s.now) - at_of l.m.now) + 1
 
 abbrev pub invariant-walk_elems-loop-left : goal.invariant-walk_elems-loop-left
-invariant-walk_elems-loop-left l = Turning (some l.room) (words l.s) l.tab l.initial.m l.initial.vis l.initial.found l.n (elem_at (words l.s) l.tab l.room l.mode) l.m l.vis l.found l.left
+invariant-walk_elems-loop-left l = Turning (Some l.room) (words l.s) l.tab l.initial.m l.initial.vis l.initial.found l.n (elem_at (words l.s) l.tab l.room l.mode) l.m l.vis l.found l.left
 
 abbrev pub decreases-walk_elems-loop-left : goal.decreases-walk_elems-loop-left
 decreases-walk_elems-loop-left l = l.left
@@ -60,13 +60,13 @@ abbrev pub decreases-walk_many-loop-left : goal.decreases-walk_many-loop-left
 decreases-walk_many-loop-left l = l.left
 
 abbrev pub invariant-walk_marks-loop-left : goal.invariant-walk_marks-loop-left
-invariant-walk_marks-loop-left l = Turning (some l.room) (words l.s) l.tab l.initial.m l.initial.vis l.initial.found l.n (mark_at (words l.s) l.tab l.room l.mode l.kind) l.m l.vis l.found l.left
+invariant-walk_marks-loop-left l = Turning (Some l.room) (words l.s) l.tab l.initial.m l.initial.vis l.initial.found l.n (mark_at (words l.s) l.tab l.room l.mode l.kind) l.m l.vis l.found l.left
 
 abbrev pub decreases-walk_marks-loop-left : goal.decreases-walk_marks-loop-left
 decreases-walk_marks-loop-left l = l.left
 
 abbrev pub invariant-walk_parts-loop-left : goal.invariant-walk_parts-loop-left
-invariant-walk_parts-loop-left l = Turning (some l.room) (words l.s) l.tab l.initial.m l.initial.vis l.initial.found l.n (part_at (words l.s) l.tab l.room l.mode) l.m l.vis l.found l.left
+invariant-walk_parts-loop-left l = Turning (Some l.room) (words l.s) l.tab l.initial.m l.initial.vis l.initial.found l.n (part_at (words l.s) l.tab l.room l.mode) l.m l.vis l.found l.left
 
 abbrev pub decreases-walk_parts-loop-left : goal.decreases-walk_parts-loop-left
 decreases-walk_parts-loop-left l = l.left

@@ -1,6 +1,6 @@
 -- The loop's invariant: what the scope `from` answers is what the present scope answers, which lies not above it.
+use Rattle.std.specs.Prelude.{None}
 use Rattle.std.proofs.Common.{◌≡◌, ℕ, Bool, false, true, refl, ◌∙◌, sym, ap, arith}
-use Rattle.std.proofs.Math.Option.{none}
 use Rattle.std.proofs.lemmas.Bool.Decides.{nat_tests}
 use Rattle.scope.specs.Flat.{parent_of}
 use Rattle.scope.specs.Lookup.{Looked, nothing, answer_at}
@@ -23,7 +23,7 @@ returns-in-Some c =
     sym (c.loop-variable.invariant.1 ∙ answers c.args.self.now _ _ (omega arith) c.in-Some.ensures refl refl)
 
 -- a scope that binds nothing and has no parent
-no_parent : (s : ℕ) (goes_on : Bool) (above : ℕ → Looked) → answer_at s none goes_on none above ≡ nothing
+no_parent : (s : ℕ) (goes_on : Bool) (above : ℕ → Looked) → answer_at s None goes_on None above ≡ nothing
 unfolding answer_at
 no_parent s true above = refl
 no_parent s false above = refl
