@@ -229,29 +229,29 @@ record Carries (n : ℕ) (ps : List Pair) (s t : State) : Type 0 where
   pub last : t.last ≡ s.last
   pub cur : t.cur ≡ s.cur
   pub stays : written t.log ≡ written s.log
-  pub None : binds_in t.log ≡ binds_in s.log
+  pub none : binds_in t.log ≡ binds_in s.log
   pub adds : carries_in t.log ≡ reverse_aux (carried_at n ps) (carries_in s.log)
 
 record Binds (kind : ℕ → ℕ) (n : ℕ) (ps : List Pair) (s t : State) : Type 0 where
   pub last : t.last ≡ s.last
   pub stays : written t.log ≡ written s.log
-  pub None : carries_in t.log ≡ carries_in s.log
+  pub none : carries_in t.log ≡ carries_in s.log
   pub adds : binds_in t.log ≡ reverse_aux (bound_at kind n ps) (binds_in s.log)
 
 module _ (w : World) where
   carry-all : (ps : List Pair) (s : State) → Carries s.cur ps s (carry_all w ps s)
   unfolding carry_all carried_at written logs
-  carry-all [] s = record { last = refl; cur = refl; stays = refl; None = refl; adds = refl }
+  carry-all [] s = record { last = refl; cur = refl; stays = refl; none = refl; adds = refl }
   carry-all (pair x v ∷ ps) s =
       let h = carry-all ps (say (carry (carried s.cur x v)) s) in
-      record { last = h.last; cur = h.cur; stays = h.stays; None = h.none; adds = h.adds }
+      record { last = h.last; cur = h.cur; stays = h.stays; none = h.none; adds = h.adds }
 
   bind_all_lem : (ps : List Pair) (s : State) → Binds (kind_of w) s.cur ps s (bind_all w ps s)
   unfolding bind_all bound_at written logs
-  bind_all_lem [] s = record { last = refl; stays = refl; None = refl; adds = refl }
+  bind_all_lem [] s = record { last = refl; stays = refl; none = refl; adds = refl }
   bind_all_lem (pair x v ∷ ps) s =
       let h = bind_all_lem ps (bind_over true x v (kind_of w v) s) in
-      record { last = h.last; stays = h.stays; None = h.none; adds = h.adds }
+      record { last = h.last; stays = h.stays; none = h.none; adds = h.adds }
 
   -- a barrier with its Root
   pub root-V : (a b : ℕ) (ps : List Pair) {s : State} → Weaves (kind_of w) s → Weaves (kind_of w) (fresh w b ps (barrier w a b ps s))
