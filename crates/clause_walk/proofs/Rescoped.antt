@@ -1,6 +1,7 @@
 -- What clauses do to scopes, where names are resolved: a yield is bound as in any such mode (`yields-same`, `yield-as`, `yield-below`,
 -- `alias-none`, `alias-some`), an Unwind's variable (`unwind-as`, `unwound`, `noted-ready`, `unresolved-expr`), and a Call's scope is opened
 -- (`call-as`).
+use Rattle.std.specs.Prelude.{Option, Some, None}
 use Prim.Native.Nat.{ℕ, zero, suc, ◌+◌, ◌-◌, ◌*◌, ◌/◌, ◌<◌, ◌≤◌}
 use native.Mathlib.Omega.{arith}
 use native.Mathlib.Numerals.{add-one}
@@ -21,7 +22,6 @@ use Rattle.steps.specs.Memory.{names_in, slots_in, tables_in, world_at, mode_of}
 use Rattle.steps.specs.Hold.{Costs, Steps, Ready, on_names, shown_to, name_in}
 use Rattle.steps.proofs.Held.{lower, as-steps, more-costs, then-steps}
 use Rattle.steps.proofs.Shown.{name-as}
-use Rattle.steps.specs.declared.row.Row.{Row as Row'}
 use Rattle.scope.specs.Graph.{unwind_scope, call_scope}
 use Rattle.walk.specs.Goes.{Walked, expr_at}
 use Rattle.walk.proofs.Modes.{in-set, unresolved}
@@ -72,7 +72,7 @@ unresolved-expr {ws} {tab} {m} {vis} {found} {m'} {vis'} {found'} {held} {a} mod
 pub noted-ready : {ws tab m vis found m1 vis1 found1 : List ℕ} {F : (ℕ → ℕ) → Both → Both} {j e i : ℕ} → e + i ≤ j → Ready j ws tab m vis found → Costs e e ws tab m vis found m1 vis1 found1 F → Ready i ws tab m1 vis1 found1
 noted-ready {i = i} l h x = record { fine = h.fine; fit = x.fit i i (lower (omega arith) (omega arith) h.fit) }
 
-pub unwound : {ws tab m vis found m1 found1 m2 m3 vis3 found3 : List ℕ} {a b v x : ℕ} {r : Row'} → shown_to (slots_in tab) ((world_at ws tab (λ x. x)).row v) r → x ≡ name_in r → Steps 1 ws tab m vis found m1 vis found1 (λ id. on_names (enter unwind_scope a b)) → Steps 0 ws tab m1 vis found1 m2 vis found1 (λ id. noting (world_at ws tab id) (v ∷ [])) →
+pub unwound : {ws tab m vis found m1 found1 m2 m3 vis3 found3 : List ℕ} {a b v x : ℕ} {r : Option (ℕ × ℕ)} → shown_to (slots_in tab) ((world_at ws tab (λ x. x)).row v) r → x ≡ name_in r → Steps 1 ws tab m vis found m1 vis found1 (λ id. on_names (enter unwind_scope a b)) → Steps 0 ws tab m1 vis found1 m2 vis found1 (λ id. noting (world_at ws tab id) (v ∷ [])) →
     Costs 1 3 ws tab m2 vis found1 m3 vis3 found3 (λ id. on_names (bind_name x v value_kind)) → Steps 4 ws tab m vis found m3 vis3 found3 (unwound_at ws tab a b v)
 unfolding name_of
 unwound {ws} {tab} {v = v} {x} shows q y n b =

@@ -23,11 +23,8 @@ use Rattle.semantics.specs.Resolve.{State, Seen, Pair, pair, lookup, if_row, if_
 use Rattle.fused.specs.Fused.{Both, name_use}
 use Rattle.fused.specs.Clauses.{takes}
 use Rattle.visible.specs.Visible.{answer, seens}
-use Rattle.visible.specs.declared.Found.{Found}
-use Rattle.visible.specs.declared.Found.TheVariants as found'
 use Rattle.steps.specs.Memory.{at_of, top_of, cur_of, last_of, said_of, told_of, lost_of, held_of, made_of, taken_of, slots_in, star_in, use_in, hushed_in, event_of, world_at}
 use Rattle.steps.specs.Hold.{Fits, Holds, Steps, Says, shown, on_names, name_record}
-use Rattle.steps.specs.declared.row.Row.TheVariants as row'
 use Rattle.steps.proofs.Held.{Numbers, unset, store, recounted, no-count, lower, refit, instead, as-steps, says-step, wanted}
 use Rattle.steps.proofs.Heads.{quiet-use, rowless-use}
 use Rattle.projection_walk.specs.Carries.{pairs_in, star_of, kept_of, taken_by, InNames, Kept, Adds, under, NoStar, Named, KeptOther}
@@ -203,19 +200,19 @@ module _ (w : World) (vis : List Seen) (v : ℕ) where
       let z : suc a - 1 ≡ a = omega arith in
       rw z (record { all = refl; pairs = refl })
 
-  pub var-named : (alias : ℕ) {x k : ℕ} → alias ≡ 0 → row'.Is x k ≡ shown (w.row v) → Gives w alias (a_var v) vis false (pair x v ∷ [])
+  pub var-named : (alias : ℕ) {x k : ℕ} → alias ≡ 0 → Some (x, k) ≡ shown (w.row v) → Gives w alias (a_var v) vis false (pair x v ∷ [])
   unfolding carries is_all if_row
   var-named alias {x} e q = rw e (record { all = refl; pairs = go (w.row v) q })
     where
-      go : (o : Option Row) {k : ℕ} → row'.Is x k ≡ shown o → if_row o v ≡ pair x v ∷ []
+      go : (o : Option Row) {k : ℕ} → Some (x, k) ≡ shown o → if_row o v ≡ pair x v ∷ []
       go None q = cc
       go (Some (row i y l a b)) q = let z : x ≡ y = cc in rw z
 
-  pub var-none : (alias : ℕ) → alias ≡ 0 → row'.No ≡ shown (w.row v) → Gives w alias (a_var v) vis false []
+  pub var-none : (alias : ℕ) → alias ≡ 0 → None ≡ shown (w.row v) → Gives w alias (a_var v) vis false []
   unfolding carries is_all if_row
   var-none alias e q = rw e (record { all = refl; pairs = go (w.row v) q })
     where
-      go : (o : Option Row) → row'.No ≡ shown o → if_row o v ≡ []
+      go : (o : Option Row) → None ≡ shown o → if_row o v ≡ []
       go None q = refl
       go (Some (row i y l a b)) q = cc
 
@@ -234,11 +231,11 @@ unfolding visit
 visit-visible w true x o s = refl
 visit-visible w false x o s = use-visible w x o s
 
-pub looked : {r : Found} {v c : ℕ} (o : Option ℕ) (p : ℕ) → r ≡ answer o p → r ≡ found'.Is v c → o ≡ Some v
+pub looked : {r : Option (ℕ × ℕ)} {v c : ℕ} (o : Option ℕ) (p : ℕ) → r ≡ answer o p → r ≡ Some (v, c) → o ≡ Some v
 looked None p e q = cc
 looked (Some u) p e q = cc
 
-pub unlooked : {r : Found} (o : Option ℕ) (p : ℕ) → r ≡ answer o p → r ≡ found'.No → o ≡ None
+pub unlooked : {r : Option (ℕ × ℕ)} (o : Option ℕ) (p : ℕ) → r ≡ answer o p → r ≡ None → o ≡ None
 unlooked None p e q = refl
 unlooked (Some u) p e q = cc
 
@@ -295,16 +292,16 @@ kept-alias (suc a) h p =
 
 -- ---- the use of a Var in the general setting
 module _ {ws tab m vis found : List ℕ} (v : ℕ) where
-  pub plain-said : {m' found' : List ℕ} {x k : ℕ} → length m ≡ 64 → get_or tab 9 0 ≡ 1 → row'.Is x k ≡ shown ((world_at ws tab (λ x. x)).row v) → Says 4 v k 0 0 0 m found m' found' →
+  pub plain-said : {m' found' : List ℕ} {x k : ℕ} → length m ≡ 64 → get_or tab 9 0 ≡ 1 → Some (x, k) ≡ shown ((world_at ws tab (λ x. x)).row v) → Says 4 v k 0 0 0 m found m' found' →
       Steps 1 ws tab m vis found m' vis found' (λ id. on_names (use_var (world_at ws tab id) v ((world_at ws tab id).row v)))
   unfolding use_var
   plain-said {x = x} {k} size e q p = as-steps _ (says-step size p (λ id l. wanted _ (eq-eqb (get_or tab 9 0) 1 e) (λ r. refl) l) (λ id. no-count (λ n. refl) (λ n. refl))) (λ id s. go id s ((world_at ws tab (λ x. x)).row v) q)
     where
-      go : (id : ℕ → ℕ) (s : Both) (o : Option Row) → row'.Is x k ≡ shown o → on_names (say (event_of id 4 v k 0 0 0)) s ≡ on_names (use_var (world_at ws tab id) v o) s
+      go : (id : ℕ → ℕ) (s : Both) (o : Option Row) → Some (x, k) ≡ shown o → on_names (say (event_of id 4 v k 0 0 0)) s ≡ on_names (use_var (world_at ws tab id) v o) s
       go id s None q = cc
       go id s (Some (row i y l a b)) q = let z : k ≡ l = cc in rw z
 
-  pub plain-none : {j : ℕ} → row'.No ≡ shown ((world_at ws tab (λ x. x)).row v) → Steps j ws tab m vis found m vis found (λ id. on_names (use_var (world_at ws tab id) v ((world_at ws tab id).row v)))
+  pub plain-none : {j : ℕ} → None ≡ shown ((world_at ws tab (λ x. x)).row v) → Steps j ws tab m vis found m vis found (λ id. on_names (use_var (world_at ws tab id) v ((world_at ws tab id).row v)))
   plain-none q = rowless-use 64 v ((world_at ws tab (λ x. x)).row v) (sym q)
 
   pub plain_quiet : {j : ℕ} → (get_or tab 9 0 ≡ 1 → ⊥) → Steps j ws tab m vis found m vis found (λ id. on_names (use_var (world_at ws tab id) v ((world_at ws tab id).row v)))

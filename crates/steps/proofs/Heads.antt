@@ -7,6 +7,7 @@
 -- A use of a variable: `var-said`, `var-unresolved`, `quiet-use`, `rowless-use`, `checked-use`, `unchecked-use`. Of a name: `unwanted-name`,
 -- `missing-name`, `found_name`; a marked name, `hushed-use`; then E1001, `missed-use`, `star-use`, `seen-use`. A head by its act: `named-act`,
 -- `ready-act`, `by-act`; after its parts, `closed-fits`, `closed-frame`, `closed-stays`, `closed-holds`.
+use Rattle.visible.proofs.Pairs.{same_pair}
 use Rattle.std.specs.Prelude.{Option, None, Some}
 use Prim.Native.Nat.{ℕ, zero, suc, ◌+◌, ◌-◌, ◌%◌, ◌/◌, ◌<◌, ◌≤◌}
 use native.Mathlib.Numerals.{add-one}
@@ -27,11 +28,9 @@ use Rattle.semantics.specs.Resolve.{State, lookup, say, say_if, leave, use_var, 
 use Rattle.semantics.specs.Kinds.{Setting, general, arithmetic, property, boolean, listed, both, passes, at_type, at_row}
 use Rattle.fused.specs.Fused.{Both, Mode, when, told, step, same, left, tail_of, name_use, head_of}
 use Rattle.visible.specs.Visible.{answer, seens, Tabled}
-use Rattle.visible.specs.declared.Found.TheVariants as found'
 use Rattle.visible.proofs.Names.{zero-unseen, unseen-zero}
 use Rattle.steps.specs.Memory.{at_of, top_of, cur_of, slots_in, star_in, wants_in, hushed_in, kept, world_at, setting_of, first_of, mode_of, quiet}
 use Rattle.steps.specs.Hold.{Fits, Holds, Frame, Steps, Ready, Says, SaysIf, Tells, shown, AtRow, act_of, acts, opens_in, ClosedIf, Closed, cost_in, cost_of, NamedIn, Named, on_names, on_kinds, var_record, name_record, pair_of}
-use Rattle.steps.specs.declared.row.Row.TheVariants as row'
 use Rattle.steps.specs.declared.head.Act.{Act}
 use Rattle.steps.proofs.Held.{idle-step, then-steps, more-costs, more-steps, instead, as-steps, wanted, unwanted, no-count, says-step, says_if, tells-step}
 use Rattle.theorems.specs.Needs.{made, carried_in}
@@ -272,11 +271,11 @@ module _ {ws tab m vis found : List ℕ} (mode v : ℕ) (o : Option Row) where
       let q = quiet-parts (wants_in tab && eqb (mode / 64 % 2) 1) (eqb (mode / 128 % 2) 1) (eqb (mode % 8) 0 || eqb (mode % 8) 3) e in
       idle-step _ (λ id s h. still-holds h (use-unmoved (world_at ws tab id) v (wants_in tab) (eqb (mode / 64 % 2) 1) o s.names q.0) (use-untold (eqb (mode / 128 % 2) 1) (mode % 8) o s.kinds q.1))
 
-  pub rowless-use : {j : ℕ} → shown o ≡ row'.No → Steps j ws tab m vis found m vis found (UsesAs ws tab mode v o)
+  pub rowless-use : {j : ℕ} → shown o ≡ None → Steps j ws tab m vis found m vis found (UsesAs ws tab mode v o)
   unfolding use_var at_row told
   rowless-use e = rw (rowless o e) (idle-as _ (λ id s. go (world_at ws tab id) s (eqb (mode / 64 % 2) 1) (eqb (mode / 128 % 2) 1)))
     where
-      rowless : (o : Option Row) → shown o ≡ row'.No → o ≡ None
+      rowless : (o : Option Row) → shown o ≡ None → o ≡ None
       rowless None e = refl
       rowless (Some (row i x k a b)) e = cc e
 
@@ -287,26 +286,26 @@ module _ {ws tab m vis found : List ℕ} (mode v : ℕ) (o : Option Row) where
       go w s false false = refl
 
 module _ {ws tab m vis found m1 found1 : List ℕ} (mode v x k : ℕ) (o : Option Row) where
-  pub checked-use : {m2 found2 : List ℕ} → shown o ≡ row'.Is x k → mode / 128 % 2 ≡ 1 → Steps 1 ws tab m vis found m1 vis found1 (λ id. on_names (var_record (mode_of mode) v k)) → AtRow ws tab m1 vis found1 m2 found2 (mode % 8) x k →
+  pub checked-use : {m2 found2 : List ℕ} → shown o ≡ Some (x, k) → mode / 128 % 2 ≡ 1 → Steps 1 ws tab m vis found m1 vis found1 (λ id. on_names (var_record (mode_of mode) v k)) → AtRow ws tab m1 vis found1 m2 found2 (mode % 8) x k →
       Steps 2 ws tab m vis found m2 vis found2 (UsesAs ws tab mode v o)
   unfolding use_var
   checked-use {m2} {found2} e c s t = go o e
     where
-      go : (o : Option Row) → shown o ≡ row'.Is x k → Steps 2 ws tab m vis found m2 vis found2 (UsesAs ws tab mode v o)
+      go : (o : Option Row) → shown o ≡ Some (x, k) → Steps 2 ws tab m vis found m2 vis found2 (UsesAs ws tab mode v o)
       go None e = let z : ◌≡◌ {A = ℕ} 0 1 = cc e in absurd (omega arith)
       go (Some (row i y l a b)) e =
-          let p : y ≡ x = cc e in
-          let q : l ≡ k = cc e in
+          let p : y ≡ x = (same_pair e).0 in
+          let q : l ≡ k = (same_pair e).1 in
           rw (p, q) (as-steps (UsesAs ws tab mode v (Some (row i x k a b))) (then-steps s (t i a b)) (λ id s. rw (eq-eqb (mode / 128 % 2) 1 c)))
 
-  pub unchecked-use : shown o ≡ row'.Is x k → (mode / 128 % 2 ≡ 1 → ⊥) → Steps 1 ws tab m vis found m1 vis found1 (λ id. on_names (var_record (mode_of mode) v k)) → Steps 2 ws tab m vis found m1 vis found1 (UsesAs ws tab mode v o)
+  pub unchecked-use : shown o ≡ Some (x, k) → (mode / 128 % 2 ≡ 1 → ⊥) → Steps 1 ws tab m vis found m1 vis found1 (λ id. on_names (var_record (mode_of mode) v k)) → Steps 2 ws tab m vis found m1 vis found1 (UsesAs ws tab mode v o)
   unfolding use_var
   unchecked-use e c s = go o e
     where
-      go : (o : Option Row) → shown o ≡ row'.Is x k → Steps 2 ws tab m vis found m1 vis found1 (UsesAs ws tab mode v o)
+      go : (o : Option Row) → shown o ≡ Some (x, k) → Steps 2 ws tab m vis found m1 vis found1 (UsesAs ws tab mode v o)
       go None e = let z : ◌≡◌ {A = ℕ} 0 1 = cc e in absurd (omega arith)
       go (Some (row i y l a b)) e =
-          let q : l ≡ k = cc e in
+          let q : l ≡ k = (same_pair e).1 in
           rw q (as-steps (UsesAs ws tab mode v (Some (row i y k a b))) (more-steps (omega arith) s) (λ id s. rw (ne_eqb (mode / 128 % 2) 1 c)))
 
 -- ---- a use of a name
@@ -325,25 +324,25 @@ module _ {ws tab m vis found : List ℕ} (x : ℕ) where
 
   -- by what `find` tells
   module _ {m1 found1 : List ℕ} (p : ℕ) (size : length m ≡ 64) (e : get_or tab 9 0 ≡ 1) where
-    pub missing-name : answer (lookup x (seens (slots_in tab) (top_of m) vis)) p ≡ found'.No → Says 5 x 0 0 0 0 m found m1 found1 → Steps 1 ws tab m vis found m1 vis found1 (RecordsAs ws tab x)
+    pub missing-name : answer (lookup x (seens (slots_in tab) (top_of m) vis)) p ≡ None → Says 5 x 0 0 0 0 m found m1 found1 → Steps 1 ws tab m vis found m1 vis found1 (RecordsAs ws tab x)
     missing-name q s =
         instead _ (says-step size s (λ id l. wanted _ (eq-eqb (get_or tab 9 0) 1 e) (λ r. refl) l) (λ id. no-count (λ n. refl) (λ n. refl)))
         (λ id t h. let z : lookup x t.names.visible ≡ None = ap (λ l. lookup x l) (sym h.visible) ∙ go (lookup x (seens (slots_in tab) (top_of m) vis)) q in rw z)
       where
-        go : (o : Option ℕ) → answer o p ≡ found'.No → o ≡ None
+        go : (o : Option ℕ) → answer o p ≡ None → o ≡ None
         go None e = refl
         go (Some v) e = cc e
 
-    pub found_name : (v k c : ℕ) → answer (lookup x (seens (slots_in tab) (top_of m) vis)) p ≡ found'.Is v c → k ≡ row_kind ((world_at ws tab (λ y. y)).row v) → Says 5 x 1 v k 0 m found m1 found1 →
+    pub found_name : (v k c : ℕ) → answer (lookup x (seens (slots_in tab) (top_of m) vis)) p ≡ Some (v, c) → k ≡ row_kind ((world_at ws tab (λ y. y)).row v) → Says 5 x 1 v k 0 m found m1 found1 →
         Steps 1 ws tab m vis found m1 vis found1 (RecordsAs ws tab x)
     unfolding kind_of
     found_name v k c q r s =
         instead _ (says-step size s (λ id l. wanted _ (eq-eqb (get_or tab 9 0) 1 e) (λ r. refl) l) (λ id. no-count (λ n. refl) (λ n. refl)))
         (λ id t h. let z : lookup x t.names.visible ≡ Some v = ap (λ l. lookup x l) (sym h.visible) ∙ go (lookup x (seens (slots_in tab) (top_of m) vis)) q in rw (z, r))
       where
-        go : (o : Option ℕ) → answer o p ≡ found'.Is v c → o ≡ Some v
+        go : (o : Option ℕ) → answer o p ≡ Some (v, c) → o ≡ Some v
         go None e = cc e
-        go (Some u) e = cc e
+        go (Some u) e = ap (λ (w : ℕ). Some w) (same_pair e).0
 
 -- a name is hushed as its mark says, and then nothing is said
 hush : (tab : List ℕ) {x : ℕ} {b : Bool} → x < slots_in tab → eqb (get_or tab (16 + x) 0) 1 ≡ b → hushed_in tab x ≡ b

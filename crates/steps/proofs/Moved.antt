@@ -21,7 +21,6 @@ use Rattle.visible.specs.Visible.{seens, Descends, Tabled, Bound}
 use Rattle.visible.proofs.Names.{unseen-zero, descends-above}
 use Rattle.steps.specs.Memory.{at_of, top_of, cur_of, last_of, said_of, told_of, lost_of, held_of, made_of, slots_in, wants_in, world_at, events, findings, kept}
 use Rattle.steps.specs.Hold.{Fits, Holds, Frame, Costs, Binds, Binding, Ready, Roomy, SaysIf, SaysBound, Left, on_names, shown}
-use Rattle.steps.specs.declared.row.Row.TheVariants as row'
 use Rattle.steps.proofs.Held.{Numbers, unset, store, refit, reframe, idle-step, then-steps, more-costs, instead, no-count, recounted, roomy, wanted, unwanted, says_if, said-numbers}
 use Rattle.steps.proofs.Shown.{is-some, is-none}
 
@@ -248,12 +247,12 @@ known-falls true (Some r) q = sym q
 known-falls false o q = refl
 
 module _ {ws tab m vis found : List ℕ} (v : ℕ) where
-  pub noted-idle : {x k : ℕ} → row'.Is x k ≡ shown ((world_at ws tab (λ x. x)).row v) → Costs 0 0 ws tab m vis found m vis found (λ id. noting (world_at ws tab id) (v ∷ []))
+  pub noted-idle : {x k : ℕ} → Some (x, k) ≡ shown ((world_at ws tab (λ x. x)).row v) → Costs 0 0 ws tab m vis found m vis found (λ id. noting (world_at ws tab id) (v ∷ []))
   unfolding all_known
   noted-idle q =
       idle-step _ (λ id s h. record { visible = h.visible; cur = h.cur; last = h.last; log = h.log; kinds = h.kinds; known = h.known ∙ known-stays s.known ((world_at ws tab (λ x. x)).row v) (is-some ((world_at ws tab (λ x. x)).row v) q); counts = h.counts; uses = h.uses })
 
-  pub noted-lost : length m ≡ 64 → row'.No ≡ shown ((world_at ws tab (λ x. x)).row v) → Costs 0 0 ws tab m vis found (set m 6 1) vis found (λ id. noting (world_at ws tab id) (v ∷ []))
+  pub noted-lost : length m ≡ 64 → None ≡ shown ((world_at ws tab (λ x. x)).row v) → Costs 0 0 ws tab m vis found (set m 6 1) vis found (λ id. noting (world_at ws tab id) (v ∷ []))
   unfolding all_known
   noted-lost size z =
       let q = store 6 1 (omega arith) size (unset {m = m}) in

@@ -16,7 +16,6 @@ use Rattle.semantics.specs.Kinds.{misplaced, row_for}
 use Rattle.fused.specs.Fused.{Both, when, told, step, noting}
 use Rattle.steps.specs.Memory.{slots_in, warns_in, wants_in, world_at, mode_of}
 use Rattle.steps.specs.Hold.{Costs, Steps, Binds, Says, TellsIf, on_names, path_step, shown_to, name_in, kind_in, misplaced_in}
-use Rattle.steps.specs.declared.row.Row.{Row as Row'}
 use Rattle.steps.proofs.Held.{idle-step, then-steps, instead, as-steps, says-costs, no-count, always, tells-if}
 use Rattle.steps.proofs.Shown.{name-as, misplaced-as}
 
@@ -42,10 +41,10 @@ module _ {ws tab m vis found m1 vis1 found1 : List ℕ} {x v k : ℕ} {t : Bool}
 both-same : {n n' : State} {k k' : List Finding} (b : Bool) → n ≡ n' → k ≡ k' → ◌≡◌ {A = Both} (record { names = n; kinds = k; known = b }) (record { names = n'; kinds = k'; known = b })
 both-same b p q = rw (p, q)
 
-is_name : {slots x : ℕ} {o : Option Row} {r : Row'} → shown_to slots o r → x ≡ name_in r → x ≡ row_name o
+is_name : {slots x : ℕ} {o : Option Row} {r : Option (ℕ × ℕ)} → shown_to slots o r → x ≡ name_in r → x ≡ row_name o
 is_name {o = o} h q = q ∙ rw h.same (name-as o)
 
-module _ {ws tab m vis found m1 m2 vis2 found2 m3 found3 : List ℕ} {r : Row'} {x : ℕ} (v mode : ℕ) (size : length m ≡ 64) (shows : shown_to (slots_in tab) ((world_at ws tab (λ x. x)).row v) r) (named : x ≡ name_in r)
+module _ {ws tab m vis found m1 m2 vis2 found2 m3 found3 : List ℕ} {r : Option (ℕ × ℕ)} {x : ℕ} (v mode : ℕ) (size : length m ≡ 64) (shows : shown_to (slots_in tab) ((world_at ws tab (λ x. x)).row v) r) (named : x ≡ name_in r)
     (y : Costs 0 0 ws tab m vis found m1 vis found (λ id. noting (world_at ws tab id) (v ∷ []))) where
   pub path-steps : Costs 2 3 ws tab m1 vis found m2 vis2 found2 (λ id. on_names (when (mode_of mode).resolves (bind_anew (world_at ws tab id) 0 0 x v 3))) →
       TellsIf (misplaced_in (mode_of mode).checks 3 r) 2008 0 0 (suc (name_in r)) 1 (kind_in r) m2 found2 m3 found3 → Steps 3 ws tab m vis found m3 vis2 found3 (λ id. path_step (world_at ws tab id) (mode_of mode) (Some v))

@@ -1,5 +1,6 @@
 -- Laws of a row as the code tells it: it is the table's (`all-chains`, `row_near`, `row-shown`, `row-range`), and what it says of the row (`kind-is`, `kind-none`,
 -- `is-some`, `is-none`, `name-as`, `name_below`, `slots_small`); E2008 by it is the definition's (`misplaced-as`).
+use Rattle.visible.proofs.Pairs.{same_pair}
 use Rattle.std.specs.Prelude.{Option, None, Some}
 use Prim.Native.Nat.{ℕ, zero, suc, ◌+◌, ◌-◌, ◌*◌, ◌<◌, ◌≤◌}
 use native.Mathlib.Omega.{arith}
@@ -18,8 +19,6 @@ use Rattle.rows.specs.Rows.{id_at, seek, row_told}
 use Rattle.rows.proofs.Chains.{seek-le}
 use Rattle.steps.specs.Memory.{slots_in, rows_in, bindings_in}
 use Rattle.steps.specs.Hold.{Fine, Ready, shown, InRange, shown_to, name_in, kind_in, misplaced_in}
-use Rattle.steps.specs.declared.row.Row.{Row as Row'}
-use Rattle.steps.specs.declared.row.Row.TheVariants as row'
 
 -- the part that is lent is all of the chains
 pub all-chains : (n : ℕ) (l : List ℕ) → take (length l - n) (drop n l) ≡ drop n l
@@ -30,34 +29,34 @@ pub row_near : {ws tab : List ℕ} {i : ℕ} (v : ℕ) → Fine ws tab → i ≡
 row_near {ws} {tab} v h q =
     (omega (arith, seek-le (id_at ws (rows_in tab)) v (bindings_in tab)), omega (arith, h.rows, seek-le (id_at ws (rows_in tab)) v (bindings_in tab)))
 
-pub row-shown : (ws : List ℕ) (rows i : ℕ) → (i ≡ 0 → ⊥) → row'.Is (get_or ws (rows + (i - 1) * 5 + 1) 0) (get_or ws (rows + (i - 1) * 5 + 2) 0) ≡ shown (row_told ws rows i)
+pub row-shown : (ws : List ℕ) (rows i : ℕ) → (i ≡ 0 → ⊥) → Some (get_or ws (rows + (i - 1) * 5 + 1) 0, get_or ws (rows + (i - 1) * 5 + 2) 0) ≡ shown (row_told ws rows i)
 row-shown ws rows zero h = absurd (h refl)
 row-shown ws rows (suc j) h =
     let z : suc j - 1 ≡ j = omega arith in
     rw z
 
-pub row-range : {ws tab : List ℕ} (i : ℕ) → Fine ws tab → (i ≡ 0 → ⊥) → i ≤ bindings_in tab → InRange (slots_in tab) (row'.Is (get_or ws (rows_in tab + (i - 1) * 5 + 1) 0) (get_or ws (rows_in tab + (i - 1) * 5 + 2) 0))
+pub row-range : {ws tab : List ℕ} (i : ℕ) → Fine ws tab → (i ≡ 0 → ⊥) → i ≤ bindings_in tab → InRange (slots_in tab) (Some (get_or ws (rows_in tab + (i - 1) * 5 + 1) 0, get_or ws (rows_in tab + (i - 1) * 5 + 2) 0))
 row-range zero h n l = absurd (n refl)
 row-range {ws} {tab} (suc j) h n l =
     let z : suc j - 1 ≡ j = omega arith in
     rw z (h.named j (omega arith), h.kinded j (omega arith))
 
 -- what it says of the row
-pub kind-is : {x k : ℕ} (o : Option Row) → row'.Is x k ≡ shown o → k ≡ row_kind o
+pub kind-is : {x k : ℕ} (o : Option Row) → Some (x, k) ≡ shown o → k ≡ row_kind o
 unfolding row_kind
 kind-is None q = cc
-kind-is (Some (row i y l a b)) q = cc
+kind-is (Some (row i y l a b)) q = (same_pair q).1
 
-pub kind-none : (o : Option Row) → row'.No ≡ shown o → 4 ≡ row_kind o
+pub kind-none : (o : Option Row) → None ≡ shown o → 4 ≡ row_kind o
 unfolding row_kind
 kind-none None q = refl
 kind-none (Some (row i y l a b)) q = cc
 
-pub is-some : {x k : ℕ} (o : Option Row) → row'.Is x k ≡ shown o → is_some o ≡ true
+pub is-some : {x k : ℕ} (o : Option Row) → Some (x, k) ≡ shown o → is_some o ≡ true
 is-some None q = cc
 is-some (Some (row i y l a b)) q = refl
 
-pub is-none : (o : Option Row) → row'.No ≡ shown o → is_some o ≡ false
+pub is-none : (o : Option Row) → None ≡ shown o → is_some o ≡ false
 is-none None q = refl
 is-none (Some (row i y l a b)) q = cc
 
@@ -66,12 +65,12 @@ unfolding row_name
 name-as None = refl
 name-as (Some (row i y l a b)) = refl
 
-pub name_below : {slots : ℕ} {o : Option Row} {r : Row'} → 0 < slots → shown_to slots o r → name_in r < slots
+pub name_below : {slots : ℕ} {o : Option Row} {r : Option (ℕ × ℕ)} → 0 < slots → shown_to slots o r → name_in r < slots
 name_below {slots} {r = r} h q = go r q.range
   where
-    go : (r : Row') → InRange slots r → name_in r < slots
-    go (row'.Is x k) q = q.0
-    go row'.No q = h
+    go : (r : Option (ℕ × ℕ)) → InRange slots r → name_in r < slots
+    go (Some (x, k)) q = q.0
+    go None q = h
 
 pub slots_small : {j : ℕ} {ws tab m vis found : List ℕ} → Ready j ws tab m vis found → slots_in tab ≤ 2049
 slots_small r = omega (arith, r.fit.stack, r.fit.within, r.fine.short)

@@ -17,14 +17,12 @@ use Rattle.visible.specs.Visible.{seens, Descends, Tabled}
 use Rattle.steps.specs.Memory.{at_of, top_of, cur_of, last_of, said_of, told_of, lost_of, held_of, made_of, taken_of, level_of, names_in, slots_in, use_in, rows_in, bindings_in, mult_in, shift_in, wants_in, chains_in, setting_of, events, findings, event_of, kept}
 use Rattle.steps.specs.declared.head.Act.{Act}
 use Rattle.steps.specs.declared.head.Act.TheVariants.{Shows, Uses, Names, Opens}
-use Rattle.steps.specs.declared.row.Row.{Row as Row'}
-use Rattle.steps.specs.declared.row.Row.TheVariants as row'
 
 -- the tables are in order: the rows stand in the words, with names that `vis` has a place for and kinds up to Value, and hang in chains
 pub record Fine (ws tab : List ℕ) : Type 0 where
   pub long : 16 + slots_in tab * 2 ≤ length tab
   pub short : length ws ≤ 2048
-  pub Some : 0 < slots_in tab
+  pub some : 0 < slots_in tab
   pub places : names_in tab ≤ slots_in tab
   pub rows : rows_in tab + bindings_in tab * 5 ≤ length ws
   pub named : (j : ℕ) → j < bindings_in tab → get_or ws (rows_in tab + j * 5 + 1) 0 < slots_in tab
@@ -164,30 +162,30 @@ pub record TellsIf (t : Bool) (code a b c d e : ℕ) (m found m' found' : List �
   pub no : t ≡ false → (m' ≡ m) × (found' ≡ found)
 
 -- a row as the code tells it: name and kind
-abbrev pub shown : Option Row → Row'
-shown None = row'.No
-shown (Some (row i x k a b)) = row'.Is x k
+abbrev pub shown : Option Row → Option (ℕ × ℕ)
+shown None = None
+shown (Some (row i x k a b)) = Some (x, k)
 
-abbrev pub name_in : Row' → ℕ
-name_in (row'.Is x k) = x
-name_in row'.No = 0
+abbrev pub name_in : (Option (ℕ × ℕ)) → ℕ
+name_in (Some (x, k)) = x
+name_in None = 0
 
-abbrev pub kind_in : Row' → ℕ
-kind_in (row'.Is x k) = k
-kind_in row'.No = 0
+abbrev pub kind_in : (Option (ℕ × ℕ)) → ℕ
+kind_in (Some (x, k)) = k
+kind_in None = 0
 
 -- whether a binder with that row is misplaced where a kind is wanted
-abbrev pub misplaced_in : Bool → ℕ → Row' → Bool
-misplaced_in checks want (row'.Is x k) = checks && not (eqb k want)
-misplaced_in checks want row'.No = false
+abbrev pub misplaced_in : Bool → ℕ → Option (ℕ × ℕ) → Bool
+misplaced_in checks want (Some (x, k)) = checks && not (eqb k want)
+misplaced_in checks want None = false
 
 -- the name and the kind of a row that was told are in range
-abbrev pub InRange : ℕ → Row' → Type 0
-InRange slots (row'.Is x k) = (x < slots) × (k ≤ 4)
-InRange slots row'.No = Unit {0}
+abbrev pub InRange : ℕ → Option (ℕ × ℕ) → Type 0
+InRange slots (Some (x, k)) = (x < slots) × (k ≤ 4)
+InRange slots None = Unit {0}
 
 -- both, of the row that it shows
-pub record shown_to (slots : ℕ) (o : Option Row) (r : Row') : Type 0 where
+pub record shown_to (slots : ℕ) (o : Option Row) (r : Option (ℕ × ℕ)) : Type 0 where
   pub same : r ≡ shown o
   pub range : InRange slots r
 

@@ -1,7 +1,6 @@
 // Scopes are opened and left, names are bound.
 ghost use Rattle.std.specs.Prelude.{◌≡◌, List, [], ◌∷◌, ℕ, suc, ◌+◌, ◌≤◌, ◌<◌, length, set};
 ghost use Rattle.words.specs.Words.{words};
-ghost use Rattle.heads.specs.declared.Maybe.TheVariants as maybe;
 ghost use Rattle.semantics.specs.Resolve.{lookup, enter, bind_name, bind_anew, bind_new, binds};
 ghost use Rattle.fused.specs.Fused.{noting, elem_step, when};
 ghost use Rattle.visible.specs.Visible.{seens, Descends, Tabled};
@@ -9,10 +8,10 @@ ghost use Rattle.steps.specs.Memory.{top_of, cur_of, made_of, slots_in, wants_in
 ghost use Rattle.steps.specs.Hold.{Binding, Ready, Roomy, Costs, Steps, Binds, SaysBound, TellsIf, Left, on_names, path_step, shown_to, name_in, kind_in, misplaced_in};
 
 use crate::{
-    CHECKS, CUR, LAST, LOST, MADE, RESOLVES, Row, SLOTS, TOP, WARNS, row_of, say, say_wanted, tell,
+    CHECKS, CUR, LAST, LOST, MADE, RESOLVES, SLOTS, TOP, WARNS, row_of, say, say_wanted, tell,
 };
-use heads::{Elem, Maybe};
-use visible::{Found, bind, cut, find};
+use heads::Elem;
+use visible::{bind, cut, find};
 
 // A scope of the kind under the current one, which it becomes.
 pub fn enter(
@@ -62,8 +61,8 @@ pub fn is_again(tab: &[u32], m: &[u32], vis: &[u32], x: u32) -> bool
     ensures { result ≡ binds (cur_of m.now) x (seens (slots_in tab.now) (top_of m.now) vis.now) }
 {
     match find(vis, tab[SLOTS], m[TOP], x) {
-        Found::Is(_, scope) => scope == m[CUR],
-        Found::No => false,
+        Some((_, scope)) => scope == m[CUR],
+        None => false,
     }
 }
 
@@ -107,15 +106,22 @@ pub fn bind_anew(
 }
 
 // A variable is bound: whether it has a row is kept in mind.
-pub fn note(s: &[u8], tab: &[u32], m: &mut [u32], vis: &[u32], found: &[u32], v: u32) -> Row
+pub fn note(
+    s: &[u8],
+    tab: &[u32],
+    m: &mut [u32],
+    vis: &[u32],
+    found: &[u32],
+    v: u32,
+) -> Option<(u32, u32)>
     requires { Ready 0 (words s.now) tab.now m.old vis.now found.now }
     ensures told { shown_to (slots_in tab.now) ((world_at (words s.now) tab.now (λ x. x)).row v) result }
     ensures steps { Steps 0 (words s.now) tab.now m.old vis.now found.now m.new vis.now found.now (λ id. noting (world_at (words s.now) tab.now id) (v ∷ [])) }
 {
     let r = row_of(s, tab, v);
     match r {
-        Row::Is(_, _) => r,
-        Row::No => {
+        Some(_) => r,
+        None => {
             m[LOST] = 1;
             r
         }
@@ -123,12 +129,12 @@ pub fn note(s: &[u8], tab: &[u32], m: &mut [u32], vis: &[u32], found: &[u32], v:
 }
 
 // The name of a row, 0 where there is none.
-fn name_in(r: Row) -> u32
+fn name_in(r: Option<(u32, u32)>) -> u32
     ensures { result ≡ name_in r }
 {
     match r {
-        Row::Is(x, _) => x,
-        Row::No => 0,
+        Some((x, _)) => x,
+        None => 0,
     }
 }
 
@@ -137,7 +143,7 @@ fn misplace(
     m: &mut [u32],
     found: &mut [u32],
     mode: u32,
-    r: Row,
+    r: Option<(u32, u32)>,
     want: u32,
     one: u32,
     start: u32,
@@ -147,14 +153,14 @@ fn misplace(
     ensures { TellsIf (misplaced_in (mode_of mode).checks want r) 2008 start end (suc (name_in r)) one (kind_in r) m.old found.old m.new found.new }
 {
     match r {
-        Row::Is(x, k) => {
+        Some((x, k)) => {
             if mode / CHECKS % 2 == 1 {
                 if k != want {
                     tell(m, found, 2008, start, end, x + 1, one, k);
                 }
             }
         }
-        Row::No => {}
+        None => {}
     }
 }
 
@@ -188,7 +194,7 @@ pub fn bind_path(
     mode: u32,
 )
     requires { Ready 3 (words s.now) tab.now m.old vis.old found.old }
-    ensures { Steps 3 (words s.now) tab.now m.old vis.old found.old m.new vis.new found.new (λ id. path_step (world_at (words s.now) tab.now id) (mode_of mode) (maybe.Var v)) }
+    ensures { Steps 3 (words s.now) tab.now m.old vis.old found.old m.new vis.new found.new (λ id. path_step (world_at (words s.now) tab.now id) (mode_of mode) (Some v)) }
 {
     let r = note(s, tab, m, vis, found, v);
     let x = name_in(r);
@@ -233,8 +239,8 @@ pub fn bind_elem(
 {
     let variable = h.variable;
     match variable {
-        Maybe::Nothing => {}
-        Maybe::Var(v) => {
+        None => {}
+        Some(v) => {
             let r = note(s, tab, m, vis, found, v);
             let x = name_in(r);
             let kind = h.kind;

@@ -11,11 +11,11 @@ ghost use Rattle.steps.specs.Hold.{Ready, Steps, Closed, act_of, cost_of, Named,
 use crate::kinds::at_row;
 use crate::row::kind_of;
 use crate::{
-    CHECKS, IDENT, MARKS, RESOLVES, Row, SLOTS, STAR, TOP, WANTS, at_type, enter, leave, row_of,
-    say, say_wanted,
+    CHECKS, IDENT, MARKS, RESOLVES, SLOTS, STAR, TOP, WANTS, at_type, enter, leave, row_of, say,
+    say_wanted,
 };
 use heads::Form;
-use visible::{Found, find};
+use visible::find;
 
 // Whether nothing is written of a variable, whatever its row: its use is not wanted, and no kind is minded.
 fn is_quiet(tab: &[u32], mode: u32) -> bool
@@ -67,8 +67,8 @@ pub fn use_var(
         return;
     }
     match row_of(s, tab, v) {
-        Row::No => {}
-        Row::Is(x, k) => {
+        None => {}
+        Some((x, k)) => {
             record_var(s, tab, m, vis, found, v, k, mode);
             if mode / CHECKS % 2 == 1 {
                 at_row(s, tab, m, vis, found, mode % 8, x, k);
@@ -86,11 +86,11 @@ pub fn record_name(s: &[u8], tab: &[u32], m: &mut [u32], vis: &[u32], found: &mu
         return;
     }
     match find(vis, tab[SLOTS], m[TOP], x) {
-        Found::Is(v, _) => {
+        Some((v, _)) => {
             let k = kind_of(s, tab, v);
             say(m, found, 5, x, 1, v, k, 0);
         }
-        Found::No => {
+        None => {
             say(m, found, 5, x, 0, 0, 0, 0);
         }
     }

@@ -11,7 +11,7 @@ mod said;
 pub use bound::{bind_anew, bind_elem, bind_name, bind_path, enter, is_again, leave, note};
 pub use head::{begin, finish, pair_of, record_name, use_name, use_var};
 pub use kinds::at_type;
-pub use row::{Row, kind_of, row_of};
+pub use row::{kind_of, row_of};
 pub use said::{say, say_wanted, tell};
 
 // Where the numbers stand in m.

@@ -10,13 +10,7 @@ use rows::find_row;
 use words::word;
 
 // A variable's row: its name and its kind.
-#[derive(Clone, Copy)]
-pub enum Row {
-    Is(u32, u32),
-    No,
-}
-
-pub fn row_of(s: &[u8], tab: &[u32], v: u32) -> Row
+pub fn row_of(s: &[u8], tab: &[u32], v: u32) -> Option<(u32, u32)>
     requires { Fine (words s.now) tab.now }
     ensures range { InRange (slots_in tab.now) result }
     ensures value { result ≡ shown ((world_at (words s.now) tab.now (λ x. x)).row v) }
@@ -33,10 +27,10 @@ pub fn row_of(s: &[u8], tab: &[u32], v: u32) -> Row
         v,
     );
     if i == 0 {
-        return Row::No;
+        return None;
     }
     let p = rows + ((i - 1) as usize) * 5;
-    Row::Is(word(s, p + 1), word(s, p + 2))
+    Some((word(s, p + 1), word(s, p + 2)))
 }
 
 // "the table's, Value if it has none"
@@ -45,7 +39,7 @@ pub fn kind_of(s: &[u8], tab: &[u32], v: u32) -> u32
     ensures { result ≡ row_kind ((world_at (words s.now) tab.now (λ x. x)).row v) }
 {
     match row_of(s, tab, v) {
-        Row::Is(_, kind) => kind,
-        Row::No => 4,
+        Some((_, kind)) => kind,
+        None => 4,
     }
 }

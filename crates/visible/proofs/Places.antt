@@ -1,6 +1,6 @@
 -- Laws of the stack of visible names: where the newest entry of a name stands and what it tells (`told`), an entry as it is written
 -- (`write`), one entry more (`bind-new`), and one less (`fall`).
-use Rattle.std.specs.Prelude.{Option, Some}
+use Rattle.std.specs.Prelude.{Option, Some, None}
 use Prim.Native.Nat.{ℕ, zero, suc, ◌+◌, ◌-◌, ◌*◌, ◌<◌, ◌≤◌}
 use native.Mathlib.Omega.{arith}
 use native.Mathlib.Numerals.{add-one}
@@ -14,8 +14,6 @@ use lib.Seq.{get_or-set_same, get_or-set_other}
 use borrow.Author.Tests.{ne_eqb, eqb-true, eqb-false, ltb-true, ltb-false}
 use Rattle.semantics.specs.Resolve.{seen, lookup}
 use Rattle.visible.specs.Visible.{scope_of, answer, place, name_at, seens, Tabled, Bound, Cut}
-use Rattle.visible.specs.declared.Found.{Found}
-use Rattle.visible.specs.declared.Found.TheVariants as found
 
 pub length-seens : (n t : ℕ) (m : List ℕ) → length (seens n t m) ≡ t
 unfolding seens
@@ -32,8 +30,8 @@ place-le x n zero m = omega arith
 place-le x n (suc t) m = cond-le (eqb x (name_at n m t)) _ _ _ (omega (arith, length-seens n t m)) (omega (arith, place-le x n t m))
 
 -- what a name's place tells: nothing where it is 0, and else the entry there
-abbrev pub Told : ℕ → List ℕ → ℕ → Found → Type 0
-Told n m p r = (p ≡ 0 → r ≡ found.No) × ((j : ℕ) → p ≡ suc j → r ≡ found.Is (get_or m (n + j * 4 + 1) 0) (get_or m (n + j * 4 + 2) 0))
+abbrev pub Told : ℕ → List ℕ → ℕ → Option (ℕ × ℕ) → Type 0
+Told n m p r = (p ≡ 0 → r ≡ None) × ((j : ℕ) → p ≡ suc j → r ≡ Some ((get_or m (n + j * 4 + 1) 0), (get_or m (n + j * 4 + 2) 0)))
 
 told-head : (c : Bool) (n t l q : ℕ) (m : List ℕ) (u : Option ℕ) (s : ℕ) → l ≡ t → Told n m q (answer u s) →
     Told n m (cond c (suc l) q) (answer (cond c (Some (get_or m (n + t * 4 + 1) 0)) u) (cond c (get_or m (n + t * 4 + 2) 0) s))

@@ -1,8 +1,6 @@
 -- The list of visible names of the resolve walk, and how it stands in words.
 use Rattle.std.specs.Prelude.{ℕ, zero, suc, ◌+◌, ◌*◌, ◌<◌, ◌≤◌, ◌≡◌, Bool, false, cond, List, [], ◌∷◌, eqb, length, get_or, Option, None, Some}
 use Rattle.semantics.specs.Resolve.{Seen, seen, Pair, pair, once}
-use Rattle.visible.specs.declared.Found.{Found}
-use Rattle.visible.specs.declared.Found.TheVariants as found
 
 -- the scope of the newest binding of a name, whose variable is `lookup`'s
 unfoldable pub scope_of : ℕ → List Seen → ℕ
@@ -10,9 +8,9 @@ scope_of x [] = 0
 scope_of x (seen y v p ∷ l) = cond (eqb x y) p (scope_of x l)
 
 -- what is told of a name: the variable that is looked up, and the scope
-abbrev pub answer : Option ℕ → ℕ → Found
-answer None p = found.No
-answer (Some v) p = found.Is v p
+abbrev pub answer : Option ℕ → ℕ → Option (ℕ × ℕ)
+answer None p = None
+answer (Some v) p = Some (v, p)
 
 -- no scope is above c, and from the newest to the oldest they do not rise
 unfoldable pub Descends : ℕ → List Seen → Type 0
@@ -20,9 +18,9 @@ Descends c [] = Unit {0}
 Descends c (seen y v p ∷ l) = (p ≤ c) × Descends p l
 
 -- whether the binding that was found is of the scope c
-abbrev pub is_of : ℕ → Found → Bool
-is_of c (found.Is v p) = eqb p c
-is_of c found.No = false
+abbrev pub is_of : ℕ → Option (ℕ × ℕ) → Bool
+is_of c (Some (v, p)) = eqb p c
+is_of c None = false
 
 -- where a name's newest entry stands from the oldest, + 1, or 0
 unfoldable pub place : ℕ → List Seen → ℕ

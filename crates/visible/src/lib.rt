@@ -7,15 +7,8 @@ ghost use Rattle.std.specs.Prelude.{◌≡◌, ◌+◌, ◌*◌, ◌<◌, ◌≤
 ghost use Rattle.semantics.specs.Resolve.{lookup};
 ghost use Rattle.visible.specs.Visible.{seens, scope_of, name_at, answer, Tabled, Bound, Cut, Turned, Restacked};
 
-// The newest binding of a name: its variable and its scope.
-#[derive(Clone, Copy)]
-pub enum Found {
-    Is(u32, u32),
-    No,
-}
-
-// The newest binding of x; a name past the table has none.
-pub fn find(vis: &[u32], names: u32, top: u32, x: u32) -> Found
+// The newest binding of x, its variable and its scope; a name past the table has none.
+pub fn find(vis: &[u32], names: u32, top: u32, x: u32) -> Option<(u32, u32)>
     requires { Tabled names top vis.now }
     ensures { result ≡ answer (lookup x (seens names top vis.now)) (scope_of x (seens names top vis.now)) }
 {
@@ -23,11 +16,10 @@ pub fn find(vis: &[u32], names: u32, top: u32, x: u32) -> Found
         let i = vis[x as usize];
         if 0 < i {
             let k = (names as usize) + ((i - 1) as usize) * 4;
-            return Found::Is(vis[k + 1], vis[k + 2]);
+            return Some((vis[k + 1], vis[k + 2]));
         }
-        return Found::No;
     }
-    Found::No
+    None
 }
 
 // One entry more; the height then.

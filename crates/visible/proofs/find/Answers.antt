@@ -53,10 +53,10 @@ pub returns-then-i-gt0 : goal.returns-then-i-gt0
 returns-then-i-gt0 c =
     let a = c.args in sym ((told a.x a.names a.top a.vis.now).1 _ (omega (arith, c.requires.heads a.x c.if-x-names.true)))
 
-pub returns-then-x-names : goal.returns-then-x-names
-returns-then-x-names c =
+pub returns-else-i-gt0 : goal.returns-else-i-gt0
+returns-else-i-gt0 c =
     let a = c.args in sym ((told a.x a.names a.top a.vis.now).0 (omega (arith, c.requires.heads a.x c.if-x-names.true)))
 
-pub returns : goal.returns
-returns c =
+pub returns-else-x-names : goal.returns-else-x-names
+returns-else-x-names c =
     let a = c.args in sym ((told a.x a.names a.top a.vis.now).0 (far a.x a.names a.top a.vis.now c.requires.named (omega arith)))

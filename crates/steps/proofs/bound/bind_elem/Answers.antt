@@ -17,10 +17,10 @@ pub misplace-requires : goal.misplace-requires
 misplace-requires c =
     let p = c.requires.1 in (omega (arith, slots_small p, name_below p.fine.some c.note-r.ensures.told), roomy-in p.fine (c.bind_new.ensures.fit 2 0 (c.note-r.ensures.steps.fit 3 3 p.fit)))
 
-pub returns-in-Nothing : goal.returns-in-Nothing
-returns-in-Nothing c =
-    let a = c.args in elem-none a.h.kind a.h.start a.h.end a.mode c.in-Nothing.is
+pub returns-in-None : goal.returns-in-None
+returns-in-None c =
+    let a = c.args in elem-none a.h.kind a.h.start a.h.end a.mode c.in-None.is
 
-pub returns-in-Var : goal.returns-in-Var
-returns-in-Var c =
-    let n = c.note-r.ensures in more-costs (omega arith) (omega arith) (elem-steps _ c.args.mode c.requires.1.fit.size n.told c.name_in-x.ensures n.steps _ _ _ c.in-Var.is c.bind_new.ensures c.misplace.ensures)
+pub returns-in-Some : goal.returns-in-Some
+returns-in-Some c =
+    let n = c.note-r.ensures in more-costs (omega arith) (omega arith) (elem-steps _ c.args.mode c.requires.1.fit.size n.told c.name_in-x.ensures n.steps _ _ _ c.in-Some.is c.bind_new.ensures c.misplace.ensures)

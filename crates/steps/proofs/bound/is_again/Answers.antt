@@ -4,10 +4,10 @@ use Rattle.visible.specs.Visible.{is_of}
 use Rattle.visible.proofs.Names.{newest-binds}
 use Rattle.steps.proofs.bound.is_again.Goals as goal
 
-pub returns-in-Is : goal.returns-in-Is
-returns-in-Is c =
-    ap (is_of _) (sym c.in-Is.is ∙ c.find.ensures) ∙ newest-binds _ _ _ c.requires.descends
+pub returns-in-Some : goal.returns-in-Some
+returns-in-Some c =
+    ap (is_of _) (sym c.in-Some.is ∙ c.find.ensures) ∙ newest-binds _ _ _ c.requires.descends
 
-pub returns-in-No : goal.returns-in-No
-returns-in-No c =
-    ap (is_of _) (sym c.in-No.is ∙ c.find.ensures) ∙ newest-binds _ _ _ c.requires.descends
+pub returns-in-None : goal.returns-in-None
+returns-in-None c =
+    ap (is_of _) (sym c.in-None.is ∙ c.find.ensures) ∙ newest-binds _ _ _ c.requires.descends

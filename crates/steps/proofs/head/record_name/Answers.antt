@@ -12,14 +12,14 @@ pub say-requires : goal.say-requires
 say-requires c =
     roomy c.requires
 
-pub say-requires-in-No : goal.say-requires-in-No
-say-requires-in-No c =
+pub say-requires-in-None : goal.say-requires-in-None
+say-requires-in-None c =
     roomy c.requires
 
-pub returns-in-Is : goal.returns-in-Is
-returns-in-Is c =
-    found_name c.args.x _ c.requires.fit.size c.if-tab-ne1.false _ _ _ (sym c.find.ensures ∙ c.in-Is.is) c.kind_of-k.ensures c.say.ensures
+pub returns-in-Some : goal.returns-in-Some
+returns-in-Some c =
+    found_name c.args.x _ c.requires.fit.size c.if-tab-ne1.false _ _ _ (sym c.find.ensures ∙ c.in-Some.is) c.kind_of-k.ensures c.say.ensures
 
-pub returns-in-No : goal.returns-in-No
-returns-in-No c =
-    missing-name c.args.x _ c.requires.fit.size c.if-tab-ne1.false (sym c.find.ensures ∙ c.in-No.is) c.say-in-No.ensures
+pub returns-in-None : goal.returns-in-None
+returns-in-None c =
+    missing-name c.args.x _ c.requires.fit.size c.if-tab-ne1.false (sym c.find.ensures ∙ c.in-None.is) c.say-in-None.ensures

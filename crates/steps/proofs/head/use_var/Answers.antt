@@ -15,16 +15,16 @@ record_var-requires c =
 
 pub at_row-requires : goal.at_row-requires
 at_row-requires c =
-    let r = rw c.in-Is.is at c.row_of.ensures.range in (omega arith, (omega (arith, r.0, c.type_inv.tab 1), (r.1, record { fine = c.requires.fine; fit = c.record_var.ensures.fit 1 1 c.requires.fit })))
+    let r = rw c.in-Some.is at c.row_of.ensures.range in (omega arith, (omega (arith, r.0, c.type_inv.tab 1), (r.1, record { fine = c.requires.fine; fit = c.record_var.ensures.fit 1 1 c.requires.fit })))
 
-pub returns-in-No : goal.returns-in-No
-returns-in-No c =
-    let a = c.args in rowless-use a.mode a.v _ (sym c.row_of.ensures.value ∙ c.in-No.is)
+pub returns-in-None : goal.returns-in-None
+returns-in-None c =
+    let a = c.args in rowless-use a.mode a.v _ (sym c.row_of.ensures.value ∙ c.in-None.is)
 
 pub returns-then-mode-eq1 : goal.returns-then-mode-eq1
 returns-then-mode-eq1 c =
-    let a = c.args in checked-use a.mode a.v _ _ _ (sym c.row_of.ensures.value ∙ c.in-Is.is) c.if-mode-eq1.true c.record_var.ensures c.at_row.ensures
+    let a = c.args in checked-use a.mode a.v _ _ _ (sym c.row_of.ensures.value ∙ c.in-Some.is) c.if-mode-eq1.true c.record_var.ensures c.at_row.ensures
 
 pub returns-else-mode-eq1 : goal.returns-else-mode-eq1
 returns-else-mode-eq1 c =
-    let a = c.args in unchecked-use a.mode a.v _ _ _ (sym c.row_of.ensures.value ∙ c.in-Is.is) c.if-mode-eq1.false c.record_var.ensures
+    let a = c.args in unchecked-use a.mode a.v _ _ _ (sym c.row_of.ensures.value ∙ c.in-Some.is) c.if-mode-eq1.false c.record_var.ensures
