@@ -7,14 +7,12 @@ mod plain;
 
 ghost use Rattle.std.specs.Prelude.{ℕ, ◌≤◌};
 ghost use Rattle.words.specs.Words.{words};
+ghost use Rattle.heads.specs.Answer.{kind_of};
 ghost use Rattle.steps.specs.Memory.{world_at, mode_of};
 ghost use Rattle.steps.specs.Hold.{Ready, Steps, path_step};
 ghost use Rattle.walk.specs.Goes.{Walked, path_cost, expr_at, row_at, rest_at, inner_at, mark_at, marks_at, elem_at, elems_at, part_at, parts_at, pattern_at};
 
-use heads::{
-    ElemRead, Form, FormRead, Maybe, PartRead, Word, deep_cause, items_of, kids_of, mark_high,
-    mark_kids, mark_low, read_elem_head, read_form, read_part_head, word_in,
-};
+use heads::{Form, MarkKind, Section};
 use plain::{MOST, act, pair, parts_of, plain_at};
 use steps::{AT, CUR, IDENT, LEVELS, NAMES, TOP, begin, bind_elem, bind_path, finish, pair_of};
 use words::word;
@@ -36,10 +34,16 @@ pub fn walk_expr(
     ensures { Walked room (words s.now) tab.now m.old vis.old found.old m.new vis.new found.new (expr_at (words s.now) tab.now room mode) result }
 {
     let at = m[AT] as usize;
+    let section = Section {
+        bytes: s,
+        names: tab[NAMES],
+        rows: 0,
+        bound: None,
+    };
     if room == 0 {
-        return deep_cause(s, at);
+        return u32::from(section.too_deep(at));
     }
-    let FormRead::Is(f, p) = read_form(s, tab[NAMES], at) else {
+    let Ok((f, p)) = section.read_form(at) else {
         return 5;
     };
     let top = m[TOP];
@@ -81,13 +85,13 @@ fn walk_rest(
         vis,
         found,
         room,
-        kids_of(f),
+        f.kids(),
         calm + pair_of(tab, f, mode % 8),
     );
     if b != 0 {
         return b;
     }
-    walk_marks(s, tab, m, vis, found, room, 0, items_of(f), calm)
+    walk_marks(s, tab, m, vis, found, room, MarkKind::Item, f.items(), calm)
 }
 
 // The pattern of a head, where it has one: a PatternPredicate's is not resolved.
@@ -244,12 +248,12 @@ pub fn walk_marks(
     vis: &mut [u32],
     found: &mut [u32],
     room: u32,
-    kind: u32,
+    kind: MarkKind,
     n: u32,
     mode: u32,
 ) -> u32
     requires { (room ≤ 48) × Ready 0 (words s.now) tab.now m.old vis.old found.old }
-    ensures { Walked room (words s.now) tab.now m.old vis.old found.old m.new vis.new found.new (marks_at (words s.now) tab.now room mode kind n) result }
+    ensures { Walked room (words s.now) tab.now m.old vis.old found.old m.new vis.new found.new (marks_at (words s.now) tab.now room mode (kind_of kind) n) result }
 {
     let mut left = n;
     while 0 < left {
@@ -270,27 +274,24 @@ fn walk_mark(
     vis: &mut [u32],
     found: &mut [u32],
     room: u32,
-    kind: u32,
+    kind: MarkKind,
     mode: u32,
 ) -> u32
     requires { (room ≤ 48) × Ready 0 (words s.now) tab.now m.old vis.old found.old }
-    ensures { Walked room (words s.now) tab.now m.old vis.old found.old m.new vis.new found.new (mark_at (words s.now) tab.now room mode kind) result }
+    ensures { Walked room (words s.now) tab.now m.old vis.old found.old m.new vis.new found.new (mark_at (words s.now) tab.now room mode (kind_of kind)) result }
 {
     let at = m[AT] as usize;
-    let Word::Is(k) = word_in(s, at, mark_low(kind), mark_high(kind)) else {
+    let section = Section {
+        bytes: s,
+        names: tab[NAMES],
+        rows: 0,
+        bound: None,
+    };
+    let Ok((k, p)) = section.word_in(at, kind.low(), kind.high()) else {
         return 5;
     };
-    m[AT] = at as u32 + 1;
-    walk_row(
-        s,
-        tab,
-        m,
-        vis,
-        found,
-        room,
-        mark_kids(kind, k),
-        mode / 64 * 64,
-    )
+    m[AT] = p as u32;
+    walk_row(s, tab, m, vis, found, room, kind.kids(k), mode / 64 * 64)
 }
 
 // A pattern: the number of its parts, and the parts.
@@ -308,10 +309,16 @@ pub fn walk_pattern(
     ensures { Walked room (words s.now) tab.now m.old vis.old found.old m.new vis.new found.new (pattern_at (words s.now) tab.now room mode) result }
 {
     let at = m[AT] as usize;
-    let Word::Is(n) = word_in(s, at, 0, 4294967296) else {
+    let section = Section {
+        bytes: s,
+        names: tab[NAMES],
+        rows: 0,
+        bound: None,
+    };
+    let Ok((n, p)) = section.any_word(at) else {
         return 5;
     };
-    m[AT] = at as u32 + 1;
+    m[AT] = p as u32;
     walk_parts(s, tab, m, vis, found, room, n, mode)
 }
 
@@ -355,7 +362,13 @@ fn walk_part(
     ensures { Walked room (words s.now) tab.now m.old vis.old found.old m.new vis.new found.new (part_at (words s.now) tab.now room mode) result }
 {
     let at = m[AT] as usize;
-    let PartRead::Is(h, p) = read_part_head(s, at) else {
+    let section = Section {
+        bytes: s,
+        names: tab[NAMES],
+        rows: 0,
+        bound: None,
+    };
+    let Ok((h, p)) = section.read_part(at) else {
         return 5;
     };
     m[AT] = p as u32;
@@ -371,15 +384,15 @@ fn bind_part(
     m: &mut [u32],
     vis: &mut [u32],
     found: &mut [u32],
-    path: Maybe,
+    path: Option<u32>,
     mode: u32,
 )
     requires { Ready (path_cost path) (words s.now) tab.now m.old vis.old found.old }
     ensures { Steps (path_cost path) (words s.now) tab.now m.old vis.old found.old m.new vis.new found.new (λ id. path_step (world_at (words s.now) tab.now id) (mode_of mode) path) }
 {
     match path {
-        Maybe::Var(v) => bind_path(s, tab, m, vis, found, v, mode),
-        Maybe::Nothing => {}
+        Some(v) => bind_path(s, tab, m, vis, found, v, mode),
+        None => {}
     }
 }
 
@@ -423,7 +436,13 @@ fn walk_elem(
     ensures { Walked room (words s.now) tab.now m.old vis.old found.old m.new vis.new found.new (elem_at (words s.now) tab.now room mode) result }
 {
     let at = m[AT] as usize;
-    let ElemRead::Is(h, p) = read_elem_head(s, at) else {
+    let section = Section {
+        bytes: s,
+        names: tab[NAMES],
+        rows: 0,
+        bound: None,
+    };
+    let Ok((h, p)) = section.read_elem(at) else {
         return 5;
     };
     m[AT] = p as u32;

@@ -1,3 +1,5 @@
+use Rattle.heads.specs.Answer.{kind_of}
+use Rattle.heads.proofs.Missing.{missing, fives_word, fives_form, fives_part, fives_elem}
 use Rattle.std.specs.Prelude.{Some}
 use Prim.Native.Nat.{suc, ℕ, ◌*◌, ◌+◌, ◌-◌, ◌/◌, ◌<◌}
 use native.Mathlib.Omega.{arith}
@@ -29,9 +31,9 @@ unfolding elem_go
 walk_elem-bounds-m-0 t c =
     omega (arith, c.requires.1.fit.size)
 
-pub walk_elem-read_elem_head-requires : goal.walk_elem-read_elem_head-requires
+pub walk_elem-read_elem-requires : goal.walk_elem-read_elem-requires
 unfolding elem_go
-walk_elem-read_elem_head-requires t c =
+walk_elem-read_elem-requires t c =
     c.requires.1.fit.within
 
 pub walk_elem-returns-in_default : goal.walk_elem-returns-in_default
@@ -39,12 +41,12 @@ unfolding elem_go
 walk_elem-returns-in_default t c =
     let begun = let a = c.args in
     start {keep = Some a.room} (λ id u v. step read_elem λ h. last (row_go (expr_go (world_at (words a.s.now) a.tab.now id) (tables_in a.tab.now) a.room (mode_of a.mode)) h.property plain (elem_step (world_at (words a.s.now) a.tab.now id) (mode_of a.mode) h v))) c.requires.1 (λ id z r. refl) in
-    refused 5 (λ e. omega arith) begun (stop begun (rw c.in_default.is at c.read_elem_head.ensures))
+    refused 5 (λ e. omega arith) begun (stop begun (missing _ c.in_default.not-Ok (fives_elem _) c.read_elem.ensures))
 
 pub walk_elem-overflow_cast-m : goal.walk_elem-overflow_cast-m
 unfolding elem_go
 walk_elem-overflow_cast-m t c =
-    let answer = rw c.in-Is.is at c.read_elem_head.ensures in
+    let answer = c.in-Ok.ensures in
     omega (arith, answer.within, c.requires.1.fine.short)
 
 pub walk_elem-bounds-m-0-2 : goal.walk_elem-bounds-m-0-2
@@ -57,7 +59,7 @@ unfolding elem_go
 walk_elem-bind_elem-requires t c =
     let begun = let a = c.args in
     start {keep = Some a.room} (λ id u v. step read_elem λ h. last (row_go (expr_go (world_at (words a.s.now) a.tab.now id) (tables_in a.tab.now) a.room (mode_of a.mode)) h.property plain (elem_step (world_at (words a.s.now) a.tab.now id) (mode_of a.mode) h v))) c.requires.1 (λ id z r. refl) in
-    let answer = rw c.in-Is.is at c.read_elem_head.ensures in
+    let answer = c.in-Ok.ensures in
     let paid = elem-paid _ _ _ _ answer in
     let one = read begun 3 answer (omega (arith, paid.0)) in
     (paid.2, ready (omega arith) c.requires.1 one)
@@ -65,7 +67,7 @@ walk_elem-bind_elem-requires t c =
 pub walk_elem-overflow_cast-h : goal.walk_elem-overflow_cast-h
 unfolding elem_go
 walk_elem-overflow_cast-h t c =
-    let answer = rw c.in-Is.is at c.read_elem_head.ensures in
+    let answer = c.in-Ok.ensures in
     let paid = elem-paid _ _ _ _ answer in
     omega (arith, paid.1)
 
@@ -79,12 +81,12 @@ unfolding elem_go
 walk_elem-walk_row-requires t c =
     let begun = let a = c.args in
     start {keep = Some a.room} (λ id u v. step read_elem λ h. last (row_go (expr_go (world_at (words a.s.now) a.tab.now id) (tables_in a.tab.now) a.room (mode_of a.mode)) h.property plain (elem_step (world_at (words a.s.now) a.tab.now id) (mode_of a.mode) h v))) c.requires.1 (λ id z r. refl) in
-    let answer = rw c.in-Is.is at c.read_elem_head.ensures in
+    let answer = c.in-Ok.ensures in
     let paid = elem-paid _ _ _ _ answer in
     let one = read begun 3 answer (omega (arith, paid.0)) in
     let two = let a = c.args in
-    did (λ id u v. last (row_go (expr_go (world_at (words a.s.now) a.tab.now id) (tables_in a.tab.now) a.room (mode_of a.mode)) c.in-Is.h.property plain v)) 0 (omega arith) (omega arith) one c.bind_elem.ensures in
-    let p = paid in let w = answer.within in let x = c.bind_elem.ensures.at in let y = (placed c.args.m.now c.in-Is.p c.requires.1.fit.size).at in
+    did (λ id u v. last (row_go (expr_go (world_at (words a.s.now) a.tab.now id) (tables_in a.tab.now) a.room (mode_of a.mode)) c.in-Ok.h.property plain v)) 0 (omega arith) (omega arith) one c.bind_elem.ensures in
+    let p = paid in let w = answer.within in let x = c.bind_elem.ensures.at in let y = (placed c.args.m.now c.in-Ok.p c.requires.1.fit.size).at in
     (omega (arith, p.0, w, x, y, c.requires.0), ((c.requires.0, omega (arith, p.1)), ready (omega arith) c.requires.1 two))
 
 pub walk_elem-returns : goal.walk_elem-returns
@@ -92,11 +94,11 @@ unfolding elem_go
 walk_elem-returns t c =
     let begun = let a = c.args in
     start {keep = Some a.room} (λ id u v. step read_elem λ h. last (row_go (expr_go (world_at (words a.s.now) a.tab.now id) (tables_in a.tab.now) a.room (mode_of a.mode)) h.property plain (elem_step (world_at (words a.s.now) a.tab.now id) (mode_of a.mode) h v))) c.requires.1 (λ id z r. refl) in
-    let answer = rw c.in-Is.is at c.read_elem_head.ensures in
+    let answer = c.in-Ok.ensures in
     let paid = elem-paid _ _ _ _ answer in
     let one = read begun 3 answer (omega (arith, paid.0)) in
     let two = let a = c.args in
-    did (λ id u v. last (row_go (expr_go (world_at (words a.s.now) a.tab.now id) (tables_in a.tab.now) a.room (mode_of a.mode)) c.in-Is.h.property plain v)) 0 (omega arith) (omega arith) one c.bind_elem.ensures in
+    did (λ id u v. last (row_go (expr_go (world_at (words a.s.now) a.tab.now id) (tables_in a.tab.now) a.room (mode_of a.mode)) c.in-Ok.h.property plain v)) 0 (omega arith) (omega arith) one c.bind_elem.ensures in
     let ended = let a = c.args in
     tail c.walk_row.result (omega arith) two (in_pair a.mode 0 (a.mode / 64 * 64) (omega arith) (omega arith) a.room _ c.walk_row.ensures) in
     ended
@@ -134,8 +136,8 @@ pub walk_expr-returns-then-room-eq0 : goal.walk_expr-returns-then-room-eq0
 unfolding expr_go
 walk_expr-returns-then-room-eq0 t c =
     let a = c.args in
-    refused c.deep_cause.result (λ e. deep-some _ (sym c.deep_cause.ensures ∙ e)) (start {keep = Some a.room} (λ id u v. last (expr_at (words a.s.now) a.tab.now a.room a.mode id v)) c.requires.1 (λ id z r. refl))
-    (record { same = λ id z h. rw (c.if-room-eq0.true, ← c.deep_cause.ensures) })
+    refused c.from.result (λ e. deep-some _ (sym (c.from.ensures ∙ c.too_deep.ensures) ∙ e)) (start {keep = Some a.room} (λ id u v. last (expr_at (words a.s.now) a.tab.now a.room a.mode id v)) c.requires.1 (λ id z r. refl))
+    (record { same = λ id z h. rw (c.if-room-eq0.true, ← c.too_deep.ensures, ← c.from.ensures) })
 
 pub walk_expr-bounds-tab-0 : goal.walk_expr-bounds-tab-0
 unfolding expr_go
@@ -154,7 +156,7 @@ walk_expr-returns-in_default t c =
     let e : a.room ≡ suc (a.room - 1) = omega arith in
     start {keep = Some a.room} {G = expr_at (words a.s.now) a.tab.now a.room a.mode} (λ id u v. step (read_form (names_in a.tab.now)) λ f. step (rest_at (words a.s.now) a.tab.now (a.room - 1) a.mode f id (head_of (world_at (words a.s.now) a.tab.now id) (mode_of a.mode) f (first_of a.mode) v)) λ x. last (ok (tail_of (mode_of a.mode) f u x))) c.requires.1
     (λ id z r. ap (λ (d : ℕ). expr_go (world_at (words a.s.now) a.tab.now id) (tables_in a.tab.now) d (mode_of a.mode) (first_of a.mode) z r) e) in
-    let o = begun in refused 5 (λ e. omega arith) o (stop o (rw c.in_default.is at c.read_form.ensures.ans))
+    let o = begun in refused 5 (λ e. omega arith) o (stop o (missing _ c.in_default.not-Ok (fives_form _ _) c.read_form.ensures.takes))
 
 pub walk_expr-bounds-m-1 : goal.walk_expr-bounds-m-1
 unfolding expr_go
@@ -169,7 +171,7 @@ walk_expr-bounds-m-2 t c =
 pub walk_expr-overflow_cast-m : goal.walk_expr-overflow_cast-m
 unfolding expr_go
 walk_expr-overflow_cast-m t c =
-    let answer = rw c.in-Is.is at c.read_form.ensures.ans in
+    let answer = c.in-Ok.ensures.takes in
     omega (arith, answer.within, c.requires.1.fine.short)
 
 pub walk_expr-bounds-m-0-2 : goal.walk_expr-bounds-m-0-2
@@ -184,9 +186,9 @@ walk_expr-begin-requires t c =
     let e : a.room ≡ suc (a.room - 1) = omega arith in
     start {keep = Some a.room} {G = expr_at (words a.s.now) a.tab.now a.room a.mode} (λ id u v. step (read_form (names_in a.tab.now)) λ f. step (rest_at (words a.s.now) a.tab.now (a.room - 1) a.mode f id (head_of (world_at (words a.s.now) a.tab.now id) (mode_of a.mode) f (first_of a.mode) v)) λ x. last (ok (tail_of (mode_of a.mode) f u x))) c.requires.1
     (λ id z r. ap (λ (d : ℕ). expr_go (world_at (words a.s.now) a.tab.now id) (tables_in a.tab.now) d (mode_of a.mode) (first_of a.mode) z r) e) in
-    let answer = rw c.in-Is.is at c.read_form.ensures.ans in
-    let paid = let a = c.args in form-paid (words a.s.now) (at_of a.m.now) c.in-Is.p (names_in a.tab.now) (slots_in a.tab.now) c.in-Is.f c.requires.1.fine.places answer in
-    let one = read begun (cost_of c.in-Is.f) answer (omega (arith, paid.0)) in
+    let answer = c.in-Ok.ensures.takes in
+    let paid = let a = c.args in form-paid (words a.s.now) (at_of a.m.now) c.in-Ok.p (names_in a.tab.now) (slots_in a.tab.now) c.in-Ok.f c.requires.1.fine.places answer in
+    let one = read begun (cost_of c.in-Ok.f) answer (omega (arith, paid.0)) in
     (paid.1, ready (omega arith) c.requires.1 one)
 
 pub walk_expr-walk_rest-r-requires : goal.walk_expr-walk_rest-r-requires
@@ -196,13 +198,13 @@ walk_expr-walk_rest-r-requires t c =
     let e : a.room ≡ suc (a.room - 1) = omega arith in
     start {keep = Some a.room} {G = expr_at (words a.s.now) a.tab.now a.room a.mode} (λ id u v. step (read_form (names_in a.tab.now)) λ f. step (rest_at (words a.s.now) a.tab.now (a.room - 1) a.mode f id (head_of (world_at (words a.s.now) a.tab.now id) (mode_of a.mode) f (first_of a.mode) v)) λ x. last (ok (tail_of (mode_of a.mode) f u x))) c.requires.1
     (λ id z r. ap (λ (d : ℕ). expr_go (world_at (words a.s.now) a.tab.now id) (tables_in a.tab.now) d (mode_of a.mode) (first_of a.mode) z r) e) in
-    let answer = rw c.in-Is.is at c.read_form.ensures.ans in
-    let longer = rw c.in-Is.is at c.read_form.ensures.longer in
-    let paid = let a = c.args in form-paid (words a.s.now) (at_of a.m.now) c.in-Is.p (names_in a.tab.now) (slots_in a.tab.now) c.in-Is.f c.requires.1.fine.places answer in
-    let one = read begun (cost_of c.in-Is.f) answer (omega (arith, paid.0)) in
-    let two = let a = c.args in let f = c.in-Is.f in
+    let answer = c.in-Ok.ensures.takes in
+    let longer = c.in-Ok.ensures.longer in
+    let paid = let a = c.args in form-paid (words a.s.now) (at_of a.m.now) c.in-Ok.p (names_in a.tab.now) (slots_in a.tab.now) c.in-Ok.f c.requires.1.fine.places answer in
+    let one = read begun (cost_of c.in-Ok.f) answer (omega (arith, paid.0)) in
+    let two = let a = c.args in let f = c.in-Ok.f in
     did (λ id u v. step (rest_at (words a.s.now) a.tab.now (a.room - 1) a.mode f id v) λ x. last (ok (tail_of (mode_of a.mode) f u x))) 0 (omega arith) (omega arith) one c.begin.ensures in
-    let x = c.begin.ensures.at in let y = (placed c.args.m.now c.in-Is.p c.requires.1.fit.size).at in
+    let x = c.begin.ensures.at in let y = (placed c.args.m.now c.in-Ok.p c.requires.1.fit.size).at in
     (omega (arith, longer, answer.within, x, y, c.requires.0), (omega (arith, c.requires.0), ready (omega arith) c.requires.1 two))
 
 pub walk_expr-returns-then-r-ne0 : goal.walk_expr-returns-then-r-ne0
@@ -212,10 +214,10 @@ walk_expr-returns-then-r-ne0 t c =
     let e : a.room ≡ suc (a.room - 1) = omega arith in
     start {keep = Some a.room} {G = expr_at (words a.s.now) a.tab.now a.room a.mode} (λ id u v. step (read_form (names_in a.tab.now)) λ f. step (rest_at (words a.s.now) a.tab.now (a.room - 1) a.mode f id (head_of (world_at (words a.s.now) a.tab.now id) (mode_of a.mode) f (first_of a.mode) v)) λ x. last (ok (tail_of (mode_of a.mode) f u x))) c.requires.1
     (λ id z r. ap (λ (d : ℕ). expr_go (world_at (words a.s.now) a.tab.now id) (tables_in a.tab.now) d (mode_of a.mode) (first_of a.mode) z r) e) in
-    let answer = rw c.in-Is.is at c.read_form.ensures.ans in
-    let paid = let a = c.args in form-paid (words a.s.now) (at_of a.m.now) c.in-Is.p (names_in a.tab.now) (slots_in a.tab.now) c.in-Is.f c.requires.1.fine.places answer in
-    let one = read begun (cost_of c.in-Is.f) answer (omega (arith, paid.0)) in
-    let two = let a = c.args in let f = c.in-Is.f in
+    let answer = c.in-Ok.ensures.takes in
+    let paid = let a = c.args in form-paid (words a.s.now) (at_of a.m.now) c.in-Ok.p (names_in a.tab.now) (slots_in a.tab.now) c.in-Ok.f c.requires.1.fine.places answer in
+    let one = read begun (cost_of c.in-Ok.f) answer (omega (arith, paid.0)) in
+    let two = let a = c.args in let f = c.in-Ok.f in
     did (λ id u v. step (rest_at (words a.s.now) a.tab.now (a.room - 1) a.mode f id v) λ x. last (ok (tail_of (mode_of a.mode) f u x))) 0 (omega arith) (omega arith) one c.begin.ensures in
     let bad = fell c.walk_rest-r.result c.if-r-ne0.true two c.walk_rest-r.ensures in
     bad
@@ -227,10 +229,10 @@ walk_expr-finish-requires t c =
     let e : a.room ≡ suc (a.room - 1) = omega arith in
     start {keep = Some a.room} {G = expr_at (words a.s.now) a.tab.now a.room a.mode} (λ id u v. step (read_form (names_in a.tab.now)) λ f. step (rest_at (words a.s.now) a.tab.now (a.room - 1) a.mode f id (head_of (world_at (words a.s.now) a.tab.now id) (mode_of a.mode) f (first_of a.mode) v)) λ x. last (ok (tail_of (mode_of a.mode) f u x))) c.requires.1
     (λ id z r. ap (λ (d : ℕ). expr_go (world_at (words a.s.now) a.tab.now id) (tables_in a.tab.now) d (mode_of a.mode) (first_of a.mode) z r) e) in
-    let answer = rw c.in-Is.is at c.read_form.ensures.ans in
-    let paid = let a = c.args in form-paid (words a.s.now) (at_of a.m.now) c.in-Is.p (names_in a.tab.now) (slots_in a.tab.now) c.in-Is.f c.requires.1.fine.places answer in
-    let one = read begun (cost_of c.in-Is.f) answer (omega (arith, paid.0)) in
-    let two = let a = c.args in let f = c.in-Is.f in
+    let answer = c.in-Ok.ensures.takes in
+    let paid = let a = c.args in form-paid (words a.s.now) (at_of a.m.now) c.in-Ok.p (names_in a.tab.now) (slots_in a.tab.now) c.in-Ok.f c.requires.1.fine.places answer in
+    let one = read begun (cost_of c.in-Ok.f) answer (omega (arith, paid.0)) in
+    let two = let a = c.args in let f = c.in-Ok.f in
     did (λ id u v. step (rest_at (words a.s.now) a.tab.now (a.room - 1) a.mode f id v) λ x. last (ok (tail_of (mode_of a.mode) f u x))) 0 (omega arith) (omega arith) one c.begin.ensures in
     let three = go two c.walk_rest-r.ensures (omega arith) c.if-r-ne0.false in
     let o = three in (omega (arith, c.requires.1.fine.long), (o.size, (o.keeps.kept.top, (ready {i = 0} (omega arith) c.requires.1 o).fit.tabled)))
@@ -242,13 +244,13 @@ walk_expr-returns t c =
     let e : a.room ≡ suc (a.room - 1) = omega arith in
     start {keep = Some a.room} {G = expr_at (words a.s.now) a.tab.now a.room a.mode} (λ id u v. step (read_form (names_in a.tab.now)) λ f. step (rest_at (words a.s.now) a.tab.now (a.room - 1) a.mode f id (head_of (world_at (words a.s.now) a.tab.now id) (mode_of a.mode) f (first_of a.mode) v)) λ x. last (ok (tail_of (mode_of a.mode) f u x))) c.requires.1
     (λ id z r. ap (λ (d : ℕ). expr_go (world_at (words a.s.now) a.tab.now id) (tables_in a.tab.now) d (mode_of a.mode) (first_of a.mode) z r) e) in
-    let answer = rw c.in-Is.is at c.read_form.ensures.ans in
-    let paid = let a = c.args in form-paid (words a.s.now) (at_of a.m.now) c.in-Is.p (names_in a.tab.now) (slots_in a.tab.now) c.in-Is.f c.requires.1.fine.places answer in
-    let one = read begun (cost_of c.in-Is.f) answer (omega (arith, paid.0)) in
-    let two = let a = c.args in let f = c.in-Is.f in
+    let answer = c.in-Ok.ensures.takes in
+    let paid = let a = c.args in form-paid (words a.s.now) (at_of a.m.now) c.in-Ok.p (names_in a.tab.now) (slots_in a.tab.now) c.in-Ok.f c.requires.1.fine.places answer in
+    let one = read begun (cost_of c.in-Ok.f) answer (omega (arith, paid.0)) in
+    let two = let a = c.args in let f = c.in-Ok.f in
     did (λ id u v. step (rest_at (words a.s.now) a.tab.now (a.room - 1) a.mode f id v) λ x. last (ok (tail_of (mode_of a.mode) f u x))) 0 (omega arith) (omega arith) one c.begin.ensures in
     let three = go two c.walk_rest-r.ensures (omega arith) c.if-r-ne0.false in
-    let ended = close (mode_of c.args.mode) c.in-Is.f c.requires.1 three c.finish.ensures in
+    let ended = close (mode_of c.args.mode) c.in-Ok.f c.requires.1 three c.finish.ensures in
     ended
 
 -- walk_inner
@@ -392,14 +394,14 @@ pub walk_mark-returns-in_default : goal.walk_mark-returns-in_default
 unfolding mark_go
 walk_mark-returns-in_default t c =
     let begun = let a = c.args in
-    start {keep = Some a.room} {G = mark_at (words a.s.now) a.tab.now a.room a.mode a.kind} (λ id u v. step (word_in c.mark_low.result c.mark_high.result) λ w. last (row_go (expr_go (world_at (words a.s.now) a.tab.now id) (tables_in a.tab.now) a.room (mode_of a.mode)) (mark_kids a.kind w) plain v)) c.requires.1
-    (λ id z r. rw (← c.mark_low.ensures, ← c.mark_high.ensures)) in
-    let o = begun in refused 5 (λ e. omega arith) o (stop o (rw c.in_default.is at c.word_in.ensures))
+    start {keep = Some a.room} {G = mark_at (words a.s.now) a.tab.now a.room a.mode (kind_of a.kind)} (λ id u v. step (word_in c.low.result c.high.result) λ w. last (row_go (expr_go (world_at (words a.s.now) a.tab.now id) (tables_in a.tab.now) a.room (mode_of a.mode)) (mark_kids (kind_of a.kind) w) plain v)) c.requires.1
+    (λ id z r. rw (← c.low.ensures, ← c.high.ensures)) in
+    let o = begun in refused 5 (λ e. omega arith) o (stop o (missing _ c.in_default.not-Ok (fives_word _ _ _) c.word_in.ensures.takes))
 
-pub walk_mark-overflow_add-m : goal.walk_mark-overflow_add-m
+pub walk_mark-overflow_cast-m : goal.walk_mark-overflow_cast-m
 unfolding mark_go
-walk_mark-overflow_add-m t c =
-    let answer = rw c.in-Is.is at c.word_in.ensures in
+walk_mark-overflow_cast-m t c =
+    let answer = c.in-Ok.ensures.takes in
     omega (arith, answer.within, c.requires.1.fine.short)
 
 pub walk_mark-bounds-m-0-2 : goal.walk_mark-bounds-m-0-2
@@ -416,29 +418,29 @@ pub walk_mark-walk_row-requires : goal.walk_mark-walk_row-requires
 unfolding mark_go
 walk_mark-walk_row-requires t c =
     let begun = let a = c.args in
-    start {keep = Some a.room} {G = mark_at (words a.s.now) a.tab.now a.room a.mode a.kind} (λ id u v. step (word_in c.mark_low.result c.mark_high.result) λ w. last (row_go (expr_go (world_at (words a.s.now) a.tab.now id) (tables_in a.tab.now) a.room (mode_of a.mode)) (mark_kids a.kind w) plain v)) c.requires.1
-    (λ id z r. rw (← c.mark_low.ensures, ← c.mark_high.ensures)) in
-    let answer = rw c.in-Is.is at c.word_in.ensures in
-    let few = let a = c.args in mark-few (words a.s.now) (at_of a.m.now) (at_of a.m.now + 1) a.kind c.in-Is.k (rw (c.mark_low.ensures, c.mark_high.ensures) at answer.same) in
+    start {keep = Some a.room} {G = mark_at (words a.s.now) a.tab.now a.room a.mode (kind_of a.kind)} (λ id u v. step (word_in c.low.result c.high.result) λ w. last (row_go (expr_go (world_at (words a.s.now) a.tab.now id) (tables_in a.tab.now) a.room (mode_of a.mode)) (mark_kids (kind_of a.kind) w) plain v)) c.requires.1
+    (λ id z r. rw (← c.low.ensures, ← c.high.ensures)) in
+    let answer = c.in-Ok.ensures.takes in
+    let few = let a = c.args in mark-few (words a.s.now) (at_of a.m.now) c.in-Ok.p (kind_of a.kind) c.in-Ok.k (rw (c.low.ensures, c.high.ensures) at answer.same) in
     let one = read begun 0 answer (omega arith) in
-    (omega (arith, answer.within, (placed c.args.m.now (at_of c.args.m.now + 1) c.requires.1.fit.size).at, c.requires.0), ((c.requires.0, omega (arith, few, c.mark_kids.ensures)), ready (omega arith) c.requires.1 one))
+    (omega (arith, answer.within, (placed c.args.m.now c.in-Ok.p c.requires.1.fit.size).at, c.in-Ok.ensures.longer, c.requires.0), ((c.requires.0, omega (arith, few, c.kids.ensures)), ready (omega arith) c.requires.1 one))
 
 pub walk_mark-returns : goal.walk_mark-returns
 unfolding mark_go
 walk_mark-returns t c =
     let begun = let a = c.args in
-    start {keep = Some a.room} {G = mark_at (words a.s.now) a.tab.now a.room a.mode a.kind} (λ id u v. step (word_in c.mark_low.result c.mark_high.result) λ w. last (row_go (expr_go (world_at (words a.s.now) a.tab.now id) (tables_in a.tab.now) a.room (mode_of a.mode)) (mark_kids a.kind w) plain v)) c.requires.1
-    (λ id z r. rw (← c.mark_low.ensures, ← c.mark_high.ensures)) in
-    let answer = rw c.in-Is.is at c.word_in.ensures in
+    start {keep = Some a.room} {G = mark_at (words a.s.now) a.tab.now a.room a.mode (kind_of a.kind)} (λ id u v. step (word_in c.low.result c.high.result) λ w. last (row_go (expr_go (world_at (words a.s.now) a.tab.now id) (tables_in a.tab.now) a.room (mode_of a.mode)) (mark_kids (kind_of a.kind) w) plain v)) c.requires.1
+    (λ id z r. rw (← c.low.ensures, ← c.high.ensures)) in
+    let answer = c.in-Ok.ensures.takes in
     let one = read begun 0 answer (omega arith) in
     let ended = let a = c.args in
-    tail c.walk_row.result (omega arith) one (in_pair a.mode 0 (a.mode / 64 * 64) (omega arith) (omega arith) a.room _ (rw c.mark_kids.ensures at c.walk_row.ensures)) in
+    tail c.walk_row.result (omega arith) one (in_pair a.mode 0 (a.mode / 64 * 64) (omega arith) (omega arith) a.room _ (rw c.kids.ensures at c.walk_row.ensures)) in
     ended
 
 -- walk_marks
 pub walk_marks-loop-left-init : goal.walk_marks-loop-left-init
 walk_marks-loop-left-init t c =
-    let a = c.args in begun a.n (mark_at (words a.s.now) a.tab.now a.room a.mode a.kind) c.requires.1
+    let a = c.args in begun a.n (mark_at (words a.s.now) a.tab.now a.room a.mode (kind_of a.kind)) c.requires.1
 
 pub walk_marks-walk_mark-r-requires : goal.walk_marks-walk_mark-r-requires
 walk_marks-walk_mark-r-requires t c =
@@ -464,9 +466,9 @@ unfolding part_go
 walk_part-bounds-m-0 t c =
     omega (arith, c.requires.1.fit.size)
 
-pub walk_part-read_part_head-requires : goal.walk_part-read_part_head-requires
+pub walk_part-read_part-requires : goal.walk_part-read_part-requires
 unfolding part_go
-walk_part-read_part_head-requires t c =
+walk_part-read_part-requires t c =
     c.requires.1.fit.within
 
 pub walk_part-returns-in_default : goal.walk_part-returns-in_default
@@ -474,12 +476,12 @@ unfolding part_go
 walk_part-returns-in_default t c =
     let begun = let a = c.args in
     start {keep = Some a.room} (λ id u v. step read_part λ h. last (elems_at (words a.s.now) a.tab.now a.room a.mode h.count id (part_step (world_at (words a.s.now) a.tab.now id) (mode_of a.mode) h v))) c.requires.1 (λ id z r. refl) in
-    let o = begun in refused 5 (λ e. omega arith) o (stop o (rw c.in_default.is at c.read_part_head.ensures))
+    let o = begun in refused 5 (λ e. omega arith) o (stop o (missing _ c.in_default.not-Ok (fives_part _) c.read_part.ensures))
 
 pub walk_part-overflow_cast-m : goal.walk_part-overflow_cast-m
 unfolding part_go
 walk_part-overflow_cast-m t c =
-    let answer = rw c.in-Is.is at c.read_part_head.ensures in
+    let answer = c.in-Ok.ensures in
     omega (arith, answer.within, c.requires.1.fine.short)
 
 pub walk_part-bounds-m-0-2 : goal.walk_part-bounds-m-0-2
@@ -492,9 +494,9 @@ unfolding part_go
 walk_part-bind_part-requires t c =
     let begun = let a = c.args in
     start {keep = Some a.room} (λ id u v. step read_part λ h. last (elems_at (words a.s.now) a.tab.now a.room a.mode h.count id (part_step (world_at (words a.s.now) a.tab.now id) (mode_of a.mode) h v))) c.requires.1 (λ id z r. refl) in
-    let answer = rw c.in-Is.is at c.read_part_head.ensures in
+    let answer = c.in-Ok.ensures in
     let paid = part-paid _ _ _ _ answer in
-    let one = read begun (path_cost c.in-Is.h.path) answer (omega (arith, paid.0)) in
+    let one = read begun (path_cost c.in-Ok.h.path) answer (omega (arith, paid.0)) in
     ready (omega arith) c.requires.1 one
 
 pub walk_part-walk_elems-requires : goal.walk_part-walk_elems-requires
@@ -502,12 +504,12 @@ unfolding part_go
 walk_part-walk_elems-requires t c =
     let begun = let a = c.args in
     start {keep = Some a.room} (λ id u v. step read_part λ h. last (elems_at (words a.s.now) a.tab.now a.room a.mode h.count id (part_step (world_at (words a.s.now) a.tab.now id) (mode_of a.mode) h v))) c.requires.1 (λ id z r. refl) in
-    let answer = rw c.in-Is.is at c.read_part_head.ensures in
+    let answer = c.in-Ok.ensures in
     let paid = part-paid _ _ _ _ answer in
-    let one = read begun (path_cost c.in-Is.h.path) answer (omega (arith, paid.0)) in
+    let one = read begun (path_cost c.in-Ok.h.path) answer (omega (arith, paid.0)) in
     let two = let a = c.args in
-    did (λ id u v. last (elems_at (words a.s.now) a.tab.now a.room a.mode c.in-Is.h.count id v)) 0 (omega arith) (omega arith) one c.bind_part.ensures in
-    let x = c.bind_part.ensures.at in let y = (placed c.args.m.now c.in-Is.p c.requires.1.fit.size).at in
+    did (λ id u v. last (elems_at (words a.s.now) a.tab.now a.room a.mode c.in-Ok.h.count id v)) 0 (omega arith) (omega arith) one c.bind_part.ensures in
+    let x = c.bind_part.ensures.at in let y = (placed c.args.m.now c.in-Ok.p c.requires.1.fit.size).at in
     (omega (arith, paid.1, answer.within, x, y, c.requires.0), (c.requires.0, ready (omega arith) c.requires.1 two))
 
 pub walk_part-returns : goal.walk_part-returns
@@ -515,11 +517,11 @@ unfolding part_go
 walk_part-returns t c =
     let begun = let a = c.args in
     start {keep = Some a.room} (λ id u v. step read_part λ h. last (elems_at (words a.s.now) a.tab.now a.room a.mode h.count id (part_step (world_at (words a.s.now) a.tab.now id) (mode_of a.mode) h v))) c.requires.1 (λ id z r. refl) in
-    let answer = rw c.in-Is.is at c.read_part_head.ensures in
+    let answer = c.in-Ok.ensures in
     let paid = part-paid _ _ _ _ answer in
-    let one = read begun (path_cost c.in-Is.h.path) answer (omega (arith, paid.0)) in
+    let one = read begun (path_cost c.in-Ok.h.path) answer (omega (arith, paid.0)) in
     let two = let a = c.args in
-    did (λ id u v. last (elems_at (words a.s.now) a.tab.now a.room a.mode c.in-Is.h.count id v)) 0 (omega arith) (omega arith) one c.bind_part.ensures in
+    did (λ id u v. last (elems_at (words a.s.now) a.tab.now a.room a.mode c.in-Ok.h.count id v)) 0 (omega arith) (omega arith) one c.bind_part.ensures in
     let ended = tail c.walk_elems.result (omega arith) two c.walk_elems.ensures in
     ended
 
@@ -552,9 +554,9 @@ unfolding pattern_go
 walk_pattern-bounds-m-0 t c =
     omega (arith, c.requires.1.fit.size)
 
-pub walk_pattern-word_in-requires : goal.walk_pattern-word_in-requires
+pub walk_pattern-any_word-requires : goal.walk_pattern-any_word-requires
 unfolding pattern_go
-walk_pattern-word_in-requires t c =
+walk_pattern-any_word-requires t c =
     c.requires.1.fit.within
 
 pub walk_pattern-returns-in_default : goal.walk_pattern-returns-in_default
@@ -562,12 +564,12 @@ unfolding pattern_go
 walk_pattern-returns-in_default t c =
     let begun = let a = c.args in
     start {keep = Some a.room} (λ id u v. step any_word λ n. last (parts_at (words a.s.now) a.tab.now a.room a.mode n id v)) c.requires.1 (λ id z r. refl) in
-    let o = begun in refused 5 (λ e. omega arith) o (stop o (rw c.in_default.is at c.word_in.ensures))
+    let o = begun in refused 5 (λ e. omega arith) o (stop o (missing _ c.in_default.not-Ok (fives_word _ _ _) c.any_word.ensures.takes))
 
-pub walk_pattern-overflow_add-m : goal.walk_pattern-overflow_add-m
+pub walk_pattern-overflow_cast-m : goal.walk_pattern-overflow_cast-m
 unfolding pattern_go
-walk_pattern-overflow_add-m t c =
-    let answer = rw c.in-Is.is at c.word_in.ensures in
+walk_pattern-overflow_cast-m t c =
+    let answer = c.in-Ok.ensures.takes in
     omega (arith, answer.within, c.requires.1.fine.short)
 
 pub walk_pattern-bounds-m-0-2 : goal.walk_pattern-bounds-m-0-2
@@ -580,16 +582,16 @@ unfolding pattern_go
 walk_pattern-walk_parts-requires t c =
     let begun = let a = c.args in
     start {keep = Some a.room} (λ id u v. step any_word λ n. last (parts_at (words a.s.now) a.tab.now a.room a.mode n id v)) c.requires.1 (λ id z r. refl) in
-    let answer = rw c.in-Is.is at c.word_in.ensures in
+    let answer = c.in-Ok.ensures.takes in
     let one = read begun 0 answer (omega arith) in
-    (omega (arith, answer.within, (placed c.args.m.now (at_of c.args.m.now + 1) c.requires.1.fit.size).at, c.requires.0), (c.requires.0, ready (omega arith) c.requires.1 one))
+    (omega (arith, answer.within, (placed c.args.m.now c.in-Ok.p c.requires.1.fit.size).at, c.in-Ok.ensures.longer, c.requires.0), (c.requires.0, ready (omega arith) c.requires.1 one))
 
 pub walk_pattern-returns : goal.walk_pattern-returns
 unfolding pattern_go
 walk_pattern-returns t c =
     let begun = let a = c.args in
     start {keep = Some a.room} (λ id u v. step any_word λ n. last (parts_at (words a.s.now) a.tab.now a.room a.mode n id v)) c.requires.1 (λ id z r. refl) in
-    let answer = rw c.in-Is.is at c.word_in.ensures in
+    let answer = c.in-Ok.ensures.takes in
     let one = read begun 0 answer (omega arith) in
     let ended = tail c.walk_parts.result (omega arith) one c.walk_parts.ensures in
     ended
@@ -638,7 +640,7 @@ walk_rest-returns-then-b-ne0 t c =
     start {keep = Some a.room} (λ id u v. step (inner_at (words a.s.now) a.tab.now a.room a.mode a.f id v) λ x. step (row_go (expr_go (world_at (words a.s.now) a.tab.now id) (tables_in a.tab.now) a.room (mode_of a.mode)) (kids_of a.f) (settings (world_at (words a.s.now) a.tab.now id).is_id a.f (first_of a.mode)) x) λ y. last (marks_at (words a.s.now) a.tab.now a.room a.mode 0 (items_of a.f) id y)) c.requires.1 (λ id z r. refl) in
     let one = go begun c.walk_inner-a.ensures (omega arith) c.if-a-ne0.false in
     let kids = let a = c.args in
-    in-kids a.mode c.pair_of.result (a.mode / 64 * 64 + c.pair_of.result) c.pair_of.ensures.below refl a.room (kids_of a.f) c.pair_of.ensures.result_value (rw c.kids_of.ensures at c.walk_many-b.ensures) in
+    in-kids a.mode c.pair_of.result (a.mode / 64 * 64 + c.pair_of.result) c.pair_of.ensures.below refl a.room (kids_of a.f) c.pair_of.ensures.result_value (rw c.kids.ensures at c.walk_many-b.ensures) in
     let bad2 = fell c.walk_many-b.result c.if-b-ne0.true one kids in
     bad2
 
@@ -649,7 +651,7 @@ walk_rest-walk_marks-requires t c =
     start {keep = Some a.room} (λ id u v. step (inner_at (words a.s.now) a.tab.now a.room a.mode a.f id v) λ x. step (row_go (expr_go (world_at (words a.s.now) a.tab.now id) (tables_in a.tab.now) a.room (mode_of a.mode)) (kids_of a.f) (settings (world_at (words a.s.now) a.tab.now id).is_id a.f (first_of a.mode)) x) λ y. last (marks_at (words a.s.now) a.tab.now a.room a.mode 0 (items_of a.f) id y)) c.requires.1 (λ id z r. refl) in
     let one = go begun c.walk_inner-a.ensures (omega arith) c.if-a-ne0.false in
     let kids = let a = c.args in
-    in-kids a.mode c.pair_of.result (a.mode / 64 * 64 + c.pair_of.result) c.pair_of.ensures.below refl a.room (kids_of a.f) c.pair_of.ensures.result_value (rw c.kids_of.ensures at c.walk_many-b.ensures) in
+    in-kids a.mode c.pair_of.result (a.mode / 64 * 64 + c.pair_of.result) c.pair_of.ensures.below refl a.room (kids_of a.f) c.pair_of.ensures.result_value (rw c.kids.ensures at c.walk_many-b.ensures) in
     let two = go one kids (omega arith) c.if-b-ne0.false in
     let o = two in (omega (arith, o.from, c.requires.0), (omega (arith, c.requires.0), ready (omega arith) c.requires.1 o))
 
@@ -660,10 +662,10 @@ walk_rest-returns t c =
     start {keep = Some a.room} (λ id u v. step (inner_at (words a.s.now) a.tab.now a.room a.mode a.f id v) λ x. step (row_go (expr_go (world_at (words a.s.now) a.tab.now id) (tables_in a.tab.now) a.room (mode_of a.mode)) (kids_of a.f) (settings (world_at (words a.s.now) a.tab.now id).is_id a.f (first_of a.mode)) x) λ y. last (marks_at (words a.s.now) a.tab.now a.room a.mode 0 (items_of a.f) id y)) c.requires.1 (λ id z r. refl) in
     let one = go begun c.walk_inner-a.ensures (omega arith) c.if-a-ne0.false in
     let kids = let a = c.args in
-    in-kids a.mode c.pair_of.result (a.mode / 64 * 64 + c.pair_of.result) c.pair_of.ensures.below refl a.room (kids_of a.f) c.pair_of.ensures.result_value (rw c.kids_of.ensures at c.walk_many-b.ensures) in
+    in-kids a.mode c.pair_of.result (a.mode / 64 * 64 + c.pair_of.result) c.pair_of.ensures.below refl a.room (kids_of a.f) c.pair_of.ensures.result_value (rw c.kids.ensures at c.walk_many-b.ensures) in
     let two = go one kids (omega arith) c.if-b-ne0.false in
     let ended = let a = c.args in
-    tail c.walk_marks.result (omega arith) two (in-marks a.mode 0 (a.mode / 64 * 64) (omega arith) (omega arith) a.room 0 (items_of a.f) (rw c.items_of.ensures at c.walk_marks.ensures)) in
+    tail c.walk_marks.result (omega arith) two (in-marks a.mode 0 (a.mode / 64 * 64) (omega arith) (omega arith) a.room 0 (items_of a.f) (rw c.items.ensures at c.walk_marks.ensures)) in
     ended
 
 -- walk_row

@@ -1,3 +1,4 @@
+use Rattle.heads.specs.Answer.{kind_of}
 use Rattle.std.specs.Prelude.{Some}
 use Prim.Native.Nat.{◌*◌, ◌+◌, ◌-◌}
 use Rattle.words.specs.Words.{words}
@@ -60,7 +61,7 @@ abbrev pub decreases-walk_many-loop-left : goal.decreases-walk_many-loop-left
 decreases-walk_many-loop-left l = l.left
 
 abbrev pub invariant-walk_marks-loop-left : goal.invariant-walk_marks-loop-left
-invariant-walk_marks-loop-left l = Turning (Some l.room) (words l.s) l.tab l.initial.m l.initial.vis l.initial.found l.n (mark_at (words l.s) l.tab l.room l.mode l.kind) l.m l.vis l.found l.left
+invariant-walk_marks-loop-left l = Turning (Some l.room) (words l.s) l.tab l.initial.m l.initial.vis l.initial.found l.n (mark_at (words l.s) l.tab l.room l.mode (kind_of l.kind)) l.m l.vis l.found l.left
 
 abbrev pub decreases-walk_marks-loop-left : goal.decreases-walk_marks-loop-left
 decreases-walk_marks-loop-left l = l.left

@@ -4,12 +4,12 @@ use Rattle.walk.proofs.bind_part.Goals as goal
 
 pub bind_path-requires : goal.bind_path-requires
 bind_path-requires c =
-    rw c.in-Var.is at c.requires
+    rw c.in-Some.is at c.requires
 
-pub returns-in-Var : goal.returns-in-Var
-returns-in-Var c =
-    rw c.in-Var.is c.bind_path.ensures
+pub returns-in-Some : goal.returns-in-Some
+returns-in-Some c =
+    rw c.in-Some.is c.bind_path.ensures
 
-pub returns-in-Nothing : goal.returns-in-Nothing
-returns-in-Nothing c =
-    path-none c.args.mode c.in-Nothing.is
+pub returns-in-None : goal.returns-in-None
+returns-in-None c =
+    path-none c.args.mode c.in-None.is
