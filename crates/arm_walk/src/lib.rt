@@ -13,7 +13,6 @@ ghost use Rattle.arm_walk.specs.Taking.{Stores, Takes};
 use clause_parts::next_word;
 use clause_walk::walk_clause;
 use entries::put_carried;
-use heads::Word;
 use steps::{CUR, SLOTS, TAKEN, TOP, leave};
 
 // What a clause carried, stored behind `from` entries: all that is visible after it, by the scope before the current one.
@@ -92,13 +91,13 @@ fn walk_arm(
     ensures takes { Takes (words s.now) tab.old m.old vis.old found.old carried.old carried.new (arm_at (words s.now) tab.old 192) }
     ensures tab_unchanged { (tab.new ≡ tab.old) × Passes 0 (words s.now) tab.old m.old vis.old found.old held.old m.new vis.new found.new held.new (arm_at (words s.now) tab.old 192) result }
 {
-    let Word::Is(start) = next_word(s, m, 0, 4294967296) else {
+    let Some(start) = next_word(s, m, 0, 4294967296) else {
         return 5;
     };
-    let Word::Is(_) = next_word(s, m, start, 4294967296) else {
+    let Some(_) = next_word(s, m, start, 4294967296) else {
         return 5;
     };
-    let Word::Is(n) = next_word(s, m, 0, 4294967296) else {
+    let Some(n) = next_word(s, m, 0, 4294967296) else {
         return 5;
     };
     leave(tab, m, vis, 0, 0);

@@ -3,7 +3,7 @@
 -- asks) or refused (`halted`, `stopped`, `stays`); at the end stands the answer (`passed`, `refused`). A loop is a walk of which rounds are left
 -- (`begun`, `turn`, `fall`, `over`). `lend` and `still-held` put the same with other pairs held. Where no
 -- name is marked none is hushed (`none-hushed`).
-use Rattle.std.specs.Prelude.{Option, None}
+use Rattle.std.specs.Prelude.{Option, None, Some}
 use Prim.Native.Nat.{ℕ, zero, suc, ◌+◌, ◌-◌, ◌<◌, ◌≤◌}
 use native.Mathlib.Omega.{arith}
 use mathlib.Core.Path.{◌≡◌, refl, ap, ◌∙◌}
@@ -14,8 +14,6 @@ use lib.ListN.{length, get_or, set, drop}
 use borrow.Author.Tests.{ltb-true}
 use Rattle.heads.specs.Got.{Got, ok, no, bind, word_in}
 use Rattle.heads.proofs.Chain.{Chain, step, last, run}
-use Rattle.heads.specs.declared.Word.{Word}
-use Rattle.heads.specs.declared.Word.TheVariants as word
 use Rattle.expr.proofs.Inverse.{never, word-gives}
 use Rattle.fused.specs.Fused.{Both, Go, rounds}
 use Rattle.steps.specs.Memory.{at_of, slots_in, hushed_in}
@@ -105,28 +103,28 @@ module _ {j : ℕ} {ws tab m₀ vis₀ found₀ : List ℕ} {G : Goer} {c : ℕ}
   last_one (suc a) l e o x = fell {K = λ id s u. last (ok u)} (suc a) (λ q. never (cc)) e (recast (λ id s t. step (H id t) (λ u. last (ok u))) o (λ id s t r. bind_ok (H id t r))) x
 
 -- ---- a word
-pub in-range : {ws : List ℕ} {lo hi : ℕ} {m m' : List ℕ} {r : Word} {w : ℕ} → Next ws lo hi m m' r → r ≡ word.Is w → (lo ≤ w) × (w < hi)
+pub in-range : {ws : List ℕ} {lo hi : ℕ} {m m' : List ℕ} {r : Option ℕ} {w : ℕ} → Next ws lo hi m m' r → r ≡ Some w → (lo ≤ w) × (w < hi)
 in-range {ws} {lo} {hi} {m} {m'} {r} {w} n q =
     let z = (word-gives lo hi (drop (at_of m) ws)).given w (drop (at_of m + 1) ws) (rw q at n.got.same) in
     (z.1, z.2)
 
-pub stays : {ws : List ℕ} {lo hi : ℕ} {m m' : List ℕ} {r : Word} → Next ws lo hi m m' r → r ≡ word.No → m' ≡ m
+pub stays : {ws : List ℕ} {lo hi : ℕ} {m m' : List ℕ} {r : Option ℕ} → Next ws lo hi m m' r → r ≡ None → m' ≡ m
 stays n q = rw q at n.now
 
-pub goes_on_lem : {ws : List ℕ} {lo hi : ℕ} {m m' : List ℕ} {r : Word} {w : ℕ} → Next ws lo hi m m' r → r ≡ word.Is w → m' ≡ set m 0 (at_of m + 1)
+pub goes_on_lem : {ws : List ℕ} {lo hi : ℕ} {m m' : List ℕ} {r : Option ℕ} {w : ℕ} → Next ws lo hi m m' r → r ≡ Some w → m' ≡ set m 0 (at_of m + 1)
 goes_on_lem n q = rw q at n.now
 
-module _ {keep : Option ℕ} {j : ℕ} {ws tab m₀ vis₀ found₀ : List ℕ} {G : Goer} {c : ℕ} {m vis found : List ℕ} {lo hi : ℕ} {K : (ℕ → ℕ) → ℕ → Both → Both → Chain Both} {m' : List ℕ} {r : Word}
+module _ {keep : Option ℕ} {j : ℕ} {ws tab m₀ vis₀ found₀ : List ℕ} {G : Goer} {c : ℕ} {m vis found : List ℕ} {lo hi : ℕ} {K : (ℕ → ℕ) → ℕ → Both → Both → Chain Both} {m' : List ℕ} {r : Option ℕ}
     (o : Stage keep j ws tab m₀ vis₀ found₀ G c m vis found (λ id s t. step (word_in lo hi) (λ x. K id x s t))) (n : Next ws lo hi m m' r) where
-  pub past : {w : ℕ} → r ≡ word.Is w → Stage keep j ws tab m₀ vis₀ found₀ G (c + 1) m' vis found (λ id. K id w)
+  pub past : {w : ℕ} → r ≡ Some w → Stage keep j ws tab m₀ vis₀ found₀ G (c + 1) m' vis found (λ id. K id w)
   past q = rw (goes_on_lem n q) (read o (c + 1) (rw q at n.got) (omega arith))
 
-  pub stopped : r ≡ word.No → Refuses ws tab m₀ vis₀ found₀ G 5
+  pub stopped : r ≡ None → Refuses ws tab m₀ vis₀ found₀ G 5
   stopped q = stop o (rw q at n.got)
 
-module _ {j : ℕ} {ws tab m₀ vis₀ found₀ : List ℕ} {G : Goer} {c : ℕ} {m vis found : List ℕ} {lo hi : ℕ} {K : (ℕ → ℕ) → ℕ → Both → Both → Chain Both} {m' : List ℕ} {r : Word} {held held' : List ℕ}
+module _ {j : ℕ} {ws tab m₀ vis₀ found₀ : List ℕ} {G : Goer} {c : ℕ} {m vis found : List ℕ} {lo hi : ℕ} {K : (ℕ → ℕ) → ℕ → Both → Both → Chain Both} {m' : List ℕ} {r : Option ℕ} {held held' : List ℕ}
     (o : Stage None j ws tab m₀ vis₀ found₀ G c m vis found (λ id s t. step (word_in lo hi) (λ x. K id x s t))) (n : Next ws lo hi m m' r) where
-  pub halted : r ≡ word.No → length held' ≡ length held → Passes j ws tab m₀ vis₀ found₀ held m' vis found held' G 5
+  pub halted : r ≡ None → length held' ≡ length held → Passes j ws tab m₀ vis₀ found₀ held m' vis found held' G 5
   halted q e = rw (stays n q) (refused 5 (λ z. omega arith) o e (stopped o n q))
 
 -- what a word asks

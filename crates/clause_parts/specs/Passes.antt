@@ -1,9 +1,7 @@
 -- What a walk over parts of clauses asks and leaves. A WITH replaces what is visible, so nothing is said of what stays below.
-use Rattle.std.specs.Prelude.{ℕ, zero, suc, ◌+◌, ◌*◌, ◌<◌, ◌≤◌, ◌≡◌, true, List, length, get_or, set, drop}
-use Rattle.heads.specs.Got.{no, word_in}
-use Rattle.heads.specs.Answer.{Ans, word_got, word_end}
-use Rattle.heads.specs.declared.Word.{Word}
-use Rattle.heads.specs.declared.Word.TheVariants as word
+use Rattle.std.specs.Prelude.{ℕ, zero, suc, ◌+◌, ◌*◌, ◌<◌, ◌≤◌, ◌≡◌, true, List, length, get_or, set, drop, Option, Some, None}
+use Rattle.heads.specs.Got.{Got, ok, no, word_in}
+use Rattle.heads.specs.Answer.{Ans}
 use Rattle.fused.specs.Fused.{Both}
 use Rattle.fused.specs.Clauses.{counted_row}
 use Rattle.steps.specs.Memory.{at_of, slots_in, tables_in, world_at, mode_of}
@@ -38,12 +36,21 @@ pub record Held (ws tab held : List ℕ) (mode : ℕ) : Type 0 where
   pub resolves : (mode_of mode).resolves ≡ true
   pub unmarked : Unmarked tab
 
--- where the walk stands after a word, which it passes if it is in range
-abbrev pub moved : List ℕ → Word → List ℕ
-moved m (word.Is w) = set m 0 (at_of m + 1)
-moved m word.No = m
+-- a word that was read at `at`, or none that is there and in range, and where that ends
+abbrev pub word_got : List ℕ → ℕ → Option ℕ → Got ℕ
+word_got ws at (Some w) = ok w (drop (at + 1) ws)
+word_got ws at None = no 5
 
-pub record Next (ws : List ℕ) (lo hi : ℕ) (m m' : List ℕ) (r : Word) : Type 0 where
+abbrev pub word_end : ℕ → Option ℕ → ℕ
+word_end at (Some w) = at + 1
+word_end at None = at
+
+-- where the walk stands after a word, which it passes if it is in range
+abbrev pub moved : List ℕ → Option ℕ → List ℕ
+moved m (Some w) = set m 0 (at_of m + 1)
+moved m None = m
+
+pub record Next (ws : List ℕ) (lo hi : ℕ) (m m' : List ℕ) (r : Option ℕ) : Type 0 where
   pub got : Ans ws (at_of m) (word_in lo hi (drop (at_of m) ws)) (word_got ws (at_of m) r) (word_end (at_of m) r)
   pub now : m' ≡ moved m r
 

@@ -9,7 +9,7 @@ ghost use Rattle.steps.specs.Hold.{Ready};
 ghost use Rattle.walk.specs.Goes.{Walked};
 ghost use Rattle.clause_parts.specs.Passes.{Next, counted_at};
 
-use heads::{Word, word_in};
+use heads::Section;
 use steps::AT;
 use walk::walk_many;
 
@@ -25,19 +25,21 @@ pub struct Head {
 }
 
 // The next word, if it is there and in range; the walk then stands behind it.
-pub fn next_word(s: &[u8], m: &mut [u32], lo: u32, hi: u64) -> Word
+pub fn next_word(s: &[u8], m: &mut [u32], lo: u32, hi: u64) -> Option<u32>
     requires { (length m.old ≡ 64) × ((at_of m.old ≤ length (words s.now)) × (length (words s.now) ≤ 2048)) }
     ensures { Next (words s.now) lo hi m.old m.new result }
 {
-    let at = m[AT];
-    let r = word_in(s, at as usize, lo, hi);
-    match r {
-        Word::Is(_) => {
-            m[AT] = at + 1;
-            r
-        }
-        Word::No => r,
-    }
+    let section = Section {
+        bytes: s,
+        names: 0,
+        rows: 0,
+        bound: None,
+    };
+    let Ok((w, p)) = section.word_in(m[AT] as usize, lo, hi) else {
+        return None;
+    };
+    m[AT] = p as u32;
+    Some(w)
 }
 
 // A count, and as many expressions.
@@ -52,7 +54,7 @@ pub fn walk_counted(
     requires { Ready 0 (words s.now) tab.now m.old vis.old found.old }
     ensures { Walked 48 (words s.now) tab.now m.old vis.old found.old m.new vis.new found.new (counted_at (words s.now) tab.now mode) result }
 {
-    let Word::Is(n) = next_word(s, m, 0, 4294967296) else {
+    let Some(n) = next_word(s, m, 0, 4294967296) else {
         return 5;
     };
     walk_many(s, tab, m, vis, found, DEPTH, n as usize, mode / 64 * 64)

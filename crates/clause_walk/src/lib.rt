@@ -11,7 +11,6 @@ ghost use Rattle.clause_parts.specs.Passes.{Held, Passes};
 ghost use Rattle.clause_walk.specs.Clauses.{marked_at, scope_at, match_at, yield_at, unwind_at, unwound_at, yields_at, call_at, body_at, clause_at};
 
 use clause_parts::{DEPTH, Head, next_word, walk_counted};
-use heads::Word;
 use return_walk::{walk_return, walk_sorted_return};
 use steps::{NAMES, Row, bind_anew, bind_name, enter, note};
 use walk::{walk_expr, walk_marks, walk_pattern, walk_row};
@@ -30,7 +29,7 @@ fn walk_marked(
     requires { Ready 0 (words s.now) tab.now m.old vis.old found.old }
     ensures { Passes 0 (words s.now) tab.now m.old vis.old found.old [] m.new vis.new found.new [] (marked_at (words s.now) tab.now mode 0 0 kind) result }
 {
-    let Word::Is(n) = next_word(s, m, 0, 4294967296) else {
+    let Some(n) = next_word(s, m, 0, 4294967296) else {
         return 5;
     };
     walk_marks(s, tab, m, vis, found, DEPTH, kind, n, mode)
@@ -91,7 +90,7 @@ fn walk_unwind(
     requires { ((mode_of mode).resolves ≡ true) × (Ready 3 (words s.now) tab.now m.old vis.old found.old) }
     ensures { Passes 3 (words s.now) tab.now m.old vis.old found.old [] m.new vis.new found.new [] (unwind_at (words s.now) tab.now mode head.start head.end) result }
 {
-    let Word::Is(v) = next_word(s, m, 0, 4294967296) else {
+    let Some(v) = next_word(s, m, 0, 4294967296) else {
         return 5;
     };
     bind_unwind(s, tab, m, vis, found, head, v);
@@ -110,13 +109,13 @@ fn walk_yield(
     requires { Ready 0 (words s.now) tab.now m.old vis.old found.old }
     ensures { Passes 0 (words s.now) tab.now m.old vis.old found.old [] m.new vis.new found.new [] (yield_at (words s.now) tab.now head.start head.end) result }
 {
-    let Word::Is(x) = next_word(s, m, 0, tab[NAMES] as u64) else {
+    let Some(x) = next_word(s, m, 0, tab[NAMES] as u64) else {
         return 5;
     };
-    let Word::Is(y) = next_word(s, m, 0, tab[NAMES] as u64 + 1) else {
+    let Some(y) = next_word(s, m, 0, tab[NAMES] as u64 + 1) else {
         return 5;
     };
-    let Word::Is(v) = next_word(s, m, 0, 4294967296) else {
+    let Some(v) = next_word(s, m, 0, 4294967296) else {
         return 5;
     };
     let name = if y == 0 { x } else { y - 1 };
@@ -166,7 +165,7 @@ fn walk_call(
     if r != 0 {
         return r;
     }
-    let Word::Is(n) = next_word(s, m, 0, 4294967296) else {
+    let Some(n) = next_word(s, m, 0, 4294967296) else {
         return 5;
     };
     walk_yields(s, tab, m, vis, found, head, n)
@@ -185,7 +184,7 @@ fn walk_match(
     requires { ((mode_of mode).resolves ≡ true) × (Ready 3 (words s.now) tab.now m.old vis.old found.old) }
     ensures { Passes 3 (words s.now) tab.now m.old vis.old found.old [] m.new vis.new found.new [] (match_at (words s.now) tab.now mode head.start head.end) result }
 {
-    let Word::Is(_) = next_word(s, m, 0, 2) else {
+    let Some(_) = next_word(s, m, 0, 2) else {
         return 5;
     };
     walk_opening(s, tab, m, vis, found, head, 2, mode)
@@ -237,13 +236,13 @@ pub fn walk_clause(
     requires { Held (words s.now) tab.old held.old mode × (Ready 0 (words s.now) tab.old m.old vis.old found.old) }
     ensures { (tab.new ≡ tab.old) × Passes 0 (words s.now) tab.old m.old vis.old found.old held.old m.new vis.new found.new held.new (clause_at (words s.now) tab.old mode) result }
 {
-    let Word::Is(kind) = next_word(s, m, 0, 4294967296) else {
+    let Some(kind) = next_word(s, m, 0, 4294967296) else {
         return 5;
     };
-    let Word::Is(start) = next_word(s, m, 0, 4294967296) else {
+    let Some(start) = next_word(s, m, 0, 4294967296) else {
         return 5;
     };
-    let Word::Is(end) = next_word(s, m, start, 4294967296) else {
+    let Some(end) = next_word(s, m, start, 4294967296) else {
         return 5;
     };
     walk_body(

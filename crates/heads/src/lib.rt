@@ -9,7 +9,7 @@ ghost use Rattle.refusal.specs.Number.{number_of};
 ghost use Rattle.heads.specs.Got.{word_in, any_word, flag};
 ghost use Rattle.heads.specs.Form.{shape_of, limit_of, form_none, form_one, case_rest, comp_rest, rest_of, read_form, kids_of, items_of, has_pattern};
 ghost use Rattle.heads.specs.Head.{allowed, read_maybe, read_part, read_elem, mark_low, mark_high, mark_kids, deep_cause};
-ghost use Rattle.heads.specs.Answer.{Takes, longer, words_of, tables_of, is_in, row_ids, kind_of};
+ghost use Rattle.heads.specs.Answer.{Takes, one_on, longer, words_of, tables_of, is_in, row_ids, kind_of};
 
 use refusal::Refusal;
 use words::{count, word};
@@ -126,7 +126,7 @@ impl Section<'_> {
     // The word at `at`, if it is there, at least lo and below hi.
     pub fn word_in(&self, at: usize, lo: u32, hi: u64) -> Result<(u32, usize), Refusal>
         requires { at ≤ length (words_of self.now) }
-        ensures longer { longer at result }
+        ensures one { one_on at result }
         ensures takes { Takes (words_of self.now) at (word_in lo hi) result }
     {
         if at < count(self.bytes) {
@@ -141,7 +141,7 @@ impl Section<'_> {
     // Any word.
     pub fn any_word(&self, at: usize) -> Result<(u32, usize), Refusal>
         requires { at ≤ length (words_of self.now) }
-        ensures longer { longer at result }
+        ensures one { one_on at result }
         ensures takes { Takes (words_of self.now) at any_word result }
     {
         self.word_in(at, 0, 4294967296)

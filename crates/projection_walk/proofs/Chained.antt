@@ -1,14 +1,13 @@
 -- What carries, in a row: a word first (`word-passes`, `word-refused`; what stands behind it: `word_size`, `word_held`, `word-star`,
 -- `word-holding`, `word-ready`), one after the other (`then-passes`, `first-refused`, `carried-ready`), a walk of expressions, of which nothing is held
 -- (`walked-passes`), or put another way (`as-passes`).
+use Rattle.std.specs.Prelude.{Option, Some, None}
 use Prim.Native.Nat.{ℕ, zero, suc, ◌+◌, ◌≤◌}
 use native.Mathlib.Omega.{arith}
 use mathlib.Core.Path.{◌≡◌, refl, ◌∙◌}
 use mathlib.Core.List.{List}
 use lib.ListN.{length, drop}
 use Rattle.heads.specs.Got.{Got, ok, bind, word_in}
-use Rattle.heads.specs.declared.Word.{Word}
-use Rattle.heads.specs.declared.Word.TheVariants as word
 use Rattle.fused.specs.Fused.{Both}
 use Rattle.fused.specs.Clauses.{Taken}
 use Rattle.steps.specs.Memory.{at_of, top_of, held_of, slots_in}
@@ -111,7 +110,7 @@ carried-ready a e h x =
     record { fine = h.fine; fit = lower (omega arith) (omega arith) (y.fit 0 (lower (omega arith) (omega arith) h.fit)) }
 
 -- ---- a word first
-module _ {ws m m1 : List ℕ} {lo hi w : ℕ} {r : Word} (size : length m ≡ 64) (n : Next ws lo hi m m1 r) (q : r ≡ word.Is w) where
+module _ {ws m m1 : List ℕ} {lo hi w : ℕ} {r : Option ℕ} (size : length m ≡ 64) (n : Next ws lo hi m m1 r) (q : r ≡ Some w) where
   pub word_size : length m1 ≡ 64
   word_size = rw (goes_on_lem n q) ((placed m (at_of m + 1) size).size ∙ size)
 
@@ -130,7 +129,7 @@ module _ {ws m m1 : List ℕ} {lo hi w : ℕ} {r : Word} (size : length m ≡ 64
   pub word-holding : {tab held : List ℕ} {i j : ℕ} → i ≤ j + 1 → Holding j ws tab m held → Holding i ws tab m1 held
   word-holding l o = record { room = o.room; few = omega (arith, word_held, word-star, word_at, o.few); star = omega (arith, word-star, o.star); unmarked = o.unmarked }
 
-module _ {ws tab m vis found m1 : List ℕ} {lo hi w : ℕ} {r : Word} (n : Next ws lo hi m m1 r) (q : r ≡ word.Is w) where
+module _ {ws tab m vis found m1 : List ℕ} {lo hi w : ℕ} {r : Option ℕ} (n : Next ws lo hi m m1 r) (q : r ≡ Some w) where
   pub word-ready : {i j : ℕ} → i ≤ j + 1 → Ready j ws tab m vis found → Ready i ws tab m1 vis found
   word-ready l h =
       let a = rw q at n.got in
@@ -174,7 +173,7 @@ module _ {ws tab m vis found m1 : List ℕ} {lo hi w : ℕ} {r : Word} (n : Next
           carries = λ id s b. rw g.same (rw (word_at size n q, word_held size n q, word-star size n q) at (x.carries id s (rw e (placed-holds m (at_of m + 1) size b))));
         }
 
-pub word-refused : {ws tab m vis found held m1 : List ℕ} {j lo hi : ℕ} {r : Word} (H : ℕ → Projector) → Next ws lo hi m m1 r → r ≡ word.No → Carries j ws tab m vis found held m1 vis found held (λ id q s r. bind (word_in lo hi r) (λ x r1. H x id q s r1)) 5
+pub word-refused : {ws tab m vis found held m1 : List ℕ} {j lo hi : ℕ} {r : Option ℕ} (H : ℕ → Projector) → Next ws lo hi m m1 r → r ≡ None → Carries j ws tab m vis found held m1 vis found held (λ id q s r. bind (word_in lo hi r) (λ x r1. H x id q s r1)) 5
 word-refused H n q =
     let g = rw q at n.got in
     rw (stays n q) (record { sized = refl; seen = refl; wrote = refl; kept = refl; carries = λ id s b. rw g.same })

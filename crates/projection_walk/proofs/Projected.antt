@@ -17,8 +17,6 @@ use Rattle.heads.specs.Answer.{Ans}
 use Rattle.heads.specs.Form.{read_form}
 use Rattle.heads.specs.declared.Form.{Form}
 use Rattle.heads.specs.declared.Form.TheVariants.{Var, Unresolved}
-use Rattle.heads.specs.declared.Word.{Word}
-use Rattle.heads.specs.declared.Word.TheVariants as word
 use Rattle.clauses.specs.Read.{alias_of}
 use Rattle.tables.specs.Row.{Row, row}
 use Rattle.semantics.specs.World.{World, Direct, other}
@@ -202,12 +200,12 @@ first-as : (w : World) (t : Tables) (m : Mode) (q : Taken) (s : Both) (r : List 
 unfolding projections_go
 first-as w t m q s r = rw (add-one t.names)
 
-module _ {ws tab m vis found held m1 : List ℕ} {r : Word} (mode : ℕ) (n : Next ws 0 (names_in tab + 1) m m1 r) where
-  pub alias-refused : r ≡ word.No → Carries 0 ws tab m vis found held m1 vis found held (projections_at ws tab mode 1) 5
+module _ {ws tab m vis found held m1 : List ℕ} {r : Option ℕ} (mode : ℕ) (n : Next ws 0 (names_in tab + 1) m m1 r) where
+  pub alias-refused : r ≡ None → Carries 0 ws tab m vis found held m1 vis found held (projections_at ws tab mode 1) 5
   alias-refused q =
       as-passes (projections_at ws tab mode 1) 5 (λ id q s. first-as (world_at ws tab id) (tables_in tab) (mode_of mode) q s (drop (at_of m) ws)) (word-refused (carried_at ws tab mode) n q)
 
-  pub alias-passes : {m' vis' found' held' : List ℕ} {w : ℕ} (a : ℕ) → length m ≡ 64 → r ≡ word.Is w → Carries 1 ws tab m1 vis found held m' vis' found' held' (carried_at ws tab mode w) a → Carries 0 ws tab m vis found held m' vis' found' held' (projections_at ws tab mode 1) a
+  pub alias-passes : {m' vis' found' held' : List ℕ} {w : ℕ} (a : ℕ) → length m ≡ 64 → r ≡ Some w → Carries 1 ws tab m1 vis found held m' vis' found' held' (carried_at ws tab mode w) a → Carries 0 ws tab m vis found held m' vis' found' held' (projections_at ws tab mode 1) a
   alias-passes a size q x =
       as-passes (projections_at ws tab mode 1) a (λ id q s. first-as (world_at ws tab id) (tables_in tab) (mode_of mode) q s (drop (at_of m) ws)) (word-passes n q size (carried_at ws tab mode) a (omega arith) x)
 

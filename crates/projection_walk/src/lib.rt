@@ -13,7 +13,7 @@ ghost use Rattle.clause_parts.specs.Passes.{Held};
 ghost use Rattle.projection_walk.specs.Carries.{kept_of, under, NoStar, Named, Holding, Carries, Kept, Adds, KeepsOther, KeptOther, DirectAs, carried_at, projections_at, filtered_at};
 
 use clause_parts::{DEPTH, next_word};
-use heads::{Form, FormRead, Word, read_form};
+use heads::{Form, Section};
 use steps::{
     AT, HELD, MARKS, NAMES, Row, SLOTS, STAR, TOP, WANTS, record_name, row_of, say, use_name,
 };
@@ -106,11 +106,11 @@ fn carry_seen(
     ensures { Adds (words s.now) tab.now m.old vis.now found.old held.old m.new vis.now found.new held.new (λ id. on_names (name_use (world_at (words s.now) tab.now id) x)) alias (a_name x) }
 {
     match find(vis, tab[SLOTS], m[TOP], x) {
-        Found::Is(v, _) => {
+        Some((v, _)) => {
             record_name(s, tab, m, vis, found, x);
             keep(m, held, alias_or(alias, x), v);
         }
-        Found::No => use_name(s, tab, m, vis, found, x),
+        None => use_name(s, tab, m, vis, found, x),
     }
 }
 
@@ -228,7 +228,7 @@ fn walk_projection(
     requires { (Held (words s.now) tab.now held.old mode) × ((Holding 0 (words s.now) tab.now m.old held.old) × (Ready 0 (words s.now) tab.now m.old vis.old found.old)) }
     ensures { Carries 0 (words s.now) tab.now m.old vis.old found.old held.old m.new vis.new found.new held.new (projections_at (words s.now) tab.now mode 1) result }
 {
-    let Word::Is(alias) = next_word(s, m, 0, tab[NAMES] as u64 + 1) else {
+    let Some(alias) = next_word(s, m, 0, tab[NAMES] as u64 + 1) else {
         return 5;
     };
     walk_carried(s, tab, m, vis, found, held, alias, mode)
@@ -272,14 +272,14 @@ pub fn walk_filtered(
     requires { (Held (words s.now) tab.now held.old mode) × ((Holding 0 (words s.now) tab.now m.old held.old) × (Ready (kept_of m.old) (words s.now) tab.now m.old vis.old found.old)) }
     ensures { Carries 0 (words s.now) tab.now m.old vis.old found.old held.old m.new vis.new found.new held.new (filtered_at (words s.now) tab.now mode) result }
 {
-    let Word::Is(n) = next_word(s, m, 0, 4294967296) else {
+    let Some(n) = next_word(s, m, 0, 4294967296) else {
         return 5;
     };
     let r = walk_projections(s, tab, m, vis, found, held, n, mode);
     if r != 0 {
         return r;
     }
-    let Word::Is(g) = next_word(s, m, 0, 2) else {
+    let Some(g) = next_word(s, m, 0, 2) else {
         return 5;
     };
     walk_row(s, tab, m, vis, found, DEPTH, g as usize, mode / 64 * 64)

@@ -1,7 +1,7 @@
 -- Projections of a RETURN whose aliases are held (`Sorting`: k of them, and `left` projections are left), and then its sort keys. It begins
 -- with none held (`begun`); a turn reads an alias (`alias-stage`, `expr-ready`, `hold-asks`), holds it and walks an expression (`turned`,
 -- `fell-expr`), or the alias is refused (`no-alias`); at the end the sort keys are left (`ended`, `keys-ask`).
-use Rattle.std.specs.Prelude.{Some}
+use Rattle.std.specs.Prelude.{Some, Option, None}
 use Prim.Native.Nat.{ℕ, suc, ◌+◌, ◌-◌, ◌*◌, ◌/◌, ◌<◌, ◌≤◌}
 use native.Mathlib.Omega.{arith}
 use native.Mathlib.Numerals.{add-one}
@@ -9,8 +9,6 @@ use mathlib.Core.Path.{◌≡◌, refl, ap, ◌∙◌}
 use mathlib.Core.List.{List, [], ◌++◌}
 use lib.ListN.{length}
 use Rattle.heads.specs.Got.{Got, ok, no, bind, word_in}
-use Rattle.heads.specs.declared.Word.{Word}
-use Rattle.heads.specs.declared.Word.TheVariants as word
 use Rattle.heads.proofs.Chain.{Chain, step, last, run}
 use Rattle.clauses.specs.Read.{alias_of}
 use Rattle.semantics.specs.Resolve.{alias_in}
@@ -89,11 +87,11 @@ module _ {ws tab m₀ vis₀ found₀ held₀ : List ℕ} {mode n : ℕ} {m vis 
       let f = ready {i = 0} (omega arith) g o.stage in
       (omega (arith, f.fit.within, o.few, o.kept), o.named)
 
-  module _ {m1 : List ℕ} {w : Word} (h : 0 < left) (x : Next ws 0 (names_in tab + 1) m m1 w) where
-    pub no-alias : w ≡ word.No → Walked 48 ws tab m₀ vis₀ found₀ m1 vis found (keyed_at ws tab mode n) 5
+  module _ {m1 : List ℕ} {w : Option ℕ} (h : 0 < left) (x : Next ws 0 (names_in tab + 1) m m1 w) where
+    pub no-alias : w ≡ None → Walked 48 ws tab m₀ vis₀ found₀ m1 vis found (keyed_at ws tab mode n) 5
     no-alias q = rw (stays x q) (refused 5 (λ e. omega arith) (unrolled h) (stopped (unrolled h) x q))
 
-    module _ {a : ℕ} (q : w ≡ word.Is a) where
+    module _ {a : ℕ} (q : w ≡ Some a) where
       pub alias-stage : Stage (Some 48) 0 ws tab m₀ vis₀ found₀ (keyed_at ws tab mode n) 1 m1 vis found
           (λ id s t. step (within (world_at ws tab id) (tables_in tab) (mode_of mode) general t) (λ u. Remaining ws tab mode (left - 1) (aliases_in k held ++ alias_in (alias_of a)) id s u))
       alias-stage = past (unrolled h) x q

@@ -11,7 +11,6 @@ ghost use Rattle.clause_parts.specs.Passes.{Passes, Held};
 ghost use Rattle.return_walk.specs.Returns.{aliases_in, AllNamed, HeldAlias, Marked, output_at, outputs_at, returned_at, hushed_at, keyed_at, sorted_at, return_at};
 
 use clause_parts::{DEPTH, Head, next_word, walk_counted};
-use heads::Word;
 use steps::{CUR, MARKS, NAMES, TOP, enter, leave};
 use walk::walk_expr;
 
@@ -27,7 +26,7 @@ fn walk_output(
     requires { Ready 0 (words s.now) tab.now m.old vis.old found.old }
     ensures { Walked 48 (words s.now) tab.now m.old vis.old found.old m.new vis.new found.new (output_at (words s.now) tab.now mode) result }
 {
-    let Word::Is(_) = next_word(s, m, 0, tab[NAMES] as u64 + 1) else {
+    let Some(_) = next_word(s, m, 0, tab[NAMES] as u64 + 1) else {
         return 5;
     };
     walk_expr(s, tab, m, vis, found, DEPTH, mode / 64 * 64)
@@ -69,7 +68,7 @@ fn walk_returned(
     requires { Ready 0 (words s.now) tab.now m.old vis.old found.old }
     ensures { Walked 48 (words s.now) tab.now m.old vis.old found.old m.new vis.new found.new (returned_at (words s.now) tab.now mode) result }
 {
-    let Word::Is(n) = next_word(s, m, 0, 4294967296) else {
+    let Some(n) = next_word(s, m, 0, 4294967296) else {
         return 5;
     };
     walk_outputs(s, tab, m, vis, found, n, mode)
@@ -167,7 +166,7 @@ fn walk_keyed(
     let mut k = 0;
     let mut left = n;
     while 0 < left {
-        let Word::Is(a) = next_word(s, m, 0, tab[NAMES] as u64 + 1) else {
+        let Some(a) = next_word(s, m, 0, tab[NAMES] as u64 + 1) else {
             return 5;
         };
         k = hold(held, k, a);
@@ -195,7 +194,7 @@ fn walk_sorted(
     ensures kept { length held.new ≡ length held.old }
     ensures walked { Walked 48 (words s.now) tab.old m.old vis.old found.old m.new vis.new found.new (sorted_at (words s.now) tab.old mode) result }
 {
-    let Word::Is(n) = next_word(s, m, 0, 4294967296) else {
+    let Some(n) = next_word(s, m, 0, 4294967296) else {
         return 5;
     };
     walk_keyed(s, tab, m, vis, found, held, n, mode)

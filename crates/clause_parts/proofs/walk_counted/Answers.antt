@@ -26,12 +26,12 @@ pub walk_many-requires : goal.walk_many-requires
 walk_many-requires c =
     let given = let a = c.args in let p : Ready 0 (words a.s.now) a.tab.now a.m.now a.vis.now a.found.now = c.requires in p in
     let begun = let a = c.args in start {keep = Some 48} (λ id u v. step (word_in 0 4294967296) (λ n. last (row_go (within (world_at (words a.s.now) a.tab.now id) (tables_in a.tab.now) (mode_of a.mode)) n plain v))) given (λ id s r. refl) in
-    let one = past begun c.next_word.ensures c.in-Is.is in
+    let one = past begun c.next_word.ensures c.in-Some.is in
     (omega arith, ready (omega arith) given one)
 
 pub returns : goal.returns
 returns c =
     let given = let a = c.args in let p : Ready 0 (words a.s.now) a.tab.now a.m.now a.vis.now a.found.now = c.requires in p in
     let begun = let a = c.args in start {keep = Some 48} (λ id u v. step (word_in 0 4294967296) (λ n. last (row_go (within (world_at (words a.s.now) a.tab.now id) (tables_in a.tab.now) (mode_of a.mode)) n plain v))) given (λ id s r. refl) in
-    let one = past begun c.next_word.ensures c.in-Is.is in
+    let one = past begun c.next_word.ensures c.in-Some.is in
     tail _ (omega arith) one (in_pair c.args.mode 0 (c.args.mode / 64 * 64) (omega arith) (omega arith) 48 _ c.walk_many.ensures)

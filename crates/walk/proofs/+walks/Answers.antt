@@ -423,7 +423,7 @@ walk_mark-walk_row-requires t c =
     let answer = c.in-Ok.ensures.takes in
     let few = let a = c.args in mark-few (words a.s.now) (at_of a.m.now) c.in-Ok.p (kind_of a.kind) c.in-Ok.k (rw (c.low.ensures, c.high.ensures) at answer.same) in
     let one = read begun 0 answer (omega arith) in
-    (omega (arith, answer.within, (placed c.args.m.now c.in-Ok.p c.requires.1.fit.size).at, c.in-Ok.ensures.longer, c.requires.0), ((c.requires.0, omega (arith, few, c.kids.ensures)), ready (omega arith) c.requires.1 one))
+    (omega (arith, answer.within, (placed c.args.m.now c.in-Ok.p c.requires.1.fit.size).at, c.in-Ok.ensures.one, c.requires.0), ((c.requires.0, omega (arith, few, c.kids.ensures)), ready (omega arith) c.requires.1 one))
 
 pub walk_mark-returns : goal.walk_mark-returns
 unfolding mark_go
@@ -584,7 +584,7 @@ walk_pattern-walk_parts-requires t c =
     start {keep = Some a.room} (λ id u v. step any_word λ n. last (parts_at (words a.s.now) a.tab.now a.room a.mode n id v)) c.requires.1 (λ id z r. refl) in
     let answer = c.in-Ok.ensures.takes in
     let one = read begun 0 answer (omega arith) in
-    (omega (arith, answer.within, (placed c.args.m.now c.in-Ok.p c.requires.1.fit.size).at, c.in-Ok.ensures.longer, c.requires.0), (c.requires.0, ready (omega arith) c.requires.1 one))
+    (omega (arith, answer.within, (placed c.args.m.now c.in-Ok.p c.requires.1.fit.size).at, c.in-Ok.ensures.one, c.requires.0), (c.requires.0, ready (omega arith) c.requires.1 one))
 
 pub walk_pattern-returns : goal.walk_pattern-returns
 unfolding pattern_go

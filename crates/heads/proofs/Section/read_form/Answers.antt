@@ -1,4 +1,4 @@
-use Rattle.std.proofs.Common.{rules, ◌<◌}
+use Rattle.std.proofs.Common.{rules, arith, ◌≡◌, ◌+◌, ◌<◌}
 use Rattle.heads.specs.Form.{read_form}
 use Rattle.heads.proofs.Reading.{onward, halted, longer_from}
 use Rattle.heads.proofs.Section.read_form.Goals as goal
@@ -9,7 +9,8 @@ returns-in_err-code-clause-takes c = search (rules, halted)
 
 pub returns-clause-longer : goal.returns-clause-longer
 returns-clause-longer c =
-    let l : c.args.at < c.in_ok-code.at = c.in_ok-code.ensures.longer in
+    let one : c.in_ok-code.at ≡ c.args.at + 1 = c.in_ok-code.ensures.one in
+    let l : c.args.at < c.in_ok-code.at = omega arith in
     longer_from _ l c.read_rest.ensures
 
 pub returns-clause-takes : goal.returns-clause-takes
