@@ -7,7 +7,7 @@ ghost use Rattle.condition_text.specs.Write.{Ready};
 
 use crate::operands::skip;
 use crate::page::Page;
-use condition::{binary_level, binary_sign, left_level, unary_level, unary_sign};
+use condition::{BINARY, UNARY, binary_level, binary_sign, left_level, unary_level, unary_sign};
 use words::word;
 
 // Writes the expression at `at` in a place whose bare operands have at least the level `least`, and answers where it ends.
@@ -16,7 +16,7 @@ pub fn print(s: &[u8], names: u32, at: usize, room: u32, least: usize, page: &mu
     ensures { PutExpr (words s.now) names room least at page.old page.new result }
 {
     let code = word(s, at);
-    if code == 15 {
+    if code == BINARY {
         let operator = word(s, at + 1) as usize;
         let level = binary_level(operator);
         page.put_if(level < least, b"(");
@@ -26,7 +26,7 @@ pub fn print(s: &[u8], names: u32, at: usize, room: u32, least: usize, page: &mu
         page.put_if(level < least, b")");
         return next;
     }
-    if code == 16 {
+    if code == UNARY {
         let operator = word(s, at + 1) as usize;
         let own = unary_level(operator);
         page.put_if(own < least, b"(");
