@@ -5,7 +5,7 @@ use native.Mathlib.Omega.{arith}
 use mathlib.Core.Path.{◌≡◌, refl, sym, ap, ◌∙◌}
 use mathlib.Core.Bool.{Bool, true, false, ◌&&◌}
 use mathlib.Core.List.{List, [], ◌∷◌, ◌++◌, reverse, reverse_aux, reverse_aux-eq, reverse_aux-append}
-use mathlib.Core.Option.{Option, none, some}
+use Rattle.std.specs.Prelude.{Option, None, Some}
 use lib.Dec.{eqb, leb, ltb}
 use lib.ListN.{length, length-reverse_aux}
 use borrow.Author.Tests.{eqb-true, leb-true, ltb-true, ltb-false, eq-eqb, ne_eqb, le-leb, lt-ltb}
@@ -132,13 +132,13 @@ pub record Found (r : List ℕ) (t : Tok) (r' : List ℕ) : Type 0 where
   pub well : WellTok t
   pub shorter : length r' < length r
 
-pub stripped : (s r r' : List ℕ) → strip s r ≡ some r' → r ≡ s ++ r'
+pub stripped : (s r r' : List ℕ) → strip s r ≡ Some r' → r ≡ s ++ r'
 unfolding strip
 stripped [] r r' e = cc
 stripped (c ∷ s) [] r' e = let z : ◌≡◌ {A = ℕ} 0 1 = cc in absurd (omega arith)
 stripped (c ∷ s) (d ∷ r) r' e = go (eqb d c) refl e (stripped s r r')
   where
-    go : (b : Bool) → eqb d c ≡ b → pick b (strip s r) none ≡ some r' → (strip s r ≡ some r' → r ≡ s ++ r') → d ∷ r ≡ c ∷ (s ++ r')
+    go : (b : Bool) → eqb d c ≡ b → pick b (strip s r) None ≡ Some r' → (strip s r ≡ Some r' → r ≡ s ++ r') → d ∷ r ≡ c ∷ (s ++ r')
     go true x e k = let y = eqb-true d c x in let i = k e in cc
     go false x e k = let z : ◌≡◌ {A = ℕ} 0 1 = cc in absurd (omega arith)
 
@@ -151,7 +151,7 @@ carry {t = t} {t' = t'} {r1 = r1} {r2 = r2} e f = let a : t ≡ t' = cc in let b
 no_found : {A : Type 0} {t : Tok} {r : List ℕ} → nothing ≡ found t r → A
 no_found e = let z : ◌≡◌ {A = ℕ} 0 1 = cc in absurd (omega arith)
 
-sign-found : (o : ℕ) (r r' : List ℕ) → o < 20 → strip (reverse (binary_sign o)) r ≡ some r' → Found r (bin o) r'
+sign-found : (o : ℕ) (r r' : List ℕ) → o < 20 → strip (reverse (binary_sign o)) r ≡ Some r' → Found r (bin o) r'
 sign-found o r r' h e =
     found_at (bin o) h (leb-true _ _ (all-below 20 (λ k. leb 1 (length (binary_sign k))) refl o h)) (stripped (reverse (binary_sign o)) r r' e ∙ sym (reverse_aux-eq (binary_sign o) r'))
 
@@ -161,10 +161,10 @@ firsts zero o r t r' h e = no_found e
 firsts (suc k) o r t r' h e = go (strip (reverse (binary_sign o)) r) refl e (firsts k (suc o) r t r' (omega arith))
   where
     go : (x : Option (List ℕ)) → strip (reverse (binary_sign o)) r ≡ x → or_else x (bin o) (first_sign k (suc o) r) ≡ found t r' → (first_sign k (suc o) r ≡ found t r' → Found r t r') → Found r t r'
-    go (some q) s e i = carry e (sign-found o r q (omega arith) s)
-    go none s e i = i e
+    go (Some q) s e i = carry e (sign-found o r q (omega arith) s)
+    go None s e i = i e
 
-unary-found : (o : ℕ) (r r' : List ℕ) → o < 2 → strip (reverse (unary_sign o)) r ≡ some r' → Found r (un o) r'
+unary-found : (o : ℕ) (r r' : List ℕ) → o < 2 → strip (reverse (unary_sign o)) r ≡ Some r' → Found r (un o) r'
 unary-found o r r' h e =
     found_at (un o) h (leb-true _ _ (all-below 2 (λ k. leb 1 (length (unary_sign k))) refl o h)) (stripped (reverse (unary_sign o)) r r' e ∙ sym (reverse_aux-eq (unary_sign o) r'))
 
@@ -172,14 +172,14 @@ signs : (r : List ℕ) (t : Tok) (r' : List ℕ) → sign_last r ≡ found t r' 
 unfolding sign_last
 signs r t r' e = go (strip (reverse (unary_sign 1)) r) (strip (reverse (unary_sign 0)) r) refl refl e
   where
-    minused : (q : List ℕ) (b : Bool) → strip (reverse (unary_sign 0)) r ≡ some q → pick b (first_sign 20 0 r) (found (un 0) q) ≡ found t r' → Found r t r'
+    minused : (q : List ℕ) (b : Bool) → strip (reverse (unary_sign 0)) r ≡ Some q → pick b (first_sign 20 0 r) (found (un 0) q) ≡ found t r' → Found r t r'
     minused q true y e = firsts 20 0 r t r' refl e
     minused q false y e = carry e (unary-found 0 r q (omega arith) y)
 
     go : (a b : Option (List ℕ)) → strip (reverse (unary_sign 1)) r ≡ a → strip (reverse (unary_sign 0)) r ≡ b → or_else a (un 1) (minus b (first_sign 20 0 r)) ≡ found t r' → Found r t r'
-    go (some q) b x y e = carry e (unary-found 1 r q (omega arith) x)
-    go none (some q) x y e = minused q (after_operand q) y e
-    go none none x y e = firsts 20 0 r t r' refl e
+    go (Some q) b x y e = carry e (unary-found 1 r q (omega arith) x)
+    go None (Some q) x y e = minused q (after_operand q) y e
+    go None None x y e = firsts 20 0 r t r' refl e
 
 -- the digits that were read
 record Digits (v scale k : ℕ) (r : List ℕ) (t : Tok) (r' : List ℕ) : Type 0 where

@@ -1,6 +1,5 @@
 -- The tokens of a text, from its last to its first. A text is taken from its end, as a list whose first byte is the text's last.
-use Rattle.std.specs.Prelude.{ℕ, zero, suc, ◌+◌, ◌-◌, ◌*◌, Bool, true, false, ◌&&◌, ◌||◌, List, [], ◌∷◌, reverse, eqb, leb, ltb, length}
-use Rattle.std.proofs.Math.Option.{Option, none, some}
+use Rattle.std.specs.Prelude.{ℕ, zero, suc, ◌+◌, ◌-◌, ◌*◌, Bool, true, false, ◌&&◌, ◌||◌, List, [], ◌∷◌, reverse, eqb, leb, ltb, length, Option, None, Some}
 use Rattle.words.specs.Decimal.{width}
 use Rattle.condition.specs.Cond.{binary_sign, unary_sign, atom_text}
 
@@ -30,14 +29,14 @@ pick false a b = b
 
 -- what is left of r after these bytes at its front
 unfoldable pub strip : List ℕ → List ℕ → Option (List ℕ)
-strip [] r = some r
-strip (c ∷ s) [] = none
-strip (c ∷ s) (d ∷ r) = pick (eqb d c) (strip s r) none
+strip [] r = Some r
+strip (c ∷ s) [] = None
+strip (c ∷ s) (d ∷ r) = pick (eqb d c) (strip s r) None
 
 -- the token, where its sign stands here
 abbrev pub or_else : Option (List ℕ) → Tok → Last → Last
-or_else (some r) t l = found t r
-or_else none t l = l
+or_else (Some r) t l = found t r
+or_else None t l = l
 
 -- the first of k operators from o on whose sign stands here
 unfoldable pub first_sign : ℕ → ℕ → List ℕ → Last
@@ -60,8 +59,8 @@ after_operand (a ∷ (b ∷ r)) = eqb a 32 && is_end b
 
 -- a minus is unary unless it stands after an operand
 abbrev pub minus : Option (List ℕ) → Last → Last
-minus (some r) l = pick (after_operand r) l (found (un 0) r)
-minus none l = l
+minus (Some r) l = pick (after_operand r) l (found (un 0) r)
+minus None l = l
 
 -- a sign
 unfoldable pub sign_last : List ℕ → Last

@@ -6,6 +6,21 @@ ghost use Rattle.std.specs.Prelude.{◌≡◌, ◌<◌};
 ghost use Rattle.condition.specs.Cond.{binary_level, unary_level, left_level, binary_sign, unary_sign};
 ghost use Rattle.condition.specs.Judge.{is_wanted, is_there, unary_mode, may_join};
 
+// The codes of a binary and a unary operator, in a sheet's words and in a reader's entries.
+pub const BINARY: u32 = 15;
+
+pub const UNARY: u32 = 16;
+
+// The unary operators.
+pub const MINUS: usize = 0;
+
+pub const NOT: usize = 1;
+
+// The levels of NOT and of comparisons.
+pub const NOT_LEVEL: usize = 3;
+
+pub const COMPARISON: usize = 4;
+
 // By operator, its level.
 const LEVELS: [usize; 20] = [6, 6, 7, 7, 7, 8, 4, 4, 4, 4, 4, 4, 2, 0, 1, 5, 5, 5, 5, 6];
 
@@ -46,8 +61,8 @@ pub fn unary_level(operator: usize) -> usize
     ensures { result ≡ unary_level operator }
 {
     match operator {
-        0 => 9,
-        1 => 3,
+        MINUS => 9,
+        NOT => NOT_LEVEL,
         _ => 0,
     }
 }
@@ -72,7 +87,7 @@ pub fn unary_sign(operator: usize) -> &'static [u8]
     requires { operator < 2 }
     ensures { result.now ≡ unary_sign operator }
 {
-    if operator == 0 { b"- " } else { b"NOT " }
+    if operator == MINUS { b"- " } else { b"NOT " }
 }
 
 // What stands to the right of a position: an operand is wanted; there is one; there is one that begins with NOT; or nothing can stand here.
@@ -103,8 +118,8 @@ impl Mode {
         ensures { result ≡ unary_mode self operator }
     {
         match self {
-            Mode::There if operator != 1 => Mode::There,
-            Mode::There | Mode::Negated if operator == 1 => Mode::Negated,
+            Mode::There if operator != NOT => Mode::There,
+            Mode::There | Mode::Negated if operator == NOT => Mode::Negated,
             _ => Mode::Wrong,
         }
     }
@@ -115,7 +130,7 @@ impl Mode {
     {
         match self {
             Mode::There => true,
-            Mode::Negated => level < 3,
+            Mode::Negated => level < NOT_LEVEL,
             Mode::Wanted | Mode::Wrong => false,
         }
     }

@@ -6,13 +6,12 @@ use mathlib.Core.Logic.{◌≢◌}
 use mathlib.Core.Path.{◌≡◌, refl, sym, ap, ◌∙◌}
 use mathlib.Core.Bool.{false, ◌&&◌}
 use mathlib.Core.List.{List, [], ◌∷◌, ◌++◌, reverse}
-use mathlib.Core.Option.{Option, none, some}
 use denote.Ref.{Bor}
 use lib.Dec.{eqb, ltb}
 use lib.ListN.{length, get_or, take, length-take}
 use lib.Seq.{take-suc, take-length}
 use borrow.Author.Tests.{eq-eqb}
-use Rattle.std.specs.Prelude.{Option as Answer, Some, None, IfSome}
+use Rattle.std.specs.Prelude.{Option, Some, None, IfSome}
 use Rattle.std.specs.Option.{MatchOption}
 use Rattle.std.proofs.lemmas.List.{length-reverse, reverse-append, reverse-reverse, get_or-take}
 use Rattle.condition.specs.Tokens.{pick, or_else, found, nothing, open', close', number, bin, strip, first_sign, after_operand, is_end, is_digit, sign_last, number_end, number_last, last}
@@ -50,17 +49,17 @@ after_two s h =
     rw (reverse_last s (omega arith), reverse_last t (omega arith), k, get_or-take (length s - 1) s (length s - 2) 0 (omega arith))
 
 -- what a sign leaves
-unstripped : (x r : List ℕ) → strip x (x ++ r) ≡ some r
+unstripped : (x r : List ℕ) → strip x (x ++ r) ≡ Some r
 unfolding strip
 unstripped [] r = refl
 unstripped (c ∷ x) r = rw (eq-eqb c c refl) (unstripped x r)
 
-pub signed : (s sign : List ℕ) (r : Answer (Bor (List ℕ))) → MatchOption r ((front : List ℕ) → s ≢ front ++ sign) (λ x. s ≡ x.now ++ sign) → strip (reverse sign) (reverse s) ≡ before_of r
+pub signed : (s sign : List ℕ) (r : Option (Bor (List ℕ))) → MatchOption r ((front : List ℕ) → s ≢ front ++ sign) (λ x. s ≡ x.now ++ sign) → strip (reverse sign) (reverse s) ≡ before_of r
 signed s sign None h = go (strip (reverse sign) (reverse s)) refl
   where
-    go : (x : Option (List ℕ)) → strip (reverse sign) (reverse s) ≡ x → x ≡ none
-    go none e = refl
-    go (some r) e = absurd (h (reverse r) (sym (reverse-reverse s) ∙ (ap reverse (stripped (reverse sign) (reverse s) r e) ∙ (reverse-append (reverse sign) r ∙ ap (λ (l : List ℕ). reverse r ++ l) (reverse-reverse sign)))))
+    go : (x : Option (List ℕ)) → strip (reverse sign) (reverse s) ≡ x → x ≡ None
+    go None e = refl
+    go (Some r) e = absurd (h (reverse r) (sym (reverse-reverse s) ∙ (ap reverse (stripped (reverse sign) (reverse s) r e) ∙ (reverse-append (reverse sign) r ∙ ap (λ (l : List ℕ). reverse r ++ l) (reverse-reverse sign)))))
 signed s sign (Some x) h = rw (h, reverse-append x.now sign) (unstripped (reverse sign) (reverse x.now))
 
 -- by the last byte
@@ -107,10 +106,10 @@ module _ (v scale k : ℕ) (s : List ℕ) where
   digits_stop h = let e : 4 - k ≡ 0 = omega arith in rw e
 
 -- a token that was found
-pub shorter : (s : List ℕ) (r : Answer (Token × Bor (List ℕ))) → last (reverse s) ≡ last_of r → IfSome r (λ l. length l.1.now < length s)
+pub shorter : (s : List ℕ) (r : Option (Token × Bor (List ℕ))) → last (reverse s) ≡ last_of r → IfSome r (λ l. length l.1.now < length s)
 shorter s None e = _
 shorter s (Some l) e = omega (arith, (last_found (reverse s) (tok_of l.0) (reverse l.1.now) e).shorter, length-reverse s, length-reverse l.1.now)
 
-pub known : (s : List ℕ) (r : Answer (Token × Bor (List ℕ))) → last (reverse s) ≡ last_of r → IfSome r (λ l. WellTok (tok_of l.0))
+pub known : (s : List ℕ) (r : Option (Token × Bor (List ℕ))) → last (reverse s) ≡ last_of r → IfSome r (λ l. WellTok (tok_of l.0))
 known s None e = _
 known s (Some l) e = (last_found (reverse s) (tok_of l.0) (reverse l.1.now) e).well

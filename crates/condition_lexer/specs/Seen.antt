@@ -1,15 +1,13 @@
 -- What the code tells of a text's end, as what the definition finds. The definition takes a text from its last byte to its first.
 use Rattle.std.specs.Prelude.{ℕ, List, reverse, Option, Some, None}
-use Rattle.std.proofs.Math.Option.{none, some}
-use Rattle.std.proofs.Math.Option.{Option as Before}
 use denote.Ref.{Bor}
 use Rattle.condition.specs.Tokens.{Tok, Last, found, nothing, open', close', number, un, bin}
 use Rattle.condition_lexer.specs.declared.Token.{Token}
 use Rattle.condition_lexer.specs.declared.Token.TheVariants as token
 
-abbrev pub before_of : Option (Bor (List ℕ)) → Before (List ℕ)
-before_of None = none
-before_of (Some rest) = some (reverse rest.now)
+abbrev pub before_of : Option (Bor (List ℕ)) → Option (List ℕ)
+before_of None = None
+before_of (Some rest) = Some (reverse rest.now)
 
 abbrev pub tok_of : Token → Tok
 tok_of token.Open = open'

@@ -7,7 +7,7 @@ ghost use Rattle.condition.specs.Tokens.{is_end, is_digit, after_operand, first_
 ghost use Rattle.condition_lexer.specs.Seen.{before_of, tok_of, last_of};
 ghost use Rattle.condition.proofs.Sound.{WellTok};
 
-use condition::{binary_sign, unary_sign};
+use condition::{MINUS, NOT, binary_sign, unary_sign};
 use words::decimal_width;
 
 // A bracket, an atom by its number, or an operator's sign by the operator's number.
@@ -55,8 +55,8 @@ fn last_binary(text: &[u8]) -> Option<(Token, &[u8])>
 fn last_minus(text: &[u8]) -> Option<(Token, &[u8])>
     ensures { minus (strip (reverse (unary_sign 0)) (reverse text.now)) (first_sign 20 0 (reverse text.now)) ≡ last_of result }
 {
-    match before_sign(text, unary_sign(0)) {
-        Some(rest) if !after_operand(rest) => Some((Token::Unary(0), rest)),
+    match before_sign(text, unary_sign(MINUS)) {
+        Some(rest) if !after_operand(rest) => Some((Token::Unary(MINUS), rest)),
         _ => last_binary(text),
     }
 }
@@ -66,8 +66,8 @@ fn last_minus(text: &[u8]) -> Option<(Token, &[u8])>
 fn last_sign(text: &[u8]) -> Option<(Token, &[u8])>
     ensures { sign_last (reverse text.now) ≡ last_of result }
 {
-    match before_sign(text, unary_sign(1)) {
-        Some(rest) => Some((Token::Unary(1), rest)),
+    match before_sign(text, unary_sign(NOT)) {
+        Some(rest) => Some((Token::Unary(NOT), rest)),
         None => last_minus(text),
     }
 }

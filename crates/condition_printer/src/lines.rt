@@ -53,7 +53,7 @@ fn print_clause(s: &[u8], names: u32, at: usize, page: &mut Page<'_>) -> usize
     next
 }
 
-// Those of n clauses.
+// Those of n clauses. The same loop over arms stands below: a trait of both kinds of rows would be longer than the two.
 pub fn print_clauses(s: &[u8], names: u32, at: usize, n: u32, page: &mut Page<'_>) -> usize
     requires { Ready (many (read_clause (tables (words s.now) names 0 0)) n (drop at (words s.now))) (words s.now) at page.old.end (length page.old.bytes.now) }
     ensures { PutClauses (words s.now) names n at page.old page.new result }

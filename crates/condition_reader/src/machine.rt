@@ -2,8 +2,11 @@
 // the front of its list, each as its rank and its number: a rank is ten for each level of brackets, and the operator's level + 1.
 ghost use Rattle.std.specs.Prelude.{◌+◌, ◌*◌, ◌<◌, ◌≤◌, length};
 
-use condition::{binary_level, unary_level};
+use condition::{BINARY, UNARY, binary_level, unary_level};
 use condition_lexer::Token;
+
+// The code of an atom's entry.
+const ATOM: u64 = 0;
 
 // How many operators wait, at which word the entries begin, and how deep in brackets the text stands that is left.
 #[derive(Drop)]
@@ -64,7 +67,7 @@ impl<'a> Machine<'a> {
         while self.waiting > 0 && self.list[self.waiting * 2 - 2] > limit {
             let operator = self.list[self.waiting * 2 - 1];
             self.waiting -= 1;
-            self.write(15, operator);
+            self.write(BINARY as u64, operator);
         }
     }
 
@@ -83,7 +86,7 @@ impl<'a> Machine<'a> {
         ensures { Turned (un operator) self.old self.new }
     {
         self.unwind(self.rank(unary_level(operator)));
-        self.write(16, operator as u64);
+        self.write(UNARY as u64, operator as u64);
     }
 
     // A binary operator: its right operand is done, and it waits for its left one.
@@ -109,7 +112,7 @@ impl<'a> Machine<'a> {
         match token {
             Token::Open => self.open(),
             Token::Close => self.depth += 1,
-            Token::Atom(place) => self.write(0, place as u64),
+            Token::Atom(place) => self.write(ATOM, place as u64),
             Token::Unary(operator) => self.unary(operator),
             Token::Binary(operator) => self.binary(operator),
         }

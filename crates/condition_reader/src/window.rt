@@ -1,6 +1,8 @@
 // Of each level of brackets that one pass looks at, whether a comparison stands in its row so far.
 ghost use Rattle.std.specs.Prelude.{◌≡◌};
 
+use condition::{COMPARISON, NOT_LEVEL};
+
 // How many levels a pass looks at. Their flags stand eight to a byte: to clear them is most of what reading a short text takes.
 pub const LEVELS: usize = 8 * BYTES;
 
@@ -48,7 +50,7 @@ impl Window {
     pub fn chains(&self, depth: usize, level: usize) -> bool
         ensures { result ≡ (eqb level 4 && marked self.now depth) }
     {
-        level == 4 && self.is_marked(depth)
+        level == COMPARISON && self.is_marked(depth)
     }
 
     #[tactic(auto, using(crate::proofs::Flags::unseen))]
@@ -72,8 +74,8 @@ impl Window {
         ensures { Changes depth (flag_after level) self.old self.new }
     {
         match level {
-            0..=2 => self.mark(depth, false),
-            4 => self.mark(depth, true),
+            0..NOT_LEVEL => self.mark(depth, false),
+            COMPARISON => self.mark(depth, true),
             _ => {}
         }
     }

@@ -11,25 +11,25 @@ use Rattle.condition_text.proofs.writing.+print.Goals as goal
 pub binary_level-level-requires : goal.binary_level-level-requires
 binary_level-level-requires t c =
     let two = let a = c.args in task (words a.s.now) a.names a.room a.at a.least a.page.now.end a.page.now.bytes.now c.requires in
-    let code = sym c.word-code.ensures ∙ c.if-code-eq15.true in
+    let code = sym c.word.ensures ∙ c.in-15.is in
     rw (← c.word-operator.ensures) at (operator two code).known
 
 pub overflow_sub-room : goal.overflow_sub-room
 overflow_sub-room t c =
     let two = let a = c.args in task (words a.s.now) a.names a.room a.at a.least a.page.now.end a.page.now.bytes.now c.requires in
-    let code = sym c.word-code.ensures ∙ c.if-code-eq15.true in
+    let code = sym c.word.ensures ∙ c.in-15.is in
     (operator two code).deep
 
 pub left_level-requires : goal.left_level-requires
 left_level-requires t c =
     let two = let a = c.args in task (words a.s.now) a.names a.room a.at a.least a.page.now.end a.page.now.bytes.now c.requires in
-    let code = sym c.word-code.ensures ∙ c.if-code-eq15.true in
+    let code = sym c.word.ensures ∙ c.in-15.is in
     rw (← c.word-operator.ensures) at (operator two code).known
 
 pub print-middle-requires : goal.print-middle-requires
 print-middle-requires t c =
     let two = let a = c.args in task (words a.s.now) a.names a.room a.at a.least a.page.now.end a.page.now.bytes.now c.requires in
-    let code = sym c.word-code.ensures ∙ c.if-code-eq15.true in
+    let code = sym c.word.ensures ∙ c.in-15.is in
     let op = operator two code in
     let s1 = piece (binary-begun two code) 1 14 c.put_if.ensures.wrote (bracket-short _ _) (omega arith) in
     (rw (← c.decreases) (left-shorter two code), ready s1 _ (ap is_ok op.first) two.ready.few)
@@ -37,29 +37,29 @@ print-middle-requires t c =
 pub binary_sign-requires : goal.binary_sign-requires
 binary_sign-requires t c =
     let two = let a = c.args in task (words a.s.now) a.names a.room a.at a.least a.page.now.end a.page.now.bytes.now c.requires in
-    let code = sym c.word-code.ensures ∙ c.if-code-eq15.true in
+    let code = sym c.word.ensures ∙ c.in-15.is in
     rw (← c.word-operator.ensures) at (operator two code).known
 
 pub put-requires : goal.put-requires
 put-requires t c =
     let two = let a = c.args in task (words a.s.now) a.names a.room a.at a.least a.page.now.end a.page.now.bytes.now c.requires in
-    let code = sym c.word-code.ensures ∙ c.if-code-eq15.true in
+    let code = sym c.word.ensures ∙ c.in-15.is in
     let op = operator two code in
     let known = rw (← c.word-operator.ensures) at op.known in
     let s1 = piece (binary-begun two code) 1 14 c.put_if.ensures.wrote (bracket-short _ _) (omega arith) in
     let s2 = part s1 c.print-middle.ensures.put op.left op.mid op.first in
     rw c.binary_sign.ensures (fits s2 13 _ (binary-short _ known) (omega arith))
 
-pub overflow_sub-room-then-code-eq15 : goal.overflow_sub-room-then-code-eq15
-overflow_sub-room-then-code-eq15 t c =
+pub overflow_sub-room-in-15 : goal.overflow_sub-room-in-15
+overflow_sub-room-in-15 t c =
     let two = let a = c.args in task (words a.s.now) a.names a.room a.at a.least a.page.now.end a.page.now.bytes.now c.requires in
-    let code = sym c.word-code.ensures ∙ c.if-code-eq15.true in
+    let code = sym c.word.ensures ∙ c.in-15.is in
     (operator two code).deep
 
 pub print-next-requires : goal.print-next-requires
 print-next-requires t c =
     let two = let a = c.args in task (words a.s.now) a.names a.room a.at a.least a.page.now.end a.page.now.bytes.now c.requires in
-    let code = sym c.word-code.ensures ∙ c.if-code-eq15.true in
+    let code = sym c.word.ensures ∙ c.in-15.is in
     let op = operator two code in
     let known = rw (← c.word-operator.ensures) at op.known in
     let s1 = piece (binary-begun two code) 1 14 c.put_if.ensures.wrote (bracket-short _ _) (omega arith) in
@@ -68,10 +68,10 @@ print-next-requires t c =
     let next = second two code _ c.print-middle.ensures.put in
     (rw (← c.decreases) (right-shorter two code _ c.print-middle.ensures.put), ready s3 _ (ap is_ok next) two.ready.few)
 
-pub put_if-requires-then-code-eq15 : goal.put_if-requires-then-code-eq15
-put_if-requires-then-code-eq15 t c =
+pub put_if-requires-in-15 : goal.put_if-requires-in-15
+put_if-requires-in-15 t c =
     let two = let a = c.args in task (words a.s.now) a.names a.room a.at a.least a.page.now.end a.page.now.bytes.now c.requires in
-    let code = sym c.word-code.ensures ∙ c.if-code-eq15.true in
+    let code = sym c.word.ensures ∙ c.in-15.is in
     let op = operator two code in
     let known = rw (← c.word-operator.ensures) at op.known in
     let s1 = piece (binary-begun two code) 1 14 c.put_if.ensures.wrote (bracket-short _ _) (omega arith) in
@@ -81,10 +81,10 @@ put_if-requires-then-code-eq15 t c =
     let s4 = part s3 c.print-next.ensures.put _ _ next in
     fits s4 1 _ (bracket-short _ _) (omega arith)
 
-pub returns-then-code-eq15 : goal.returns-then-code-eq15
-returns-then-code-eq15 t c =
+pub returns-in-15 : goal.returns-in-15
+returns-in-15 t c =
     let two = let a = c.args in task (words a.s.now) a.names a.room a.at a.least a.page.now.end a.page.now.bytes.now c.requires in
-    let code = sym c.word-code.ensures ∙ c.if-code-eq15.true in
+    let code = sym c.word.ensures ∙ c.in-15.is in
     let op = operator two code in
     let known = rw (← c.word-operator.ensures) at op.known in
     let s1 = piece (binary-begun two code) 1 14 c.put_if.ensures.wrote (bracket-short _ _) (omega arith) in
@@ -92,58 +92,58 @@ returns-then-code-eq15 t c =
     let s3 = piece s2 13 1 (rw c.binary_sign.ensures at c.put.ensures.wrote) (binary-short _ known) (omega arith) in
     let next = second two code _ c.print-middle.ensures.put in
     let s4 = part s3 c.print-next.ensures.put _ _ next in
-    let s5 = piece s4 1 0 c.put_if-then-code-eq15.ensures.wrote (bracket-short _ _) (omega arith) in
+    let s5 = piece s4 1 0 c.put_if-in-15.ensures.wrote (bracket-short _ _) (omega arith) in
     record {
       put = binary-put two code _ c.print-middle.ensures.put c.word-operator.ensures c.binary_level-level.ensures c.left_level.ensures refl c.print-next.ensures.put s5;
-      lent = c.put_if-then-code-eq15.ensures.lent ∙ (c.print-next.ensures.lent ∙ (c.put.ensures.lent ∙ (c.print-middle.ensures.lent ∙ c.put_if.ensures.lent)));
+      lent = c.put_if-in-15.ensures.lent ∙ (c.print-next.ensures.lent ∙ (c.put.ensures.lent ∙ (c.print-middle.ensures.lent ∙ c.put_if.ensures.lent)));
     }
 
 pub unary_sign-requires : goal.unary_sign-requires
 unary_sign-requires t c =
     let two = let a = c.args in task (words a.s.now) a.names a.room a.at a.least a.page.now.end a.page.now.bytes.now c.requires in
-    let code = sym c.word-code.ensures ∙ c.if-code-eq16.true in
-    rw (← c.word-operator-then-code-eq16.ensures) at (prefix two code).known
+    let code = sym c.word.ensures ∙ c.in-16.is in
+    rw (← c.word-operator-in-16.ensures) at (prefix two code).known
 
-pub overflow_sub-room-then-code-eq16 : goal.overflow_sub-room-then-code-eq16
-overflow_sub-room-then-code-eq16 t c =
+pub overflow_sub-room-in-16 : goal.overflow_sub-room-in-16
+overflow_sub-room-in-16 t c =
     let two = let a = c.args in task (words a.s.now) a.names a.room a.at a.least a.page.now.end a.page.now.bytes.now c.requires in
-    let code = sym c.word-code.ensures ∙ c.if-code-eq16.true in
+    let code = sym c.word.ensures ∙ c.in-16.is in
     (prefix two code).deep
 
-pub print-next-requires-then-code-eq16 : goal.print-next-requires-then-code-eq16
-print-next-requires-then-code-eq16 t c =
+pub print-next-requires-in-16 : goal.print-next-requires-in-16
+print-next-requires-in-16 t c =
     let two = let a = c.args in task (words a.s.now) a.names a.room a.at a.least a.page.now.end a.page.now.bytes.now c.requires in
-    let code = sym c.word-code.ensures ∙ c.if-code-eq16.true in
+    let code = sym c.word.ensures ∙ c.in-16.is in
     let op = prefix two code in
-    let known = rw (← c.word-operator-then-code-eq16.ensures) at op.known in
-    let u1 = piece (unary-begun two code) 1 14 c.put_if-then-code-eq16.ensures.wrote (bracket-short _ _) (omega arith) in
-    let u2 = piece u1 4 10 (rw c.unary_sign.ensures at c.put-then-code-eq16.ensures.wrote) (unary-short _ known) (omega arith) in
+    let known = rw (← c.word-operator-in-16.ensures) at op.known in
+    let u1 = piece (unary-begun two code) 1 14 c.put_if-in-16.ensures.wrote (bracket-short _ _) (omega arith) in
+    let u2 = piece u1 4 10 (rw c.unary_sign.ensures at c.put-in-16.ensures.wrote) (unary-short _ known) (omega arith) in
     (rw (← c.decreases) (operand-shorter two code), ready u2 _ (ap is_ok op.first) two.ready.few)
 
-pub put_if-requires-then-code-eq16-2 : goal.put_if-requires-then-code-eq16-2
-put_if-requires-then-code-eq16-2 t c =
+pub put_if-requires-in-16-2 : goal.put_if-requires-in-16-2
+put_if-requires-in-16-2 t c =
     let two = let a = c.args in task (words a.s.now) a.names a.room a.at a.least a.page.now.end a.page.now.bytes.now c.requires in
-    let code = sym c.word-code.ensures ∙ c.if-code-eq16.true in
+    let code = sym c.word.ensures ∙ c.in-16.is in
     let op = prefix two code in
-    let known = rw (← c.word-operator-then-code-eq16.ensures) at op.known in
-    let u1 = piece (unary-begun two code) 1 14 c.put_if-then-code-eq16.ensures.wrote (bracket-short _ _) (omega arith) in
-    let u2 = piece u1 4 10 (rw c.unary_sign.ensures at c.put-then-code-eq16.ensures.wrote) (unary-short _ known) (omega arith) in
-    let u3 = part u2 c.print-next-then-code-eq16.ensures.put op.operand _ op.first in
+    let known = rw (← c.word-operator-in-16.ensures) at op.known in
+    let u1 = piece (unary-begun two code) 1 14 c.put_if-in-16.ensures.wrote (bracket-short _ _) (omega arith) in
+    let u2 = piece u1 4 10 (rw c.unary_sign.ensures at c.put-in-16.ensures.wrote) (unary-short _ known) (omega arith) in
+    let u3 = part u2 c.print-next-in-16.ensures.put op.operand _ op.first in
     fits u3 1 _ (bracket-short _ _) (omega arith)
 
-pub returns-then-code-eq16 : goal.returns-then-code-eq16
-returns-then-code-eq16 t c =
+pub returns-in-16 : goal.returns-in-16
+returns-in-16 t c =
     let two = let a = c.args in task (words a.s.now) a.names a.room a.at a.least a.page.now.end a.page.now.bytes.now c.requires in
-    let code = sym c.word-code.ensures ∙ c.if-code-eq16.true in
+    let code = sym c.word.ensures ∙ c.in-16.is in
     let op = prefix two code in
-    let known = rw (← c.word-operator-then-code-eq16.ensures) at op.known in
-    let u1 = piece (unary-begun two code) 1 14 c.put_if-then-code-eq16.ensures.wrote (bracket-short _ _) (omega arith) in
-    let u2 = piece u1 4 10 (rw c.unary_sign.ensures at c.put-then-code-eq16.ensures.wrote) (unary-short _ known) (omega arith) in
-    let u3 = part u2 c.print-next-then-code-eq16.ensures.put op.operand _ op.first in
-    let u4 = piece u3 1 0 c.put_if-then-code-eq16-2.ensures.wrote (bracket-short _ _) (omega arith) in
+    let known = rw (← c.word-operator-in-16.ensures) at op.known in
+    let u1 = piece (unary-begun two code) 1 14 c.put_if-in-16.ensures.wrote (bracket-short _ _) (omega arith) in
+    let u2 = piece u1 4 10 (rw c.unary_sign.ensures at c.put-in-16.ensures.wrote) (unary-short _ known) (omega arith) in
+    let u3 = part u2 c.print-next-in-16.ensures.put op.operand _ op.first in
+    let u4 = piece u3 1 0 c.put_if-in-16-2.ensures.wrote (bracket-short _ _) (omega arith) in
     record {
-      put = unary-put two code c.word-operator-then-code-eq16.ensures c.unary_level-own.ensures c.print-next-then-code-eq16.ensures.put u4;
-      lent = c.put_if-then-code-eq16-2.ensures.lent ∙ (c.print-next-then-code-eq16.ensures.lent ∙ (c.put-then-code-eq16.ensures.lent ∙ c.put_if-then-code-eq16.ensures.lent));
+      put = unary-put two code c.word-operator-in-16.ensures c.unary_level-own.ensures c.print-next-in-16.ensures.put u4;
+      lent = c.put_if-in-16-2.ensures.lent ∙ (c.print-next-in-16.ensures.lent ∙ (c.put-in-16.ensures.lent ∙ c.put_if-in-16.ensures.lent));
     }
 
 pub put_atom-requires : goal.put_atom-requires
@@ -151,10 +151,10 @@ put_atom-requires t c =
     let two = let a = c.args in task (words a.s.now) a.names a.room a.at a.least a.page.now.end a.page.now.bytes.now c.requires in
     atom-fits two
 
-pub returns : goal.returns
-returns t c =
+pub returns-in_default : goal.returns-in_default
+returns-in_default t c =
     let two = let a = c.args in task (words a.s.now) a.names a.room a.at a.least a.page.now.end a.page.now.bytes.now c.requires in
     record {
-      put = atom-put two (λ e. c.if-code-eq15.false (c.word-code.ensures ∙ e)) (λ e. c.if-code-eq16.false (c.word-code.ensures ∙ e)) c.skip.ensures c.put_atom.ensures.wrote;
+      put = atom-put two (λ e. omega (arith, e, c.word.ensures)) (λ e. omega (arith, e, c.word.ensures)) c.skip.ensures c.put_atom.ensures.wrote;
       lent = c.put_atom.ensures.lent;
     }
