@@ -4,9 +4,9 @@ use native.Mathlib.Nat.{zero-add, suc-add, suc-mul, mul-le-mul}
 use native.Mathlib.Omega.{arith}
 use mathlib.Core.Path.{◌≡◌, ap, ◌∙◌}
 use mathlib.Core.List.{flat_map}
-use lib.ListN.{length, length-append}
+use lib.ListN.{length, length-append, length-take, length-drop}
 use Rattle.words.specs.Decimal.{width}
-use Rattle.words.proofs.Digits.{width-le}
+use Rattle.words.proofs.Digits.{width-le, length-decimal}
 use Rattle.lines.specs.Lines.{name_of}
 use Rattle.lines.specs.Given.{texts_of, word_of, nth, findings_in, first, text_of}
 use Rattle.lines.specs.declared.names.Names.{Names}
@@ -69,3 +69,6 @@ module _ (names : Names) (found : Found) where
 
   pub listed_small : length (text_of names found) ≤ 17408020
   listed_small = omega (arith, needed-enough 0 (omega arith), needed-first, first-small)
+
+-- how long a listing and its parts are
+pub ruleset lengths = (listed-told, first-small, length-decimal, length-append, length-take, length-drop)

@@ -55,3 +55,9 @@ cited-short s places zero = omega arith
 cited-short s [] (suc i) = omega arith
 cited-short s (p ∷ places) (suc zero) = name-short s p
 cited-short s (p ∷ places) (suc (suc i)) = cited-short s places (suc i)
+
+-- how long the parts of a listing are
+pub ruleset sizes = (front_long, line-long, length-decimal, length-append, length-take, length-drop)
+
+-- that a sum of them is small
+pub ruleset widths = (front_long, line-long, width-le, said-short)

@@ -59,6 +59,7 @@ fn lay_code(code: u32, out: &mut [u8]) -> usize
 }
 
 // `E` and the code, start, end, and a blank after each.
+#[tactic(auto, using(crate::proofs::Sizes::sizes))]
 fn lay_front(f: Finding, out: &mut [u8]) -> usize
     requires { length (front f.code f.start f.end) ≤ length out.old }
     ensures { Lays (front f.code f.start f.end) out.old 0 out.new result }
@@ -79,6 +80,7 @@ fn lay_said(f: Finding, x: &[u8], out: &mut [u8]) -> usize
     }
 }
 
+#[tactic(auto, using(crate::proofs::Sizes::sizes))]
 pub fn lay_line(f: Finding, x: &[u8], out: &mut [u8]) -> usize
     requires { length (line_for f.code f.start f.end f.one f.two x.now) ≤ length out.old }
     ensures { Lays (line_for f.code f.start f.end f.one f.two x.now) out.old 0 out.new result }

@@ -34,6 +34,7 @@ fn lay_lines(names: &Names, found: &Found, out: &mut [u8]) -> usize
 }
 
 // `findings` and their number, and a line each.
+#[tactic(auto, using(crate::proofs::Most::lengths))]
 fn lay_all(names: &Names, found: &Found, page: &mut [u8]) -> usize
     requires { length (text_of names.now found.now) ≤ length page.old }
     ensures { Lays (text_of names.now found.now) page.old 0 page.new result }
@@ -44,6 +45,7 @@ fn lay_all(names: &Names, found: &Found, page: &mut [u8]) -> usize
 
 // Whether a page of so many bytes holds the listing. Each line counts with the most that it may have, until it is measured; lines are
 // measured one by one until the page is long enough or none is left.
+#[tactic(auto, using(crate::proofs::Most::lengths))]
 fn has_room(names: &Names, found: &Found, room: usize) -> bool
     ensures { Measured (length (text_of names.now found.now)) room result }
 {

@@ -27,6 +27,7 @@ fn said_len(f: Finding, x: &[u8]) -> usize
 }
 
 // `E`, three blanks and a line feed, and what stands between them.
+#[tactic(auto, using(crate::proofs::Sizes::widths))]
 pub fn line_len(f: Finding, x: &[u8]) -> usize
     requires { length x.now ≤ 8192 }
     ensures { result ≡ length (line_for f.code f.start f.end f.one f.two x.now) }

@@ -33,7 +33,7 @@ const FOR_1024: usize = 1024 * 16 + 24;
 
 const FOR_2048: usize = 2048 * 16 + 24;
 
-// The refusal with the number that a run over a sheet gives.
+// The refusal with the number that a run over a sheet gives: the walks hand causes up as numbers.
 fn refusal_with(cause: u32) -> Refusal
     requires { (1 ≤ cause) × (cause ≤ 7) }
     ensures { number_of result ≡ cause }
@@ -79,7 +79,7 @@ fn write(
     }
 }
 
-// With scratch for a sheet's words, all zeros. Bindings and carried names are counted, not stored.
+// With scratch for a sheet's words, all zeros: sixteen for each, and 24 besides. Bindings and carried names are counted, not stored.
 fn list(s: &[u8], warns: bool, scratch: &mut [u32], page: &mut [u8]) -> Result<usize, Refusal>
     requires { (length (words s.now) * 16 + 24 ≤ length scratch.old) × AllZero scratch.old }
     ensures { Writes (listing warns s.now) page.old page.new result × (number (answered result) < 4294967296) }

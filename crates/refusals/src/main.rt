@@ -4,11 +4,7 @@
 use sheet::Opened;
 use std::io;
 use std::io::{Read, Write};
-
-fn print_line<W: Write>(out: &mut W, c: u32) -> io::Result<()> {
-    streams::print_decimal(out, c as u64)?;
-    out.write_all(b"\n")
-}
+use streams::read_full;
 
 // The refusal of a sheet, or 0.
 fn refusal(s: &[u8]) -> u32 {
@@ -18,28 +14,19 @@ fn refusal(s: &[u8]) -> u32 {
     }
 }
 
-// Reads n bytes into the front of room, or as many as there are; 0 where room is too short.
-fn read_some<R: Read>(input: &mut R, n: usize, room: &mut [u8]) -> io::Result<usize> {
-    if room.len() < n {
-        return Ok(0);
-    }
-    streams::read_full(input, &mut room[0..n])
-}
-
-// Reads past n bytes, room's length at a time.
+// Reads past n bytes, room's length at a time, or to the input's end.
 fn skip<R: Read>(input: &mut R, n: usize, room: &mut [u8]) -> io::Result<()> {
     let mut left = n;
-    while room.len() < left {
-        let k = room.len();
-        if read_some(input, k, room)? < k {
+    while 0 < left {
+        let k = left.min(room.len());
+        if k == 0 {
             return Ok(());
         }
-        if k == 0 {
+        if read_full(input, &mut room[..k])? < k {
             return Ok(());
         }
         left -= k;
     }
-    read_some(input, left, room)?;
     Ok(())
 }
 
@@ -52,23 +39,23 @@ fn sheet_line<R: Read, W: Write>(
 ) -> io::Result<bool> {
     if room.len() < n {
         skip(input, n, room)?;
-        print_line(out, 1)?;
+        writeln!(out, "1")?;
         return Ok(true);
     }
-    if read_some(input, n, room)? < n {
+    if read_full(input, &mut room[..n])? < n {
         return Ok(false);
     }
-    print_line(out, refusal(&room[0..n]))?;
+    writeln!(out, "{}", refusal(&room[..n]))?;
     Ok(true)
 }
 
 fn one<R: Read, W: Write>(input: &mut R, out: &mut W) -> io::Result<bool> {
     let mut front = [0u8; 4];
-    if streams::read_full(input, &mut front)? < 4 {
+    if read_full(input, &mut front)? < 4 {
         return Ok(false);
     }
     let mut room = [0u8; 8192];
-    sheet_line(input, out, words::word(&front, 0) as usize, &mut room)
+    sheet_line(input, out, u32::from_le_bytes(front) as usize, &mut room)
 }
 
 fn main(rt: HostRuntime) -> io::Result<()> {

@@ -21,7 +21,7 @@ pub fn show_listing<W: Write>(out: &mut W, s: &[u8]) -> io::Result<()>
     let mut page = [0u8; 65536];
     match listing(s, true, &mut page) {
         Ok(n) => out.write_all(&page[..n]),
-        Err(refusal) => writeln!(out, "refused {}", u32::from(refusal)),
+        Err(refusal) => write!(out, "refused {}\n", u32::from(refusal)),
     }
 }
 

@@ -1,4 +1,4 @@
-// How long a text is, before it is written. A number is the length of a text's fixed pieces.
+// How long a text is, before it is written. A number is the length of a text's fixed pieces, which stand once, where they are laid.
 ghost use Rattle.std.specs.Prelude.{◌≡◌, length};
 ghost use Rattle.texts.specs.Texts.{text_of};
 

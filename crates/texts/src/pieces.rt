@@ -37,7 +37,7 @@ pub fn lay_kind(x: &[u8], between: &[u8], kind: u32, after: &[u8], out: &mut [u8
     lay(after, q, out)
 }
 
-// The name of a type by its number.
+// The name of a type by its number in a finding. A host may ask with any number, and one that no type has has no name.
 #[tactic(auto, unfolding(crate::specs::Texts::type_name))]
 pub fn type_name(t: u32) -> &'static [u8]
     ensures { result.now ≡ type_name t }
@@ -57,7 +57,7 @@ pub fn type_name(t: u32) -> &'static [u8]
     }
 }
 
-// The name of a kind by its number.
+// The name of a kind, likewise.
 #[tactic(auto, unfolding(crate::specs::Texts::kind_name))]
 pub fn kind_name(kind: u32) -> &'static [u8]
     ensures { result.now ≡ kind_name kind }

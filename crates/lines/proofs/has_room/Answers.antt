@@ -14,9 +14,6 @@ use Rattle.lines.proofs.has_room.Goals as goal
 pub overflow_add-need : goal.overflow_add-need
 overflow_add-need c = omega (arith, c.width_of.ensures, first-small c.args.names.now c.args.found.now)
 
-pub overflow_add-need-2 : goal.overflow_add-need-2
-overflow_add-need-2 c = omega (arith, c.width_of.ensures, first-small c.args.names.now c.args.found.now)
-
 pub loop-i-init : goal.loop-i-init
 loop-i-init c =
     let names = c.args.names.now in

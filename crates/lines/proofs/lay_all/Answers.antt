@@ -2,28 +2,13 @@
 use Prim.Native.Nat.{◌+◌, ◌≤◌}
 use native.Mathlib.Omega.{arith}
 use mathlib.Core.List.{append_assoc}
-use lib.ListN.{length, length-append, length-take, length-drop}
+use lib.ListN.{length, length-append}
 use Rattle.words.proofs.Digits.{length-decimal}
 use Rattle.lines.specs.Lines.{listed}
 use Rattle.texts.proofs.Laying.{lays-then, lays-rest}
 use Rattle.lines.proofs.Told.{told, length-findings}
 use Rattle.lines.proofs.Most.{listed-told}
 use Rattle.lines.proofs.lay_all.Goals as goal
-
-pub lay_head-a-requires : goal.lay_head-a-requires
-lay_head-a-requires c = omega (arith, listed-told c.args.names.now c.args.found.now, length-decimal c.args.found.now.count, c.requires)
-
-pub slice_bounds-lay_lines-count : goal.slice_bounds-lay_lines-count
-slice_bounds-lay_lines-count c = omega (arith, listed-told c.args.names.now c.args.found.now, length-decimal c.args.found.now.count, c.requires, simp length-append at c.lay_head-a.ensures.next, c.lay_head-a.ensures.same)
-
-pub slice_bounds-lay_lines-start : goal.slice_bounds-lay_lines-start
-slice_bounds-lay_lines-start c = omega (arith, listed-told c.args.names.now c.args.found.now, length-decimal c.args.found.now.count, c.requires, simp length-append at c.lay_head-a.ensures.next, c.lay_head-a.ensures.same)
-
-pub lay_lines-requires : goal.lay_lines-requires
-lay_lines-requires c = simp (length-take, length-drop) (omega (arith, listed-told c.args.names.now c.args.found.now, length-decimal c.args.found.now.count, c.requires, simp length-append at c.lay_head-a.ensures.next, c.lay_head-a.ensures.same))
-
-pub overflow_add-result : goal.overflow_add-result
-overflow_add-result c = omega (arith, listed-told c.args.names.now c.args.found.now, length-decimal c.args.found.now.count, c.requires, simp length-append at c.lay_head-a.ensures.next, c.lay_head-a.ensures.same, c.lay_lines.ensures, c.well_formed)
 
 pub returns : goal.returns
 unfolding listed

@@ -14,9 +14,9 @@ run-requires c =
     let tab = c.split_at_mut-tab.ensures in
     let vis = c.split_at_mut-vis.ensures in
     let found = c.split_at_mut-found.ensures in
-    let from_tab : AllZero c.split_at_mut-ids.result.1.now = zeros_back _ ids.back (zeros_back _ places.back c.requires.1) in
+    let from_tab : AllZero c.split_at_mut-ids.result.1.now = zeros_back c.count-n.result ids.back (zeros_back c.count-n.result places.back c.requires.1) in
     record {
-      placed = omega (arith, c.count-n.ensures, places.front_len);
+      placed = omega arith;
       used = omega (arith, c.count-n.ensures, ids.front_len);
       long = omega (arith, c.count-n.ensures, tab.front_len);
       clear = (zeros_front _ tab.front from_tab).at;
@@ -35,15 +35,15 @@ returns-in-Refused c =
 
 pub returns-then-made-gt-ENTRIES : goal.returns-then-made-gt-ENTRIES
 returns-then-made-gt-ENTRIES c =
-    let ran = ran_to c.args.warns (c.from.ensures) c.in-Is.is c.run.ensures.runs in
+    let ran = ran_to c.args.warns c.from.ensures c.in-Is.is c.run.ensures.runs in
     (many-made c.args.warns ran c.args.page.now c.if-made-gt-ENTRIES.true, omega arith)
 
 pub returns-then-taken-gt-ENTRIES : goal.returns-then-taken-gt-ENTRIES
 returns-then-taken-gt-ENTRIES c =
-    let ran = ran_to c.args.warns (c.from.ensures) c.in-Is.is c.run.ensures.runs in
+    let ran = ran_to c.args.warns c.from.ensures c.in-Is.is c.run.ensures.runs in
     (many-carried c.args.warns ran c.args.page.now c.if-taken-gt-ENTRIES.true, omega arith)
 
 pub write-requires : goal.write-requires
 write-requires c =
-    let ran = ran_to c.args.warns (c.from.ensures) c.in-Is.is c.run.ensures.runs in
+    let ran = ran_to c.args.warns c.from.ensures c.in-Is.is c.run.ensures.runs in
     from-run c.args.warns ran c.if-made-gt-ENTRIES.false c.if-taken-gt-ENTRIES.false

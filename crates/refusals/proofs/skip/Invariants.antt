@@ -1,5 +1,5 @@
 -- A turn reads past at least one byte.
 use Rattle.refusals.proofs.skip.Given as goal
 
-abbrev pub decreases-loop-room : goal.decreases-loop-room
-decreases-loop-room g l = l.left
+abbrev pub decreases-loop-left : goal.decreases-loop-left
+decreases-loop-left g l = l.left

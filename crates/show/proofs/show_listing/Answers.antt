@@ -47,4 +47,4 @@ pub returns-in-Err : goal.returns-in-Err
 unfolding printed
 returns-in-Err g c =
     let same : bytes "refused " ++ (written c.from.result ++ bytes "\n") ≡ refusal_text (number_of c.in-Err.refusal) = ap (λ n. bytes "refused " ++ (written n ++ bytes "\n")) c.from.ensures ∙ line c.in-Err.refusal in
-    subst (λ t. OnOk c.writeln.result (Appends (g.W.Write.contents c.args.out.now) (g.W.Write.contents c.writeln.new.self) t)) (same ∙ refusal-printed _ refl c.in-Err.ensures.0) c.writeln.ensures.bytes
+    subst (λ t. OnOk c.write.result (Appends (g.W.Write.contents c.args.out.now) (g.W.Write.contents c.write.new.self) t)) (same ∙ refusal-printed _ refl c.in-Err.ensures.0) c.write.ensures.bytes
