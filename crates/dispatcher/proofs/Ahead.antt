@@ -5,8 +5,8 @@ use mathlib.Core.Logic.{⊎_elim}
 use mathlib.Core.Path.{◌≡◌}
 use native.Mathlib.Omega.{arith}
 use Rattle.std.specs.Prelude.{Option}
+use Rattle.std.proofs.lemmas.Bool.{cases_lt}
 use Rattle.dispatcher.specs.Dispatcher.{begins}
-use Rattle.dispatcher.proofs.Lists.{split}
 use Rattle.dispatcher.proofs.Looking.{begins-below}
 
 abbrev pub ahead : ℕ → Option ℕ → ℕ
@@ -32,7 +32,7 @@ next-round b i p h l e = omega arith
 
 -- from the queue after p = b + i it is less far to q than from b
 pub closer : (b q i p : ℕ) → b < 32 → q < 32 → p ≡ (b + i) % 32 → i < (q + 32 - b) % 32 → (q + 32 - (p + 1) % 32) % 32 < (q + 32 - b) % 32
-closer b q i p h l e m = ⊎_elim (λ k. ⊎_elim (before k) (past k) (split (b + i) 31)) within (split q b)
+closer b q i p h l e m = ⊎_elim (λ k. ⊎_elim (before k) (past k) (cases_lt (b + i) 31)) within (cases_lt q b)
   where
     within : b ≤ q → (q + 32 - (p + 1) % 32) % 32 < (q + 32 - b) % 32
     within k =

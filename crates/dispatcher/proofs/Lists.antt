@@ -1,21 +1,13 @@
--- Two laws for all proofs here: `split`, one number is below another or not; `set-one`, what waits in a queue after one of them was set.
-use Prim.Native.Nat.{ℕ, ◌≤◌, ◌<◌}
+-- What waits in a queue after one of them was set.
+use Prim.Native.Nat.{ℕ, ◌<◌}
 use mathlib.Core.Bool.{Bool, true, false, cond}
 use mathlib.Core.List.{List, []}
-use mathlib.Core.Logic.{◌⊎◌, inl, inr}
 use mathlib.Core.Path.{◌≡◌, refl, sym}
-use borrow.Author.Tests.{ltb-true, ltb-false, eqb-true, eqb-false}
-use lib.Dec.{eqb, ltb}
+use borrow.Author.Tests.{eqb-true, eqb-false}
+use lib.Dec.{eqb}
 use lib.ListN.{length, set}
 use lib.Seq.{get_or-set_same, get_or-set_other}
 use Rattle.dispatcher.specs.Dispatcher.{waiting}
-
-pub split : (a b : ℕ) → (a < b) ⊎ (b ≤ a)
-split a b = by (ltb a b) refl
-  where
-    by : (t : Bool) → ltb a b ≡ t → (a < b) ⊎ (b ≤ a)
-    by true e = inl (ltb-true a b e)
-    by false e = inr (ltb-false a b e)
 
 pub set-one : (qs : List (List ℕ)) (p q : ℕ) (l : List ℕ) → p < length qs → waiting (set qs p l) q ≡ cond (eqb p q) l (waiting qs q)
 set-one qs p q l h = by (eqb p q) refl

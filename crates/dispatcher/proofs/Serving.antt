@@ -11,15 +11,16 @@ use lib.Dec.{eqb}
 use lib.ListN.{length, set, get_or-eq_default}
 use lib.Seq.{get_or-set_other}
 use Rattle.std.specs.Prelude.{Option, Some}
+use Rattle.std.proofs.lemmas.Bool.{cases_lt}
 use Rattle.dispatcher.specs.Dispatcher.{State, state, waiting, add, begins, take}
 use Rattle.dispatcher.specs.Turns.{Call, adds, takes, Event, log, came_out, takes_in}
 use Rattle.dispatcher.proofs.Ahead.{ahead, there, closer}
-use Rattle.dispatcher.proofs.Lists.{split, set-one}
+use Rattle.dispatcher.proofs.Lists.{set-one}
 use Rattle.dispatcher.proofs.Looking.{Found, begins-below, looks}
 use Rattle.dispatcher.proofs.One.{Sound, with-one, adding, one-add, one-served}
 
 nil≢cons : {x : ℕ} {xs : List ℕ} → [] ≡ x ∷ xs → ⊥
-nil≢cons e = let z : ◌≡◌ {A = ℕ} 0 1 = cc in omega arith
+nil≢cons e = cc
 
 least : (a b : ℕ) → (a < b → ⊥) → (a ≡ b → ⊥) → b < a
 least a b g o = omega arith
@@ -107,4 +108,4 @@ serving (takes ∷ cs) = λ qs last q x xs h l e n. by-take cs (serving cs) qs l
 
 -- a queue that waits is one of the 32
 pub waits-below : (qs : List (List ℕ)) (q x : ℕ) (xs : List ℕ) → length qs ≡ 32 → waiting qs q ≡ x ∷ xs → q < 32
-waits-below qs q x xs h e = ⊎_elim (λ l. l) (λ g. absurd (nil≢cons (sym (get_or-eq_default qs [] (omega arith)) ∙ e))) (split q 32)
+waits-below qs q x xs h e = ⊎_elim (λ l. l) (λ g. absurd (nil≢cons (sym (get_or-eq_default qs [] (omega arith)) ∙ e))) (cases_lt q 32)

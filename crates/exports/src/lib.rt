@@ -8,7 +8,7 @@ ghost use Rattle.checker.specs.Checked.{answer_in, left_in};
 ghost use Rattle.exports.specs.Numbers.{flat, checked_number, with_counts, looked_number, offset_number};
 
 use checker::{Lists, check_words};
-use scope::{Looked, Standing, lookup, scope_at_offset};
+use scope::{lookup, scope_at_offset};
 
 // The lists of a sheet and their five counts: 256, or the refusal's number.
 #[unsafe(no_mangle)]
@@ -58,9 +58,9 @@ pub extern "C" fn cenguatu_lookup(
     ensures { result ≡ looked_number (lookup a scopes.now b bindings.now c carried.now scope name) }
 {
     match lookup(scopes, a, bindings, b, carried, c, scope, name) {
-        Looked::Var(v) => 256 + v as u64,
-        Looked::Nothing => 0,
-        Looked::Refused(n) => n as u64,
+        Ok(Some(variable)) => 256 + u64::from(variable),
+        Ok(None) => 0,
+        Err(cause) => u64::from(u32::from(cause)),
     }
 }
 
@@ -70,8 +70,8 @@ pub extern "C" fn cenguatu_scope_at_offset(scopes: &[u32], n: usize, o: u32) -> 
     ensures { result ≡ offset_number (offset n scopes.now o) }
 {
     match scope_at_offset(scopes, n, o) {
-        Standing::Scope(i) => 256 + i as u64,
-        Standing::Nowhere => 0,
-        Standing::Refused(c) => c as u64,
+        Ok(Some(i)) => 256 + i as u64,
+        Ok(None) => 0,
+        Err(cause) => u64::from(u32::from(cause)),
     }
 }

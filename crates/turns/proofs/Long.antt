@@ -1,37 +1,29 @@
 -- A number below 2 ^ 32 has at most ten digits, so a line that asks something has at most 25 bytes (`short-line`), and the first 32 bytes of
 -- any line ask what it asks (`first-32`).
 use Prim.Native.Nat.{ℕ, suc, ◌+◌, ◌*◌, ◌-◌, ◌^◌, ◌≤◌, ◌<◌}
-use mathlib.Core.Bool.{Bool, true, false, cond, ◌&&◌, false≢true}
+use mathlib.Core.Bool.{Bool, true, false, cond, ◌&&◌}
 use mathlib.Core.List.{List, [], ◌∷◌}
 use mathlib.Core.Logic.{◌⊎◌, inl, inr, ⊎_elim}
 use Rattle.std.specs.Prelude.{Option, Some, None}
 use mathlib.Core.Path.{◌≡◌, refl, sym, ◌∙◌}
 use native.Mathlib.Nat.{pow-suc, pow-le-pow_right}
 use native.Mathlib.Omega.{arith}
-use borrow.Author.Tests.{leb-true, leb-false, ltb-true, ltb-false, eqb-false}
+use borrow.Author.Tests.{leb-true, leb-false, eqb-false}
 use lib.Dec.{eqb, leb, ltb}
-use lib.ListN.{length, take, drop, length-take, length-drop}
+use lib.ListN.{length, take, drop, length-append, length-take, length-drop}
 use lib.Seq.{take_all}
+use Rattle.std.proofs.lemmas.Bool.{cases_lt}
+use Rattle.std.proofs.lemmas.Bool.Decides.{nat_tests}
+use Rattle.turns.proofs.Strip.{strip_is}
 use Rattle.turns.specs.Command.{bytes, strip, digits_from, zero_alone, number_of, before_blank, adding, pair_of, taking, pair_in, command_of}
 use Rattle.turns.specs.declared.line.Command.TheVariants.{Unread}
-
-nothing : {A B : Type 0} {x : A} → None ≡ Some x → B
-nothing e = let z : ◌≡◌ {A = ℕ} 0 1 = cc in absurd (omega arith)
 
 -- d is a digit that may stand behind those of v
 abbrev fits : (v d : ℕ) → Bool
 fits v d = leb 48 d && (leb d 57 && ltb (v * 10 + (d - 48)) (2 ^ 32))
 
-both : (a b c : Bool) → (a && (b && c)) ≡ true → (a ≡ true) × (c ≡ true)
-both true true c e = (refl, e)
-both true false c e = absurd (false≢true e)
-both false b c e = absurd (false≢true e)
-
-fits-from : (v d : ℕ) → fits v d ≡ true → 48 ≤ d
-fits-from v d t = leb-true 48 d (both (leb 48 d) (leb d 57) (ltb (v * 10 + (d - 48)) (2 ^ 32)) t).0
-
-fits_below : (v d : ℕ) → fits v d ≡ true → v * 10 + (d - 48) < 2 ^ 32
-fits_below v d t = ltb-true (v * 10 + (d - 48)) (2 ^ 32) (both (leb 48 d) (leb d 57) (ltb (v * 10 + (d - 48)) (2 ^ 32)) t).1
+fits-digit : (v d : ℕ) → fits v d ≡ true → (48 ≤ d) × (v * 10 + (d - 48) < 2 ^ 32)
+fits-digit v d t = grind (arith, nat_tests)
 
 -- what digits behind those of v make: no less than v with as many zeros behind it, and less than 2 ^ 32
 digits-large : (ds : List ℕ) (v n k : ℕ) → 10 ^ k ≤ v → v < 2 ^ 32 → digits_from v ds ≡ Some n → (10 ^ (k + length ds) ≤ n) × (n < 2 ^ 32)
@@ -46,36 +38,29 @@ digits-large (d ∷ ds) v n k h l e =
     by : (b : Bool) → fits v d ≡ b → cond b (digits_from (v * 10 + (d - 48)) ds) None ≡ Some n → (v * 10 + (d - 48) < 2 ^ 32 → digits_from (v * 10 + (d - 48)) ds ≡ Some n → (10 ^ (suc k + length ds) ≤ n) × (n < 2 ^ 32)) → (10 ^ (k + suc (length ds)) ≤ n) × (n < 2 ^ 32)
     by true t f g =
         let z : k + suc (length ds) ≡ suc k + length ds = omega arith in
-        rw z (g (fits_below v d t) f)
-    by false t f g = nothing f
+        rw z (g (fits-digit v d t).1 f)
+    by false t f g = cc
 
 few : (m n : ℕ) → 10 ^ (0 + m) ≤ n → n < 2 ^ 32 → m ≤ 9
-few m n h l = ⊎_elim (λ k. absurd (omega (arith, pow-le-pow_right {n = 10} (omega arith) {i = 10} {j = 0 + m} (omega arith)))) (λ k. k) (split 9 m)
-  where
-    split : (a b : ℕ) → (a < b) ⊎ (b ≤ a)
-    split a b = by (ltb a b) refl
-      where
-        by : (t : Bool) → ltb a b ≡ t → (a < b) ⊎ (b ≤ a)
-        by true e = inl (ltb-true a b e)
-        by false e = inr (ltb-false a b e)
+few m n h l = ⊎_elim (λ k. absurd (omega (arith, pow-le-pow_right {n = 10} (omega arith) {i = 10} {j = 0 + m} (omega arith)))) (λ k. k) (cases_lt 9 m)
 
 -- a number has at most ten digits
 short-number : (s : List ℕ) (n : ℕ) → number_of s ≡ Some n → length s ≤ 10
 unfolding number_of digits_from
-short-number [] n e = nothing e
+short-number [] n e = cc
 short-number (d ∷ ds) n e = by (eqb d 48) refl e
   where
     alone : (l : List ℕ) → zero_alone l ≡ Some n → suc (length l) ≤ 10
     alone [] f = omega arith
-    alone (x ∷ xs) f = nothing f
+    alone (x ∷ xs) f = cc
 
     after : (b : Bool) → fits 0 d ≡ b → (d ≡ 48 → ⊥) → cond b (digits_from (0 * 10 + (d - 48)) ds) None ≡ Some n → suc (length ds) ≤ 10
     after true t k f =
-        let h = fits-from 0 d t in
-        let large = digits-large ds (0 * 10 + (d - 48)) n 0 (omega arith) (fits_below 0 d t) f in
+        let h = (fits-digit 0 d t).0 in
+        let large = digits-large ds (0 * 10 + (d - 48)) n 0 (omega arith) (fits-digit 0 d t).1 f in
         let m = few (length ds) n large.0 large.1 in
         omega arith
-    after false t k f = nothing f
+    after false t k f = cc
 
     by : (b : Bool) → eqb d 48 ≡ b → cond b (zero_alone ds) (digits_from 0 (d ∷ ds)) ≡ Some n → suc (length ds) ≤ 10
     by true t f = alone ds f
@@ -99,16 +84,7 @@ short-pair s = by (number_of (take (before_blank s) s)) (number_of (drop (before
         ))
 
 strip-size : (text s rest : List ℕ) → strip text s ≡ Some rest → length s ≡ length text + length rest
-unfolding strip
-strip-size [] s rest e =
-    let z : s ≡ rest = cc in
-    rw z (omega arith)
-strip-size (t ∷ ts) [] rest e = nothing e
-strip-size (t ∷ ts) (b ∷ s) rest e = by (eqb t b) e (strip-size ts s rest)
-  where
-    by : (f : Bool) → cond f (strip ts s) None ≡ Some rest → (strip ts s ≡ Some rest → length s ≡ length ts + length rest) → suc (length s) ≡ suc (length ts) + length rest
-    by true g h = let z = h g in omega arith
-    by false g h = nothing g
+strip-size text s rest e = rw (strip_is text s rest e) (length-append text rest)
 
 -- a line that asks something
 short-line : (line : List ℕ) → (command_of line ≡ Unread) ⊎ (length line ≤ 25)

@@ -18,7 +18,7 @@ pub use utf8::is_utf8;
 pub fn join(a: u8, b: u8, c: u8, d: u8) -> u32
     ensures { result ≡ le32 a b c d }
 {
-    (a as u32) + (b as u32) * 256 + (c as u32) * 65536 + (d as u32) * 16777216
+    u32::from_le_bytes([a, b, c, d])
 }
 
 // How many whole words s has.
