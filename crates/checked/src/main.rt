@@ -3,9 +3,10 @@
 // their count are still the marker.
 #![tactic(auto)]
 
-ghost use Rattle.std.specs.Prelude.{◌≤◌, length};
-ghost use Rattle.checker.specs.Checked.{lent};
-ghost use Rattle.checked.specs.Ran.{marked, Ran};
+ghost use Rattle.std.specs.Prelude.{◌≡◌, true, ◌≤◌, length};
+ghost use Rattle.checker.specs.Checked.{lent, IsStill, answered};
+ghost use Rattle.records.specs.Checked.{answer_for, left_for};
+ghost use Rattle.checked.specs.Ran.{lent_with, marked, Ran};
 
 use checker::{Counts, Lists, findings_in};
 use finding::{Finding, load_all};
@@ -17,21 +18,32 @@ use std::io::Write;
 // A word of the marker record, which is no finding's code.
 const MARK: u32 = 7;
 
-// The check call with the first n entries of a list of 2,048 records f; then all 2,048 of them, as flat words in place of findings.
-fn run(s: &[u8], n: usize, f: Finding, lists: &mut Lists<u32>) -> Result<Counts, u32>
-    requires few { n ≤ 2048 }
-    requires room { 12288 ≤ length lists.old.findings.now }
-    ensures { Ran s.now (marked (lent lists.old) n f) n f result lists.old.findings.now lists.new.findings.now }
+// The check call with a list of records in place of the flat findings, which stay as they are.
+fn check_into(s: &[u8], lists: &mut Lists<u32>, records: &mut [Finding]) -> Result<Counts, u32>
+    ensures still { IsStill lists.old lists.new }
+    ensures flat { lists.new.findings.now ≡ lists.old.findings.now }
+    ensures answers { answered result ≡ answer_for true s.now (lent_with (lent lists.old) records.old) }
+    ensures leaves { records.new ≡ (left_for true s.now (lent_with (lent lists.old) records.old)).findings }
 {
-    let mut list = [f; 2048];
-    let mut records = Lists {
+    let mut with_records = Lists {
         scopes: lists.scopes,
         bindings: lists.bindings,
         carried: lists.carried,
         recorded: lists.recorded,
-        findings: &mut list[0..n],
+        findings: records,
     };
-    let answer = check(s, true, &mut records);
+    check(s, true, &mut with_records)
+}
+
+// The check call with the first n entries of a list of 2,048 records f; then all 2,048 of them, as flat findings.
+fn run(s: &[u8], n: usize, f: Finding, lists: &mut Lists<u32>) -> Result<Counts, u32>
+    requires few { n ≤ 2048 }
+    requires room { 12288 ≤ length lists.old.findings.now }
+    ensures still { IsStill lists.old lists.new }
+    ensures ran { Ran s.now (marked (lent lists.old) n f) n f result lists.old.findings.now lists.new.findings.now }
+{
+    let mut list = [f; 2048];
+    let answer = check_into(s, lists, &mut list[0..n]);
     load_all(lists.findings, &list, 2048);
     answer
 }
@@ -40,7 +52,7 @@ fn run(s: &[u8], n: usize, f: Finding, lists: &mut Lists<u32>) -> Result<Counts,
 fn markers(flat: &[u32], from: usize) -> usize {
     flat.chunks_exact(6)
         .skip(from)
-        .filter(|entry| **entry == [MARK; 6])
+        .filter(|entry| *entry == [MARK; 6].as_slice())
         .count()
 }
 

@@ -1,150 +1,94 @@
 // The lists of a sheet as text on a writer: each after a line of its name and count, an entry a line, fields between blanks.
-use checker::{Checked, check_words};
-use std::io;
+ghost use Rattle.std.specs.Prelude.{◌<◌};
+
+use checker::{Lists, check_words};
 use std::io::Write;
-use streams::print_decimal;
+use std::{fmt, io};
 
+// A number that may be missing, as it is printed: `-` where it is.
 #[derive(Clone, Copy)]
-enum Kind {
-    Scopes,
-    Bindings,
-    Carried,
-    Recorded,
-    Records,
-}
+struct Shown(Option<u32>);
 
-// A number, and what comes after it.
-fn field<W: Write>(out: &mut W, n: u32, after: &[u8]) -> io::Result<()> {
-    print_decimal(out, n as u64)?;
-    out.write_all(after)
-}
-
-// A number that is there if the flag is not 0, else `-`, and what comes after it.
-fn optional<W: Write>(out: &mut W, flag: u32, n: u32, after: &[u8]) -> io::Result<()> {
-    if flag != 0 {
-        return field(out, n, after);
+impl fmt::Display for Shown {
+    fn fmt<W: fmt::Write>(&self, f: &mut fmt::Formatter<W>) -> fmt::Result {
+        match self.0 {
+            Some(n) => write!(f, "{n}"),
+            None => f.write_str("-"),
+        }
     }
-    out.write_all(b"-")?;
-    out.write_all(after)
-}
-
-// A number that is kept plus one, or `-` for 0.
-fn less_one<W: Write>(out: &mut W, n: u32, after: &[u8]) -> io::Result<()> {
-    if n != 0 {
-        return field(out, n - 1, after);
-    }
-    out.write_all(b"-")?;
-    out.write_all(after)
 }
 
 // Kind, parent or `-`, start, end.
-fn scope_line<W: Write>(out: &mut W, l: &[u32], i: usize) -> io::Result<()> {
-    if l.len() / 4 <= i {
-        return Ok(());
+fn scope_line<W: Write>(out: &mut W, entry: &[u32]) -> io::Result<()> {
+    if let [kind, parent, start, end] = entry {
+        let parent = Shown(parent.checked_sub(1));
+        writeln!(out, "{kind} {parent} {start} {end}")?;
     }
-    let k = i * 4;
-    field(out, l[k], b" ")?;
-    less_one(out, l[k + 1], b" ")?;
-    field(out, l[k + 2], b" ")?;
-    field(out, l[k + 3], b"\n")
+    Ok(())
 }
 
 // Scope, name, variable, kind, the variable replaced or `-`.
-fn binding_line<W: Write>(out: &mut W, l: &[u32], i: usize) -> io::Result<()> {
-    if l.len() / 6 <= i {
-        return Ok(());
+fn binding_line<W: Write>(out: &mut W, entry: &[u32]) -> io::Result<()> {
+    if let [scope, name, variable, kind, replaces, replaced] = entry {
+        let replaced = Shown(if *replaces == 0 {
+            None
+        } else {
+            Some(*replaced)
+        });
+        writeln!(out, "{scope} {name} {variable} {kind} {replaced}")?;
     }
-    let k = i * 6;
-    field(out, l[k], b" ")?;
-    field(out, l[k + 1], b" ")?;
-    field(out, l[k + 2], b" ")?;
-    field(out, l[k + 3], b" ")?;
-    optional(out, l[k + 4], l[k + 5], b"\n")
+    Ok(())
 }
 
 // Barrier, name, variable.
-fn carried_line<W: Write>(out: &mut W, l: &[u32], i: usize) -> io::Result<()> {
-    if l.len() / 3 <= i {
-        return Ok(());
+fn carried_line<W: Write>(out: &mut W, entry: &[u32]) -> io::Result<()> {
+    if let [barrier, name, variable] = entry {
+        writeln!(out, "{barrier} {name} {variable}")?;
     }
-    let k = i * 3;
-    field(out, l[k], b" ")?;
-    field(out, l[k + 1], b" ")?;
-    field(out, l[k + 2], b"\n")
+    Ok(())
 }
 
-// Variable, kind and via_projection, if there is an answer.
-fn answer<W: Write>(out: &mut W, found: u32, v: u32, kind: u32, via: u32) -> io::Result<()> {
-    if found == 0 {
-        return out.write_all(b"unresolved\n");
+// Use id, and variable, kind and via_projection if there is an answer.
+fn recorded_line<W: Write>(out: &mut W, entry: &[u32]) -> io::Result<()> {
+    if let [id, found, variable, kind, via] = entry {
+        if *found == 0 {
+            return writeln!(out, "{id} unresolved");
+        }
+        writeln!(out, "{id} resolved {variable} {kind} {via}")?;
     }
-    out.write_all(b"resolved ")?;
-    field(out, v, b" ")?;
-    field(out, kind, b" ")?;
-    field(out, via, b"\n")
-}
-
-// Use id, answer.
-fn recorded_line<W: Write>(out: &mut W, l: &[u32], i: usize) -> io::Result<()> {
-    if l.len() / 5 <= i {
-        return Ok(());
-    }
-    let k = i * 5;
-    field(out, l[k], b" ")?;
-    answer(out, l[k + 1], l[k + 2], l[k + 3], l[k + 4])
+    Ok(())
 }
 
 // Code, start, end, name + 1 or 0, two details.
-fn record_line<W: Write>(out: &mut W, l: &[u32], i: usize) -> io::Result<()> {
-    if l.len() / 6 <= i {
-        return Ok(());
+fn record_line<W: Write>(out: &mut W, entry: &[u32]) -> io::Result<()> {
+    if let [code, start, end, name, one, two] = entry {
+        writeln!(out, "{code} {start} {end} {name} {one} {two}")?;
     }
-    let k = i * 6;
-    field(out, l[k], b" ")?;
-    field(out, l[k + 1], b" ")?;
-    field(out, l[k + 2], b" ")?;
-    field(out, l[k + 3], b" ")?;
-    field(out, l[k + 4], b" ")?;
-    field(out, l[k + 5], b"\n")
+    Ok(())
 }
 
-fn name<W: Write>(out: &mut W, which: Kind) -> io::Result<()> {
-    match which {
-        Kind::Scopes => out.write_all(b"scopes "),
-        Kind::Bindings => out.write_all(b"bindings "),
-        Kind::Carried => out.write_all(b"carried "),
-        Kind::Recorded => out.write_all(b"recorded "),
-        Kind::Records => out.write_all(b"records "),
-    }
-}
-
-fn line<W: Write>(out: &mut W, which: Kind, l: &[u32], i: usize) -> io::Result<()> {
-    match which {
-        Kind::Scopes => scope_line(out, l, i),
-        Kind::Bindings => binding_line(out, l, i),
-        Kind::Carried => carried_line(out, l, i),
-        Kind::Recorded => recorded_line(out, l, i),
-        Kind::Records => record_line(out, l, i),
-    }
-}
-
-fn heading<W: Write>(out: &mut W, which: Kind, n: usize) -> io::Result<()> {
-    name(out, which)?;
-    print_decimal(out, n as u64)?;
-    out.write_all(b"\n")
-}
-
-fn list<W: Write>(out: &mut W, which: Kind, l: &[u32], n: usize) -> io::Result<()> {
-    heading(out, which, n)?;
-    for i in 0..n {
-        line(out, which, l, i)?;
+// The first n entries of a list, of so many words each.
+fn list<W: Write, F: Fn(&mut W, &[u32]) -> io::Result<()>>(
+    out: &mut W,
+    name: &str,
+    width: usize,
+    words: &[u32],
+    n: usize,
+    line: F,
+) -> io::Result<()>
+    requires width { 0 < width }
+    requires callable { F.IsAlwaysCallable line }
+{
+    writeln!(out, "{name} {n}")?;
+    for entry in words.chunks_exact(width).take(n) {
+        line(out, entry)?;
     }
     Ok(())
 }
 
 // The first n finding records of a flat list.
-pub fn show_records<W: Write>(out: &mut W, l: &[u32], n: usize) -> io::Result<()> {
-    list(out, Kind::Records, l, n)
+pub fn show_records<W: Write>(out: &mut W, words: &[u32], n: usize) -> io::Result<()> {
+    list(out, "records", 6, words, n, record_line::<W>)
 }
 
 // The lists of a sheet, warnings on; nothing where it is refused.
@@ -154,23 +98,40 @@ pub fn show_lists<W: Write>(out: &mut W, s: &[u8]) -> io::Result<()> {
     let mut carried = [0u32; 6144];
     let mut recorded = [0u32; 10240];
     let mut findings = [0u32; 12288];
-    match check_words(
-        s,
-        true,
-        &mut scopes,
-        &mut bindings,
-        &mut carried,
-        &mut recorded,
-        &mut findings,
-        2048,
-    ) {
-        Checked::Refused(_) => Ok(()),
-        Checked::Is(c) => {
-            list(out, Kind::Scopes, &scopes, c.scopes)?;
-            list(out, Kind::Bindings, &bindings, c.bindings)?;
-            list(out, Kind::Carried, &carried, c.carried)?;
-            list(out, Kind::Recorded, &recorded, c.recorded)?;
-            show_records(out, &findings, c.findings)
-        }
+    let mut lists = Lists {
+        scopes: &mut scopes,
+        bindings: &mut bindings,
+        carried: &mut carried,
+        recorded: &mut recorded,
+        findings: &mut findings,
+    };
+    if let Ok(counts) = check_words(s, true, &mut lists, 2048) {
+        list(out, "scopes", 4, &scopes, counts.scopes, scope_line::<W>)?;
+        list(
+            out,
+            "bindings",
+            6,
+            &bindings,
+            counts.bindings,
+            binding_line::<W>,
+        )?;
+        list(
+            out,
+            "carried",
+            3,
+            &carried,
+            counts.carried,
+            carried_line::<W>,
+        )?;
+        list(
+            out,
+            "recorded",
+            5,
+            &recorded,
+            counts.recorded,
+            recorded_line::<W>,
+        )?;
+        show_records(out, &findings, counts.findings)?;
     }
+    Ok(())
 }
