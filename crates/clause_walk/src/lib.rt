@@ -12,7 +12,7 @@ ghost use Rattle.clause_walk.specs.Clauses.{marked_at, scope_at, match_at, yield
 
 use clause_parts::{DEPTH, Head, next_word, walk_counted};
 use return_walk::{walk_return, walk_sorted_return};
-use steps::{NAMES, Row, bind_anew, bind_name, enter, note};
+use steps::{NAMES, bind_anew, bind_name, enter, note};
 use walk::{walk_expr, walk_marks, walk_pattern, walk_row};
 use with_walk::{walk_sorted_with, walk_with};
 
@@ -68,10 +68,10 @@ fn bind_unwind(
 {
     enter(s, tab, m, vis, found, 5, head.start, head.end);
     match note(s, tab, m, vis, found, v) {
-        Row::Is(x, _) => {
+        Some((x, _)) => {
             bind_name(s, tab, m, vis, found, x, v, 4);
         }
-        Row::No => {
+        None => {
             bind_name(s, tab, m, vis, found, 0, v, 4);
         }
     }

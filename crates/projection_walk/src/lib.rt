@@ -15,9 +15,9 @@ ghost use Rattle.projection_walk.specs.Carries.{kept_of, under, NoStar, Named, H
 use clause_parts::{DEPTH, next_word};
 use heads::{Form, Section};
 use steps::{
-    AT, HELD, MARKS, NAMES, Row, SLOTS, STAR, TOP, WANTS, record_name, row_of, say, use_name,
+    AT, HELD, MARKS, NAMES, SLOTS, STAR, TOP, WANTS, record_name, row_of, say, use_name,
 };
-use visible::{Found, find};
+use visible::find;
 use walk::{walk_expr, walk_row};
 
 // The two forms of an expression that a WITH may carry.
@@ -47,8 +47,8 @@ fn use_plain(s: &[u8], tab: &[u32], m: &mut [u32], vis: &[u32], found: &mut [u32
 {
     if tab[WANTS] == 1 {
         match row_of(s, tab, v) {
-            Row::Is(_, k) => say(m, found, 4, v, k, 0, 0, 0),
-            Row::No => {}
+            Some((_, k)) => say(m, found, 4, v, k, 0, 0, 0),
+            None => {}
         }
     }
 }
@@ -70,8 +70,8 @@ fn carry_var(
     use_plain(s, tab, m, vis, found, v);
     if alias == 0 {
         match row_of(s, tab, v) {
-            Row::Is(x, _) => keep(m, held, x, v),
-            Row::No => {}
+            Some((x, _)) => keep(m, held, x, v),
+            None => {}
         }
     } else {
         keep(m, held, alias - 1, v);
@@ -190,7 +190,13 @@ fn walk_carried(
     ensures { Carries 1 (words s.now) tab.now m.old vis.old found.old held.old m.new vis.new found.new held.new (carried_at (words s.now) tab.now mode alias) result }
 {
     let at = m[AT] as usize;
-    let FormRead::Is(f, q) = read_form(s, tab[NAMES], at) else {
+    let section = Section {
+        bytes: s,
+        names: tab[NAMES],
+        rows: 0,
+        bound: None,
+    };
+    let Ok((f, q)) = section.read_form(at) else {
         return 5;
     };
     match direct_of(f) {

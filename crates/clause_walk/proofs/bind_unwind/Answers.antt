@@ -23,18 +23,18 @@ bind_name-requires c =
     let given = let a = c.args in let p : Ready 4 (words a.s.now) a.tab.now a.m.now a.vis.now a.found.now = c.requires in p in
     let noting = noted-ready {i = 3} (omega arith) (noted-ready {i = 3} (omega arith) given c.enter.ensures) c.note.ensures.steps in
     let below = name_below given.fine.some c.note.ensures.told in
-    (rw c.in-Is.is at below, noting)
+    (rw c.in-Some.is at below, noting)
 
-pub bind_name-requires-in-No : goal.bind_name-requires-in-No
-bind_name-requires-in-No c =
+pub bind_name-requires-in-None : goal.bind_name-requires-in-None
+bind_name-requires-in-None c =
     let given = let a = c.args in let p : Ready 4 (words a.s.now) a.tab.now a.m.now a.vis.now a.found.now = c.requires in p in
     let noting = noted-ready {i = 3} (omega arith) (noted-ready {i = 3} (omega arith) given c.enter.ensures) c.note.ensures.steps in
     (given.fine.some, noting)
 
-pub returns-in-Is : goal.returns-in-Is
-returns-in-Is c =
-    unwound c.note.ensures.told (ap name_in (sym c.in-Is.is)) c.enter.ensures c.note.ensures.steps c.bind_name.ensures.costs
+pub returns-in-Some : goal.returns-in-Some
+returns-in-Some c =
+    unwound c.note.ensures.told (ap name_in (sym c.in-Some.is)) c.enter.ensures c.note.ensures.steps c.bind_name.ensures.costs
 
-pub returns-in-No : goal.returns-in-No
-returns-in-No c =
-    unwound c.note.ensures.told (ap name_in (sym c.in-No.is)) c.enter.ensures c.note.ensures.steps c.bind_name-in-No.ensures.costs
+pub returns-in-None : goal.returns-in-None
+returns-in-None c =
+    unwound c.note.ensures.told (ap name_in (sym c.in-None.is)) c.enter.ensures c.note.ensures.steps c.bind_name-in-None.ensures.costs

@@ -53,7 +53,7 @@ walk_yields-requires c =
     let begun = let a = c.args in start {keep = None} {G = call_at (words a.s.now) a.tab.now a.mode a.head.start a.head.end} (λ id u w. step (counted_at (words a.s.now) a.tab.now (a.mode / 128 * 128) id (on_names (enter call_scope a.head.start a.head.end) w)) (λ x. step (word_in 0 4294967296) (λ n. last (yields_at (words a.s.now) a.tab.now a.head.start a.head.end n id x)))) c.requires.1 (λ id s r. call-as (words a.s.now) a.tab.now a.mode a.head.start a.head.end id s r c.requires.0) in
     let one = let a = c.args in did (λ id u w. step (counted_at (words a.s.now) a.tab.now (a.mode / 128 * 128) id w) (λ x. step (word_in 0 4294967296) (λ n. last (yields_at (words a.s.now) a.tab.now a.head.start a.head.end n id x)))) 2 (omega arith) (omega arith) begun c.enter.ensures in
     let two = went 2 c.if-r-ne0.false (omega arith) one (forget {held = []} _ c.walk_counted-r.ensures) in
-    let three = past two c.next_word.ensures c.in-Is.is in
+    let three = past two c.next_word.ensures c.in-Some.is in
     ready (omega arith) c.requires.1 three
 
 pub returns : goal.returns
@@ -61,5 +61,5 @@ returns c =
     let begun = let a = c.args in start {keep = None} {G = call_at (words a.s.now) a.tab.now a.mode a.head.start a.head.end} (λ id u w. step (counted_at (words a.s.now) a.tab.now (a.mode / 128 * 128) id (on_names (enter call_scope a.head.start a.head.end) w)) (λ x. step (word_in 0 4294967296) (λ n. last (yields_at (words a.s.now) a.tab.now a.head.start a.head.end n id x)))) c.requires.1 (λ id s r. call-as (words a.s.now) a.tab.now a.mode a.head.start a.head.end id s r c.requires.0) in
     let one = let a = c.args in did (λ id u w. step (counted_at (words a.s.now) a.tab.now (a.mode / 128 * 128) id w) (λ x. step (word_in 0 4294967296) (λ n. last (yields_at (words a.s.now) a.tab.now a.head.start a.head.end n id x)))) 2 (omega arith) (omega arith) begun c.enter.ensures in
     let two = went 2 c.if-r-ne0.false (omega arith) one (forget {held = []} _ c.walk_counted-r.ensures) in
-    let three = past two c.next_word.ensures c.in-Is.is in
+    let three = past two c.next_word.ensures c.in-Some.is in
     last_one _ (omega arith) refl three c.walk_yields.ensures

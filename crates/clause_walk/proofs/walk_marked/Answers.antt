@@ -31,7 +31,7 @@ unfolding marked_go
 walk_marks-requires c =
     let given = let a = c.args in let p : Ready 0 (words a.s.now) a.tab.now a.m.now a.vis.now a.found.now = c.requires in p in
     let begun = let a = c.args in start {keep = None} (λ id u v. step (word_in 0 4294967296) (λ n. last (rounds n (mark_go (world_at (words a.s.now) a.tab.now id) (within (world_at (words a.s.now) a.tab.now id) (tables_in a.tab.now)) (mode_of a.mode) a.kind) v))) given (λ id s r. refl) in
-    let one = past begun c.next_word.ensures c.in-Is.is in
+    let one = past begun c.next_word.ensures c.in-Some.is in
     (omega arith, ready (omega arith) given one)
 
 pub returns : goal.returns
@@ -39,5 +39,5 @@ unfolding marked_go
 returns c =
     let given = let a = c.args in let p : Ready 0 (words a.s.now) a.tab.now a.m.now a.vis.now a.found.now = c.requires in p in
     let begun = let a = c.args in start {keep = None} (λ id u v. step (word_in 0 4294967296) (λ n. last (rounds n (mark_go (world_at (words a.s.now) a.tab.now id) (within (world_at (words a.s.now) a.tab.now id) (tables_in a.tab.now)) (mode_of a.mode) a.kind) v))) given (λ id s r. refl) in
-    let one = past begun c.next_word.ensures c.in-Is.is in
+    let one = past begun c.next_word.ensures c.in-Some.is in
     last_one _ (omega arith) refl one (forget _ c.walk_marks.ensures)

@@ -18,11 +18,11 @@ returns-in_default c =
 pub walk_opening-requires : goal.walk_opening-requires
 walk_opening-requires c =
     let begun = let a = c.args in start {keep = None} (λ id u v. step (word_in 0 2) (λ o. last (scope_at (words a.s.now) a.tab.now a.mode a.head.start a.head.end 2 id v))) c.requires.1 (λ id s r. refl) in
-    let one = past begun c.next_word.ensures c.in-Is.is in
+    let one = past begun c.next_word.ensures c.in-Some.is in
     (c.requires.0, ready (omega arith) c.requires.1 one)
 
 pub returns : goal.returns
 returns c =
     let begun = let a = c.args in start {keep = None} (λ id u v. step (word_in 0 2) (λ o. last (scope_at (words a.s.now) a.tab.now a.mode a.head.start a.head.end 2 id v))) c.requires.1 (λ id s r. refl) in
-    let one = past begun c.next_word.ensures c.in-Is.is in
+    let one = past begun c.next_word.ensures c.in-Some.is in
     last_one _ (omega arith) refl one c.walk_opening.ensures

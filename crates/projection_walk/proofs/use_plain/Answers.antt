@@ -3,13 +3,13 @@ use mathlib.Core.Path.{sym, ◌∙◌}
 use Rattle.projection_walk.proofs.Carrying.{plain-said, plain-none, plain_quiet}
 use Rattle.projection_walk.proofs.use_plain.Goals as goal
 
-pub returns-in-Is : goal.returns-in-Is
-returns-in-Is c =
-    plain-said _ c.requires.fit.size c.if-tab-eq1.true (sym c.in-Is.is ∙ c.row_of.ensures.value) c.say.ensures
+pub returns-in-Some : goal.returns-in-Some
+returns-in-Some c =
+    plain-said _ c.requires.fit.size c.if-tab-eq1.true (sym c.in-Some.is ∙ c.row_of.ensures.value) c.say.ensures
 
-pub returns-in-No : goal.returns-in-No
-returns-in-No c =
-    plain-none _ (sym c.in-No.is ∙ c.row_of.ensures.value)
+pub returns-in-None : goal.returns-in-None
+returns-in-None c =
+    plain-none _ (sym c.in-None.is ∙ c.row_of.ensures.value)
 
 pub returns-else-tab-eq1 : goal.returns-else-tab-eq1
 returns-else-tab-eq1 c =

@@ -12,21 +12,21 @@ returns-in_default c =
 
 pub walk_projections-r-requires : goal.walk_projections-r-requires
 walk_projections-r-requires c =
-    pairs-ask c.args.mode c.next_word.ensures c.requires.1.1 c.in-Is.is c.requires.0 c.requires.1.0
+    pairs-ask c.args.mode c.next_word.ensures c.requires.1.1 c.in-Some.is c.requires.0 c.requires.1.0
 
 pub returns-then-r-ne0 : goal.returns-then-r-ne0
 returns-then-r-ne0 c =
-    let fell = pairs-refused c.args.mode c.next_word.ensures c.requires.1.1 c.in-Is.is c.walk_projections-r.ensures c.if-r-ne0.true in
+    let fell = pairs-refused c.args.mode c.next_word.ensures c.requires.1.1 c.in-Some.is c.walk_projections-r.ensures c.if-r-ne0.true in
     fell
 
 pub next_word-requires-2 : goal.next_word-requires-2
 next_word-requires-2 c =
-    let flagged = flag-asks c.args.mode c.next_word.ensures c.requires.1.1 c.in-Is.is c.walk_projections-r.ensures c.if-r-ne0.false in
+    let flagged = flag-asks c.args.mode c.next_word.ensures c.requires.1.1 c.in-Some.is c.walk_projections-r.ensures c.if-r-ne0.false in
     asked flagged
 
 pub returns-in_default-next_word : goal.returns-in_default-next_word
 returns-in_default-next_word c =
-    let halted = flag-refused c.args.mode c.next_word.ensures c.requires.1.1 c.in-Is.is c.walk_projections-r.ensures c.if-r-ne0.false c.next_word-2.ensures c.in_default-next_word.is in
+    let halted = flag-refused c.args.mode c.next_word.ensures c.requires.1.1 c.in-Some.is c.walk_projections-r.ensures c.if-r-ne0.false c.next_word-2.ensures c.in_default-next_word.is in
     halted
 
 pub overflow_mul-mode : goal.overflow_mul-mode
@@ -35,9 +35,9 @@ overflow_mul-mode c =
 
 pub walk_row-requires : goal.walk_row-requires
 walk_row-requires c =
-    ((omega arith, omega (arith, (in-range c.next_word-2.ensures c.in-Is-next_word.is).1)), row-asks c.args.mode c.next_word.ensures c.requires.1.1 c.in-Is.is c.walk_projections-r.ensures c.if-r-ne0.false c.next_word-2.ensures c.in-Is-next_word.is)
+    ((omega arith, omega (arith, (in-range c.next_word-2.ensures c.in-Some-next_word.is).1)), row-asks c.args.mode c.next_word.ensures c.requires.1.1 c.in-Some.is c.walk_projections-r.ensures c.if-r-ne0.false c.next_word-2.ensures c.in-Some-next_word.is)
 
 pub returns : goal.returns
 returns c =
-    let ended = filter_passes c.args.mode c.next_word.ensures c.requires.1.1 c.in-Is.is c.walk_projections-r.ensures c.if-r-ne0.false c.next_word-2.ensures _ c.in-Is-next_word.is (in_pair c.args.mode 0 (c.args.mode / 64 * 64) (omega arith) (omega arith) 48 _ c.walk_row.ensures) in
+    let ended = filter_passes c.args.mode c.next_word.ensures c.requires.1.1 c.in-Some.is c.walk_projections-r.ensures c.if-r-ne0.false c.next_word-2.ensures _ c.in-Some-next_word.is (in_pair c.args.mode 0 (c.args.mode / 64 * 64) (omega arith) (omega arith) 48 _ c.walk_row.ensures) in
     ended

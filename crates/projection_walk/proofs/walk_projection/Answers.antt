@@ -11,8 +11,8 @@ returns-in_default c =
 
 pub walk_carried-requires : goal.walk_carried-requires
 walk_carried-requires c =
-    (omega (arith, (in-range c.next_word.ensures c.in-Is.is).1), (c.requires.0, (word-holding c.requires.1.1.fit.size c.next_word.ensures c.in-Is.is (omega arith) c.requires.1.0, word-ready c.next_word.ensures c.in-Is.is (omega arith) c.requires.1.1)))
+    (omega (arith, (in-range c.next_word.ensures c.in-Some.is).1), (c.requires.0, (word-holding c.requires.1.1.fit.size c.next_word.ensures c.in-Some.is (omega arith) c.requires.1.0, word-ready c.next_word.ensures c.in-Some.is (omega arith) c.requires.1.1)))
 
 pub returns : goal.returns
 returns c =
-    alias-passes c.args.mode c.next_word.ensures _ c.requires.1.1.fit.size c.in-Is.is c.walk_carried.ensures
+    alias-passes c.args.mode c.next_word.ensures _ c.requires.1.1.fit.size c.in-Some.is c.walk_carried.ensures

@@ -21,15 +21,15 @@ returns-in_default c =
 
 pub hold-k-requires : goal.hold-k-requires
 hold-k-requires c =
-    hold-asks c.loop-left.invariant c.loop-left-test.true c.next_word.ensures c.in-Is.is c.requires.1 (omega (arith, c.requires.0.room))
+    hold-asks c.loop-left.invariant c.loop-left-test.true c.next_word.ensures c.in-Some.is c.requires.1 (omega (arith, c.requires.0.room))
 
 pub walk_expr-r-requires : goal.walk_expr-r-requires
 walk_expr-r-requires c =
-    (omega arith, expr-ready c.loop-left.invariant c.loop-left-test.true c.next_word.ensures c.in-Is.is c.requires.1)
+    (omega arith, expr-ready c.loop-left.invariant c.loop-left-test.true c.next_word.ensures c.in-Some.is c.requires.1)
 
 pub returns-then-r-ne0 : goal.returns-then-r-ne0
 returns-then-r-ne0 c =
-    let fell = fell-expr c.loop-left.invariant c.loop-left-test.true c.next_word.ensures c.in-Is.is c.walk_expr-r.ensures c.if-r-ne0.true in
+    let fell = fell-expr c.loop-left.invariant c.loop-left-test.true c.next_word.ensures c.in-Some.is c.walk_expr-r.ensures c.if-r-ne0.true in
     record { same = refl; kept = c.hold-k.ensures.kept ∙ c.loop-left.invariant.kept; walked = fell }
 
 pub overflow_sub-left : goal.overflow_sub-left
@@ -42,7 +42,7 @@ loop-left-smaller c =
 
 pub loop-left-preserved : goal.loop-left-preserved
 loop-left-preserved c =
-    turned c.loop-left.invariant c.loop-left-test.true c.next_word.ensures c.in-Is.is c.walk_expr-r.ensures c.hold-k.ensures c.if-r-ne0.false c.requires.1.fine.places
+    turned c.loop-left.invariant c.loop-left-test.true c.next_word.ensures c.in-Some.is c.walk_expr-r.ensures c.hold-k.ensures c.if-r-ne0.false c.requires.1.fine.places
 
 pub walk_hushed-requires : goal.walk_hushed-requires
 walk_hushed-requires c =

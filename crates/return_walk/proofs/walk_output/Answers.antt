@@ -26,12 +26,12 @@ pub walk_expr-requires : goal.walk_expr-requires
 walk_expr-requires c =
     let given = let a = c.args in let p : Ready 0 (words a.s.now) a.tab.now a.m.now a.vis.now a.found.now = c.requires in p in
     let begun = let a = c.args in start {keep = Some 48} {G = output_at (words a.s.now) a.tab.now a.mode} (λ id u v. step (word_in 0 (names_in a.tab.now + 1)) (λ x. last (within (world_at (words a.s.now) a.tab.now id) (tables_in a.tab.now) (mode_of a.mode) general v))) given (λ id s r. rw (add-one (names_in a.tab.now))) in
-    let one = past begun c.next_word.ensures c.in-Is.is in
+    let one = past begun c.next_word.ensures c.in-Some.is in
     (omega arith, ready (omega arith) given one)
 
 pub returns : goal.returns
 returns c =
     let given = let a = c.args in let p : Ready 0 (words a.s.now) a.tab.now a.m.now a.vis.now a.found.now = c.requires in p in
     let begun = let a = c.args in start {keep = Some 48} {G = output_at (words a.s.now) a.tab.now a.mode} (λ id u v. step (word_in 0 (names_in a.tab.now + 1)) (λ x. last (within (world_at (words a.s.now) a.tab.now id) (tables_in a.tab.now) (mode_of a.mode) general v))) given (λ id s r. rw (add-one (names_in a.tab.now))) in
-    let one = past begun c.next_word.ensures c.in-Is.is in
+    let one = past begun c.next_word.ensures c.in-Some.is in
     tail _ (omega arith) one (in-set c.args.mode 0 (c.args.mode / 64 * 64) (omega arith) (omega arith) 48 (omega arith) c.walk_expr.ensures)

@@ -22,12 +22,12 @@ pub walk_outputs-requires : goal.walk_outputs-requires
 walk_outputs-requires c =
     let given = let a = c.args in let p : Ready 0 (words a.s.now) a.tab.now a.m.now a.vis.now a.found.now = c.requires in p in
     let begun = let a = c.args in start {keep = Some 48} (λ id u v. step (word_in 0 4294967296) (λ n. last (rounds n (output_at (words a.s.now) a.tab.now a.mode id) v))) given (λ id s r. refl) in
-    let one = past begun c.next_word.ensures c.in-Is.is in
+    let one = past begun c.next_word.ensures c.in-Some.is in
     ready (omega arith) given one
 
 pub returns : goal.returns
 returns c =
     let given = let a = c.args in let p : Ready 0 (words a.s.now) a.tab.now a.m.now a.vis.now a.found.now = c.requires in p in
     let begun = let a = c.args in start {keep = Some 48} (λ id u v. step (word_in 0 4294967296) (λ n. last (rounds n (output_at (words a.s.now) a.tab.now a.mode id) v))) given (λ id s r. refl) in
-    let one = past begun c.next_word.ensures c.in-Is.is in
+    let one = past begun c.next_word.ensures c.in-Some.is in
     tail _ (omega arith) one c.walk_outputs.ensures

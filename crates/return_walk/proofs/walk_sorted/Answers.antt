@@ -21,13 +21,13 @@ pub walk_keyed-requires : goal.walk_keyed-requires
 walk_keyed-requires c =
     let given = let a = c.args in let p : Ready 0 (words a.s.now) a.tab.now a.m.now a.vis.now a.found.now = c.requires.1 in p in
     let begun = let a = c.args in start {keep = Some 48} {G = sorted_at (words a.s.now) a.tab.now a.mode} (λ id u v. step (word_in 0 4294967296) (λ n. last (keyed_at (words a.s.now) a.tab.now a.mode n id v))) given (λ id s r. refl) in
-    let one = past begun c.next_word.ensures c.in-Is.is in
+    let one = past begun c.next_word.ensures c.in-Some.is in
     (c.requires.0, ready (omega arith) given one)
 
 pub returns : goal.returns
 returns c =
     let given = let a = c.args in let p : Ready 0 (words a.s.now) a.tab.now a.m.now a.vis.now a.found.now = c.requires.1 in p in
     let begun = let a = c.args in start {keep = Some 48} {G = sorted_at (words a.s.now) a.tab.now a.mode} (λ id u v. step (word_in 0 4294967296) (λ n. last (keyed_at (words a.s.now) a.tab.now a.mode n id v))) given (λ id s r. refl) in
-    let one = past begun c.next_word.ensures c.in-Is.is in
+    let one = past begun c.next_word.ensures c.in-Some.is in
     let done = tail _ (omega arith) one c.walk_keyed.ensures.walked in
     record { same = c.walk_keyed.ensures.same; kept = c.walk_keyed.ensures.kept; walked = done }
