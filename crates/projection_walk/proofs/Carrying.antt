@@ -3,6 +3,7 @@
 -- `adds_none`, `adds-star`; what that is: `Gives`, `var-aliased`, `var-named`, `var-none`, `name-carried`, `name-missing`, `name-all`, by
 -- `looked` and `unlooked`; the name of its pair: `under-alias`, `under-named`). The alias of any other expression: `kept-none`, `kept-alias`.
 -- The use of a Var or a name: `plain-said`, `plain-none`, `plain_quiet`, `name-found`.
+use Rattle.visible.proofs.Pairs.{same_pair}
 use Rattle.std.specs.Prelude.{Option, None, Some}
 use Prim.Native.Nat.{ℕ, zero, suc, ◌+◌, ◌-◌, ◌*◌, ◌<◌, ◌≤◌}
 use native.Mathlib.Omega.{arith}
@@ -206,7 +207,7 @@ module _ (w : World) (vis : List Seen) (v : ℕ) where
     where
       go : (o : Option Row) {k : ℕ} → Some (x, k) ≡ shown o → if_row o v ≡ pair x v ∷ []
       go None q = cc
-      go (Some (row i y l a b)) q = let z : x ≡ y = cc in rw z
+      go (Some (row i y l a b)) q = let z : x ≡ y = (same_pair q).0 in rw z
 
   pub var-none : (alias : ℕ) → alias ≡ 0 → None ≡ shown (w.row v) → Gives w alias (a_var v) vis false []
   unfolding carries is_all if_row
@@ -233,7 +234,7 @@ visit-visible w false x o s = use-visible w x o s
 
 pub looked : {r : Option (ℕ × ℕ)} {v c : ℕ} (o : Option ℕ) (p : ℕ) → r ≡ answer o p → r ≡ Some (v, c) → o ≡ Some v
 looked None p e q = cc
-looked (Some u) p e q = cc
+looked (Some u) p e q = ap (λ (w : ℕ). Some w) (same_pair (sym e ∙ q)).0
 
 pub unlooked : {r : Option (ℕ × ℕ)} (o : Option ℕ) (p : ℕ) → r ≡ answer o p → r ≡ None → o ≡ None
 unlooked None p e q = refl
@@ -299,7 +300,7 @@ module _ {ws tab m vis found : List ℕ} (v : ℕ) where
     where
       go : (id : ℕ → ℕ) (s : Both) (o : Option Row) → Some (x, k) ≡ shown o → on_names (say (event_of id 4 v k 0 0 0)) s ≡ on_names (use_var (world_at ws tab id) v o) s
       go id s None q = cc
-      go id s (Some (row i y l a b)) q = let z : k ≡ l = cc in rw z
+      go id s (Some (row i y l a b)) q = let z : k ≡ l = (same_pair q).1 in rw z
 
   pub plain-none : {j : ℕ} → None ≡ shown ((world_at ws tab (λ x. x)).row v) → Steps j ws tab m vis found m vis found (λ id. on_names (use_var (world_at ws tab id) v ((world_at ws tab id).row v)))
   plain-none q = rowless-use 64 v ((world_at ws tab (λ x. x)).row v) (sym q)

@@ -14,9 +14,7 @@ ghost use Rattle.projection_walk.specs.Carries.{kept_of, under, NoStar, Named, H
 
 use clause_parts::{DEPTH, next_word};
 use heads::{Form, Section};
-use steps::{
-    AT, HELD, MARKS, NAMES, SLOTS, STAR, TOP, WANTS, record_name, row_of, say, use_name,
-};
+use steps::{AT, HELD, MARKS, NAMES, SLOTS, STAR, TOP, WANTS, record_name, row_of, say, use_name};
 use visible::find;
 use walk::{walk_expr, walk_row};
 
