@@ -5,12 +5,14 @@
 
 ghost use Rattle.std.specs.Prelude.{◌≡◌, true, [], ◌+◌, ◌*◌};
 ghost use Rattle.words.specs.Words.{words};
+ghost use Rattle.heads.specs.Answer.{kind_of};
 ghost use Rattle.steps.specs.Memory.{mode_of};
 ghost use Rattle.steps.specs.Hold.{Ready, Steps};
 ghost use Rattle.clause_parts.specs.Passes.{Held, Passes};
 ghost use Rattle.clause_walk.specs.Clauses.{marked_at, scope_at, match_at, yield_at, unwind_at, unwound_at, yields_at, call_at, body_at, clause_at};
 
 use clause_parts::{DEPTH, Head, next_word, walk_counted};
+use heads::MarkKind;
 use return_walk::{walk_return, walk_sorted_return};
 use steps::{NAMES, bind_anew, bind_name, enter, note};
 use walk::{walk_expr, walk_marks, walk_pattern, walk_row};
@@ -23,11 +25,11 @@ fn walk_marked(
     m: &mut [u32],
     vis: &mut [u32],
     found: &mut [u32],
-    kind: u32,
+    kind: MarkKind,
     mode: u32,
 ) -> u32
     requires { Ready 0 (words s.now) tab.now m.old vis.old found.old }
-    ensures { Passes 0 (words s.now) tab.now m.old vis.old found.old [] m.new vis.new found.new [] (marked_at (words s.now) tab.now mode 0 0 kind) result }
+    ensures { Passes 0 (words s.now) tab.now m.old vis.old found.old [] m.new vis.new found.new [] (marked_at (words s.now) tab.now mode 0 0 (kind_of kind)) result }
 {
     let Some(n) = next_word(s, m, 0, 4294967296) else {
         return 5;
@@ -213,8 +215,8 @@ fn walk_body(
         5 => walk_unwind(s, tab, m, vis, found, head, mode),
         6 => walk_opening(s, tab, m, vis, found, head, 3, mode),
         7 => walk_opening(s, tab, m, vis, found, head, 4, mode),
-        8 => walk_marked(s, tab, m, vis, found, 1, mode),
-        9 => walk_marked(s, tab, m, vis, found, 2, mode),
+        8 => walk_marked(s, tab, m, vis, found, MarkKind::Set, mode),
+        9 => walk_marked(s, tab, m, vis, found, MarkKind::Remove, mode),
         10 => walk_counted(s, tab, m, vis, found, mode),
         11 => walk_call(s, tab, m, vis, found, head, mode),
         12 => walk_sorted_with(s, tab, m, vis, found, held, head, mode),
