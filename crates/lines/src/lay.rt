@@ -16,7 +16,7 @@ fn lay_digits(n: u32, at: usize, out: &mut [u8]) -> usize
     ensures { Lays (decimal n) out.old at out.new result }
 {
     if n < 10 {
-        return lay(&[48 + n as u8], at, out);
+        return lay(&[b'0' + n as u8], at, out);
     }
     at + put_decimal(n, &mut out[at..])
 }
