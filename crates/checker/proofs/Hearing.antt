@@ -1,7 +1,7 @@
 -- What a run of the walks leaves, where every event was wanted: `Heard`, in the definition's words, oldest first.
 --     heard       so of a run that answered; `run-refused`: one that refused
 --     ids-are     a name's use id, as the code looks it up, is the statement's
-use Prim.Native.Nat.{ℕ, ◌+◌, ◌*◌, ◌≤◌}
+use Prim.Native.Nat.{ℕ, ◌*◌, ◌≤◌}
 use native.Mathlib.Omega.{arith}
 use mathlib.Core.Path.{◌≡◌, sym, ◌∙◌, ap, subst}
 use mathlib.Core.Bool.{Bool, true}
@@ -12,24 +12,18 @@ use Rattle.words.specs.Fnv.{use_id}
 use Rattle.tables.specs.Name.{name_at}
 use Rattle.sheet.specs.Trailer.{places_of}
 use Rattle.sheet.specs.Statement.{Statement}
-use Rattle.sheet.specs.Read.{accepted, refused, read_sheet}
+use Rattle.sheet.specs.Read.{refused, read_sheet}
 use Rattle.sheet.proofs.Walked.{walked}
-use Rattle.semantics.specs.World.{bytes_of, kind_of, world_of}
+use Rattle.semantics.specs.World.{bytes_of}
 use Rattle.semantics.specs.Resolve.{run, log}
-use Rattle.semantics.specs.Kinds.{kinds}
-use Rattle.semantics.specs.Lists.{bindings, carried_list}
-use Rattle.theorems.specs.Woven.{written}
+use Rattle.semantics.specs.Lists.{carried_list}
 use Rattle.theorems.proofs.Woven.{written-reverse}
 use Rattle.theorems.proofs.Needs.{needs}
 use Rattle.steps.specs.Memory.{kept, events}
-use Rattle.steps.specs.Hold.{Fine}
-use Rattle.entries.specs.Filled.{carried_words}
-use Rattle.entries.specs.Adding.{Holds}
 use Rattle.sheet_walk.specs.Runs.{warns_by, wants_by, id_of, RanTo, RanAs, Runs}
 use Rattle.sheet_walk.specs.declared.Ran.{Ran}
 use Rattle.sheet_walk.specs.declared.Ran.TheVariants as ran
 use Rattle.lists_fill.specs.Said.{id_in, events_in, told_in}
-use Rattle.lists_fill.specs.Weaving.{kind_in}
 use Rattle.checker.specs.Filling.{Heard}
 use Rattle.checker.specs.declared.Scratch.{Scratch}
 

@@ -167,7 +167,7 @@ fn choice_of(warns: bool) -> u32
     2
 }
 
-// What both walks say of a sheet, and what they carry into a list.
+// What both walks say of a sheet, and what they carry into a list. A refusal stays the number that the walks give, of which they promise no bound.
 fn listen(s: &[u8], warns: bool, scratch: &mut Scratch, carried: &mut [u32]) -> Result<Tally, u32>
     requires { Clean (length (words s.now)) scratch.old }
     ensures sized { IsSized scratch.old scratch.new }

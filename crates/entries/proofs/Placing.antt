@@ -2,23 +2,21 @@
 use Rattle.std.specs.Prelude.{Option, None, Some}
 use Prim.Native.Nat.{ℕ, zero, suc, ◌+◌, ◌-◌, ◌*◌, ◌<◌, ◌≤◌}
 use native.Mathlib.Nat.{add-zero, zero-add}
-use native.Mathlib.Numerals.{add-one, add-two, add-three, add-four}
 use native.Mathlib.Omega.{arith}
 use mathlib.Core.Path.{◌≡◌, refl, sym, ◌∙◌}
 use mathlib.Core.Bool.{Bool, true, false, cond, ◌&&◌}
 use mathlib.Core.List.{List, [], ◌∷◌, ◌++◌, flat_map}
 use lib.Dec.{eqb}
-use lib.ListN.{length, get_or, set, drop}
-use lib.Seq.{sets, length-sets, drop_at, get_or-drop, get_or-append-add}
-use Rattle.scope.specs.Flat.{entries_of, binding_of, bindings_of}
+use lib.ListN.{length, get_or, drop}
+use lib.Seq.{sets, length-sets, drop_at, get_or-append-add}
+use Rattle.scope.specs.Flat.{entries_of}
 use Rattle.scope.specs.Graph.{Entry, entry}
 use Rattle.scope.proofs.Entries.{from, first, next, last}
 use Rattle.semantics.specs.Log.{bound, Answer, Write, write}
 use Rattle.semantics.specs.Lists.{put, note}
-use Rattle.entries.specs.Filled.{filled, answer_words, binding_words, recorded_words}
-use Rattle.entries.specs.Adding.{Holds, Becomes, place, begins, is_binding, answer}
+use Rattle.entries.specs.Filled.{filled, binding_words, recorded_words}
+use Rattle.entries.specs.Adding.{Holds, Becomes, place, begins, is_binding}
 use Rattle.entries.specs.declared.Binding.{Binding}
-use Rattle.entries.specs.declared.Found.{Found}
 use Rattle.entries.specs.Stamps.{Stores}
 use Rattle.entries.proofs.Filling.{over, length_over, filled-append, sized-binding, sized-recorded}
 use Rattle.entries.proofs.Adding.{set_holds, one_set}

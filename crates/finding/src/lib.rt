@@ -60,7 +60,8 @@ pub fn words_at(flat: &mut [u32], i: usize, f: Finding)
     flat[at..at + 6].copy_from_slice(&words);
 }
 
-// The first `count` entries become the flat list's records, and the rest is left as it was.
+// The first `count` entries become the flat list's records, and the rest is left as it was. They are stored by their place, since what is written
+// through `iter_mut` is not known after the loop.
 #[tactic(auto, unfolding(crate::specs::Records::into))]
 pub fn store_all(list: &mut [Finding], flat: &[u32], count: usize)
     requires { (count ≤ length list.old) × (count * 6 ≤ length flat.now) }

@@ -257,11 +257,7 @@ pub fn fill_bindings(
 fn use_of(uses: &[u32], name: u32) -> u32
     ensures { result ≡ id_in uses.now name }
 {
-    let i = name as usize;
-    if i < uses.len() {
-        return uses[i];
-    }
-    NO_NAME
+    uses.get(name as usize).copied().unwrap_or(NO_NAME)
 }
 
 // The answer that an event records, where a name's use id is known.

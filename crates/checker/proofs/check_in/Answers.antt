@@ -1,6 +1,6 @@
 -- A refusal is handed on. Then the lists' room is tested, and only where all of them have it are they filled: what is carried is copied from
 -- the scratch where it was stored, or the sheet is run again.
-use Rattle.std.proofs.Common.{◌∙◌, sym, arith}
+use Rattle.std.proofs.Common.{◌∙◌, arith}
 use Rattle.checker.specs.Checked.{lent}
 use Rattle.checker.proofs.Answers.{handed-on, short-answer, tested, again-asks, copied, carried-fits, fill-asks, full-answer}
 use Rattle.checker.proofs.check_in.Goals as goal

@@ -1,6 +1,5 @@
 -- The answer's words are stored in the place of the same use, or past the last.
-use Rattle.std.proofs.Common.{◌∙◌, ap, arith}
-use lib.Seq.{sets}
+use Rattle.std.proofs.Common.{arith}
 use Rattle.entries.proofs.Placing.{answer-placed}
 use Rattle.entries.proofs.put_answer.Goals as goal
 
