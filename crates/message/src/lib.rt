@@ -12,7 +12,7 @@ ghost use Rattle.message.specs.Message.{starred, name_text, text_if, message};
 
 use pushes::push_of;
 use refusal::Refusal;
-use sheet::{Found, find_name};
+use sheet::find_name;
 use tables::name_at;
 use texts::{text_for, text_len, write_text};
 
@@ -21,13 +21,8 @@ fn text_at(s: &[u8], i: u32) -> Result<&[u8], Refusal>
     ensures text { IfOk result (λ x. read_text s.now i ≡ accepted x.now) }
     ensures cause { IfErr result (λ refusal. read_text s.now i ≡ refused (number_of refusal)) }
 {
-    match find_name(s, i) {
-        Found::At(p, e) => Ok(name_at(&s[..e], p as usize)),
-        Found::Refused(1) => Err(Refusal::Size),
-        Found::Refused(2) => Err(Refusal::Places),
-        Found::Refused(3) => Err(Refusal::Names),
-        Found::Refused(_) => Err(Refusal::Word),
-    }
+    let (p, e) = find_name(s, i)?;
+    Ok(name_at(&s[..e], p as usize))
 }
 
 // A name that is cited and that the table has not is no question that can be asked.
