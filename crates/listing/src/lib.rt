@@ -11,7 +11,7 @@ ghost use Rattle.listing.specs.Found.{FoundIn, choice_of, AllZero};
 
 use lines::{Found, Names, write_listing};
 use refusal::Refusal;
-use sheet::{Opened, find_places};
+use sheet::find_places;
 use sheet_walk::{Ran, run};
 use words::count;
 
@@ -62,21 +62,17 @@ fn write(
     requires { FoundIn warns s.now places.now found.now said told }
     ensures { Writes (listing warns s.now) page.old page.new result × (number (answered result) < 4294967296) }
 {
-    match find_places(s) {
-        Opened::Refused(c) => Err(refusal_with(c)),
-        Opened::At(p) => {
-            let names = Names {
-                section: &s[..p.rows * 4],
-                places: &places[..p.names as usize],
-            };
-            let found = Found {
-                words: found,
-                front: said as usize,
-                count: said as usize + told as usize,
-            };
-            write_listing(&names, &found, page)
-        }
-    }
+    let p = find_places(s)?;
+    let names = Names {
+        section: &s[..p.rows * 4],
+        places: &places[..p.names as usize],
+    };
+    let found = Found {
+        words: found,
+        front: said as usize,
+        count: said as usize + told as usize,
+    };
+    write_listing(&names, &found, page)
 }
 
 // With scratch for a sheet's words, all zeros: sixteen for each, and 24 besides. Bindings and carried names are counted, not stored.

@@ -10,9 +10,8 @@ fn main(rt: HostRuntime) -> io::Result<()> {
     let n = streams::read_full(&mut rt.stdin(), &mut room)?;
     let mut out = rt.stdout();
     for i in 0..2048u32 {
-        let cause = check_name(&room[..n], i);
-        if cause != 0 {
-            return writeln!(out, "refused {cause}");
+        if let Err(refusal) = check_name(&room[..n], i) {
+            return writeln!(out, "{refusal}");
         }
         out.write_all(name_text(&room[..n], i))?;
         out.write_all(b"\n")?;

@@ -1,7 +1,6 @@
 // A row of sheets on standard input, each after its byte length as a little-endian word. A line each: the refusal's number, or 0.
 #![tactic(auto)]
 
-use sheet::Opened;
 use std::io;
 use std::io::{Read, Write};
 use streams::read_full;
@@ -9,8 +8,8 @@ use streams::read_full;
 // The refusal of a sheet, or 0.
 fn refusal(s: &[u8]) -> u32 {
     match sheet::open(s) {
-        Opened::At(_) => 0,
-        Opened::Refused(c) => c,
+        Ok(_) => 0,
+        Err(refusal) => u32::from(refusal),
     }
 }
 
