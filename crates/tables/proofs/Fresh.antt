@@ -9,8 +9,10 @@ use borrow.Author.Tests.{eqb-true, eq-eqb}
 use lib.Dec.{eqb}
 use lib.ListN.{length, take, drop, get_or, length-take, length-map}
 use lib.Seq.{take-suc, take-take, get_or-take, length-take-le}
+use Rattle.std.specs.Str.{bytes_eq}
+use Rattle.std.specs.List.{list_any}
+use Rattle.std.proofs.lemmas.Bool.Decides.{nat_tests}
 use Rattle.words.specs.Fnv.{use_id}
-use Rattle.words.proofs.Words.{drop-word}
 use Rattle.heads.specs.Answer.{is_in}
 use Rattle.tables.specs.Distinct.{same_bytes, name_in, fresh_after}
 use Rattle.tables.specs.Name.{name_at}
@@ -48,10 +50,19 @@ same-comm a b = go (same_bytes a b) refl (same_bytes b a) refl
 pub other_length : (a b : List ℕ) → (length a ≡ length b → ⊥) → false ≡ same_bytes a b
 other_length a b h = sym (is-not (same_bytes a b) (λ e. h (ap length (same-eq a b e))))
 
--- one byte on
-pub same_more : (a b : List ℕ) (i : ℕ) → i < length a → i < length b → same_bytes (drop i a) (drop i b) ≡ (eqb (get_or a i 0) (get_or b i 0) && same_bytes (drop (i + 1) a) (drop (i + 1) b))
+-- they are the same where `==` on slices says so
+pub same-pointwise : (a b : List ℕ) → same_bytes a b ≡ bytes_eq a b
 unfolding same_bytes
-same_more a b i h k = rw (drop-word a i h, drop-word b i k)
+same-pointwise [] [] = refl
+same-pointwise [] (y ∷ b) = refl
+same-pointwise (x ∷ a) [] = refl
+same-pointwise (x ∷ a) (y ∷ b) = ap (◌&&◌ (eqb x y)) (same-pointwise a b)
+
+-- what `contains` says of ids
+pub any-in : (v : ℕ) (xs : List ℕ) → list_any (λ x. eqb x v) xs ≡ is_in v xs
+unfolding is_in
+any-in v [] = refl
+any-in v (x ∷ xs) = rw (any-in v xs) (grind (arith, nat_tests))
 
 -- a name that stands among others has its use id among theirs
 or_else : (a b d e : Bool) → (a ≡ true → d ≡ true) → (b ≡ true → e ≡ true) → a || b ≡ true → cond d true e ≡ true

@@ -9,7 +9,6 @@ use lib.Seq.{append_snoc, take-suc-set}
 use Rattle.words.specs.Fnv.{use_id}
 use Rattle.heads.specs.Got.{Got, ok, no, bind, many}
 use Rattle.heads.specs.Answer.{Ans, read_end}
-use Rattle.refusal.specs.Number.{number_of}
 use Rattle.refusal.specs.declared.Refusal.{Refusal}
 use Rattle.std.specs.Prelude.{Result, Ok, Err}
 use Rattle.std.specs.Result.{IsErr, IsErrAnd}

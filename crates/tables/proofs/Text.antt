@@ -1,21 +1,34 @@
 -- Laws of a name in the bytes of a section: its text, its length's word, and what reading it gives.
-use Prim.Native.Nat.{ℕ, suc, ◌+◌, ◌-◌, ◌*◌, ◌<◌, ◌≤◌}
+use Prim.Native.Nat.{ℕ, zero, suc, ◌+◌, ◌-◌, ◌*◌, ◌<◌, ◌≤◌}
 use native.Mathlib.Omega.{arith}
-use mathlib.Core.Path.{◌≡◌, refl}
-use mathlib.Core.Bool.{Bool, ◌&&◌, cond}
+use mathlib.Core.Path.{◌≡◌, refl, sym}
+use mathlib.Core.Bool.{Bool, true, false, ◌&&◌, cond, and-false}
 use mathlib.Core.List.{List, [], ◌∷◌}
-use borrow.Author.Tests.{le-leb, lt-leb}
+use borrow.Author.Tests.{le-leb, lt-leb, eq-eqb, ne_eqb}
+use mathlib.Core.Logic.{◌≢◌}
+use lib.Dec.{eqb}
 use lib.ListN.{length, take, drop, length-drop}
 use lib.Seq.{drop-drop, length-take-le}
 use Rattle.words.specs.Utf8.{is_utf8}
 use Rattle.words.proofs.Words.{drop-word}
 use Rattle.heads.specs.Got.{Got, ok, no}
 use Rattle.heads.specs.Answer.{Ans, read_end}
-use Rattle.refusal.specs.Number.{number_of}
 use Rattle.refusal.specs.declared.Refusal.{Refusal}
 use Rattle.std.specs.Prelude.{Result, Ok, Err}
+use Rattle.std.specs.Bool.{MatchBool}
+use Rattle.std.specs.List.{AllWithin, HoldsAt}
 use Rattle.tables.specs.Name.{padded, all_zero, name_body, read_name, text_at, length_at, name_at, zero_padded, name_words}
 use Rattle.tables.specs.Answer.{body_ends, text_got, name_ends, name_got}
+
+-- the test of each byte, and of the whole
+pub zero-by : (s : List ℕ) (r : Bool) → MatchBool r (AllWithin (λ x. x ≡ 0) s 0 (length s)) ((k : ℕ) × (k < length s) × HoldsAt (λ x. x ≢ 0) s k) → r ≡ all_zero s
+unfolding all_zero
+zero-by [] true h = refl
+zero-by [] false (k, l, h) = absurd (omega arith)
+zero-by (b ∷ s) true h =
+    rw (eq-eqb b 0 (h 0 0 (omega arith) (omega arith))) (zero-by s true (λ k d l u. h (suc k) d (omega arith) (omega arith)))
+zero-by (b ∷ s) false (zero, l, h) = rw (ne_eqb b 0 (h 0)) refl
+zero-by (b ∷ s) false (suc k, l, h) = rw (← zero-by s false (k, omega arith, h)) (sym (and-false (eqb b 0)))
 
 -- a refusal ends where it began
 pub refuse : {s : List ℕ} {at : ℕ} {g : Got (List ℕ)} → at ≤ length s → g ≡ no 3 → Ans s at g (no 3) (length s)
@@ -43,11 +56,11 @@ body-short s at n h k = rw (le-leb n 255 h, length-drop at s, lt-leb (padded n) 
 
 pub body-fits : (s : List ℕ) (at n : ℕ) → n ≤ 255 → at + padded n ≤ length s → {z : Bool} → z ≡ all_zero (take (at + padded n - (at + n)) (drop (at + n) s)) → name_body n (drop at s) ≡ cond (z && is_utf8 (take (at + n - at) (drop at s))) (ok (text_at s at n) (drop (at + padded n) s)) (no 3)
 unfolding name_body text_at
-body-fits s at n h k zero =
+body-fits s at n h k none =
     let text : at + n - at ≡ n = omega arith in
     let rest : at + padded n - (at + n) ≡ padded n - n = omega arith in
     rw
-    (zero, text, rest, le-leb n 255 h, length-drop at s, le-leb (padded n) (length s - at) (omega arith), drop-drop n at s, drop-drop (padded n) at s, le-leb (at + n) (length s) (omega arith))
+    (none, text, rest, le-leb n 255 h, length-drop at s, le-leb (padded n) (length s - at) (omega arith), drop-drop n at s, drop-drop (padded n) at s, le-leb (at + n) (length s) (omega arith))
 
 -- the first four bytes of what is left make the length; fewer are refused
 pub name-short : (s : List ℕ) → length s < 4 → read_name s ≡ no 3

@@ -2,7 +2,7 @@
 ghost use Rattle.std.specs.Prelude.{◌≡◌, map, ◌+◌, ◌≤◌, length, take, drop};
 ghost use Rattle.words.specs.Fnv.{use_id};
 ghost use Rattle.heads.specs.Answer.{Ans, read_end, is_in};
-ghost use Rattle.tables.specs.Distinct.{same_bytes, name_in, distinct};
+ghost use Rattle.tables.specs.Distinct.{name_in, distinct};
 ghost use Rattle.tables.specs.Index.{index_of};
 ghost use Rattle.tables.specs.Name.{all_zero, length_at, name_body, read_name, name_at};
 ghost use Rattle.tables.specs.Answer.{body_ends, text_got, name_ends, name_got, names_in, Roomy, Scanned};
@@ -17,14 +17,7 @@ const MAX_NAME: u32 = 255;
 fn all_zero(s: &[u8]) -> bool
     ensures { result ≡ all_zero s.now }
 {
-    let mut i = 0;
-    while i < s.len() {
-        if s[i] != 0 {
-            return false;
-        }
-        i += 1;
-    }
-    true
+    s.iter().all(|byte| *byte == 0)
 }
 
 // The n bytes of a name from at on, then its padding.
@@ -96,50 +89,21 @@ pub fn scan_names(s: &[u8], n: u32, tab: &mut [u32], ids: &mut [u32]) -> Result<
     ensures { Scanned s.now n tab.new ids.new result }
 {
     let mut p = 0;
-    let mut i = 0;
-    let mut left = n;
-    while 0 < left {
+    for i in 0..n as usize {
         let q = read_name(s, p)?;
         tab[i] = p as u32;
         ids[i] = use_id(name_at(s, p));
         p = q;
-        i += 1;
-        left -= 1;
     }
     Ok(p)
 }
 
-// Whether two byte strings are the same.
-fn same_bytes(a: &[u8], b: &[u8]) -> bool
-    ensures { result ≡ same_bytes a.now b.now }
-{
-    if a.len() != b.len() {
-        return false;
-    }
-    let mut i = 0;
-    while i < a.len() {
-        if a[i] != b[i] {
-            return false;
-        }
-        i += 1;
-    }
-    true
-}
-
-// Whether id stands among the first n ids. It looks at all of them, without a branch out.
+// Whether id stands among the first n ids.
 fn has_id(ids: &[u32], n: usize, id: u32) -> bool
     requires { n ≤ length ids.now }
     ensures { result ≡ is_in id (take n ids.now) }
 {
-    let mut hit = false;
-    let mut i = 0;
-    while i < n {
-        if ids[i] == id {
-            hit = true;
-        }
-        i += 1;
-    }
-    hit
+    ids[..n].contains(&id)
 }
 
 // Whether x is the text of one of the first n names.
@@ -147,12 +111,10 @@ fn has_name(s: &[u8], tab: &[u32], n: usize, x: &[u8]) -> bool
     requires { n ≤ length tab.now }
     ensures { result ≡ name_in x.now (names_in s.now n tab.now) }
 {
-    let mut i = 0;
-    while i < n {
-        if same_bytes(x, name_at(s, tab[i] as usize)) {
+    for place in &tab[..n] {
+        if x == name_at(s, *place as usize) {
             return true;
         }
-        i += 1;
     }
     false
 }
@@ -162,12 +124,10 @@ pub fn index_of(s: &[u8], tab: &[u32], n: usize, x: &[u8]) -> u32
     requires { (n ≤ length tab.now) × (n ≤ 8192) }
     ensures { result ≡ index_of x.now (names_in s.now n tab.now) }
 {
-    let mut i = 0;
-    while i < n {
-        if same_bytes(x, name_at(s, tab[i] as usize)) {
+    for (i, place) in tab[..n].iter().enumerate() {
+        if x == name_at(s, *place as usize) {
             return i as u32 + 1;
         }
-        i += 1;
     }
     0
 }
@@ -177,14 +137,10 @@ pub fn distinct_names(s: &[u8], tab: &[u32], ids: &[u32], n: usize) -> bool
     requires { (n ≤ length tab.now) × (take n ids.now ≡ map use_id (names_in s.now n tab.now)) }
     ensures { result ≡ distinct name_in (names_in s.now n tab.now) }
 {
-    let mut i = 0;
-    while i < n {
-        if has_id(ids, i, ids[i]) {
-            if has_name(s, tab, i, name_at(s, tab[i] as usize)) {
-                return false;
-            }
+    for i in 0..n {
+        if has_id(ids, i, ids[i]) && has_name(s, tab, i, name_at(s, tab[i] as usize)) {
+            return false;
         }
-        i += 1;
     }
     true
 }

@@ -1,37 +1,26 @@
 -- The loop's invariant: x is among the first n names if it is among those that are left.
-use native.Mathlib.Omega.{arith}
-use mathlib.Core.Path.{refl, sym, ◌∙◌}
+use Rattle.std.proofs.Common.{sym, ◌∙◌, arith, take}
+use Rattle.words.proofs.Words.{drop-word, drop-none}
 use Rattle.tables.specs.Distinct.{name_in}
-use Rattle.tables.proofs.Front.{front-more, front-none}
+use Rattle.tables.proofs.Fresh.{same-pointwise}
 use Rattle.tables.proofs.names.has_name.Goals as goal
 
-pub loop-i-init : goal.loop-i-init
+pub returns-then-eq : goal.returns-then-eq
 unfolding name_in
-loop-i-init c =
-    (omega arith, refl)
-
-pub overflow_cast-tab : goal.overflow_cast-tab
-unfolding name_in
-overflow_cast-tab c =
-    omega (arith, c.type_inv.tab c.loop-i.i)
-
-pub returns-then-same_bytes : goal.returns-then-same_bytes
-unfolding name_in
-returns-then-same_bytes c =
-    let l = c.loop-i in
+returns-then-eq c =
+    let l = c.loop-place in
     let a = c.args in
-    sym (l.invariant.1 ∙ rw (front-more a.tab.now a.n l.i (omega arith) (omega arith), ← c.name_at.ensures, ← c.same_bytes.ensures, c.if-same_bytes.true))
+    sym (l.invariant ∙ rw (drop-word (take a.n a.tab.now) l.place-index c.loop-place-test.true, same-pointwise, ← c.name_at.ensures, ← c.if-eq.ensures))
 
-pub loop-i-preserved : goal.loop-i-preserved
+pub loop-place-preserved : goal.loop-place-preserved
 unfolding name_in
-loop-i-preserved c =
-    let l = c.loop-i in
+loop-place-preserved c =
+    let l = c.loop-place in
     let a = c.args in
-    (omega arith, l.invariant.1 ∙ rw (front-more a.tab.now a.n l.i (omega arith) (omega arith), ← c.name_at.ensures, ← c.same_bytes.ensures, c.if-same_bytes.false))
+    l.invariant ∙ rw (drop-word (take a.n a.tab.now) l.place-index c.loop-place-test.true, same-pointwise, ← c.name_at.ensures, ← c.if-eq.ensures)
 
 pub returns : goal.returns
 unfolding name_in
 returns c =
-    let l = c.loop-i in
     let a = c.args in
-    sym (l.invariant.1 ∙ rw (front-none a.tab.now a.n l.i (omega arith) (omega arith)))
+    sym (c.loop-place.invariant ∙ rw (drop-none (take a.n a.tab.now) c.loop-place.place-index (omega arith)))
