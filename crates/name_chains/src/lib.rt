@@ -12,7 +12,6 @@ ghost use Rattle.sheet.specs.Answer.{Tabled};
 ghost use Rattle.name_chains.specs.Slot.{folded, hash_from, hash_of, slot_of};
 ghost use Rattle.name_chains.specs.Hung.{text_in, Cleared, Hung};
 
-use heads::Read;
 use rows::hang;
 use tables::{distinct_names, name_at, scan_names};
 use words::{count, word};
@@ -184,7 +183,7 @@ pub fn are_names(s: &[u8], n: u32, tab: &mut [u32], ids: &mut [u32], chains: &mu
     requires { Roomy s.now tab.old ids.old × (length s.now / 4 < length chains.old) }
     ensures { Tabled n s.now tab.new ids.new result }
 {
-    let Read::Next(p) = scan_names(s, n, tab, ids) else {
+    let Ok(p) = scan_names(s, n, tab, ids) else {
         return false;
     };
     if p < s.len() {
