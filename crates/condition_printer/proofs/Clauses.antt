@@ -7,9 +7,13 @@ use mathlib.Core.Logic.{inl, inr}
 use mathlib.Core.List.{List, [], ◌∷◌, ◌++◌}
 use lib.ListN.{length, get_or, drop, length-append, length-drop}
 use lib.Seq.{get_or-drop}
-use Rattle.heads.specs.Got.{Got, ok, no, bind, bare, is_ok, word_in, any_word, flag, counted, many}
+use Rattle.heads.specs.Got.{Got, ok, bind, bare, is_ok, word_in, any_word, flag, counted, many}
 use Rattle.heads.specs.Head.{Tables}
-use Rattle.heads.specs.Answer.{tables}
+use Rattle.heads.specs.Answer.{Reads}
+use Rattle.std.specs.Prelude.{Result, Ok, Err}
+use Rattle.std.specs.Result.{IsOk}
+use Rattle.refusal.specs.Number.{number_of}
+use Rattle.refusal.specs.declared.Refusal.{Refusal}
 use Rattle.expr.specs.Tree.{Expr, Exprs, done, more, kid_count}
 use Rattle.expr.specs.Read.{Reader, no_more, times}
 use Rattle.expr.specs.Write.{write_e}
@@ -89,10 +93,7 @@ module _ (t : Tables) {kind : ℕ} where
   keys-give (inl k) l = gave refl
   keys-give (inr k) l = after (after (word-gives 0 4294967296 l) (λ n r p. so (row_gives t 48 (clause_expr t) (expr-gives t 48) n r) (λ es u q. cc))) (λ es r p. gave p)
 
-module _ (ws : List ℕ) (names at : ℕ) (o : is_ok (read_clause (tables ws names 0 0) (drop at ws)) ≡ true) where
-  abbrev t : Tables
-  t = tables ws names 0 0
-
+module _ (ws : List ℕ) (t : Tables) (at : ℕ) (o : is_ok (read_clause t (drop at ws)) ≡ true) where
   abbrev P : Reader
   P = clause_expr t
 
@@ -106,7 +107,7 @@ module _ (ws : List ℕ) (names at : ℕ) (o : is_ok (read_clause (tables ws nam
   unfolding read_body
   where-is k = (opens t ws at o).same ∙ rw k
 
-  pub where-stands : get_or ws at 0 ≡ 2 → Stands ws names at (at + 3)
+  pub where-stands : get_or ws at 0 ≡ 2 → Stands ws t at (at + 3)
   unfolding read_where of_clause cond_e
   where-stands k =
       let s = where-is k in
@@ -129,12 +130,13 @@ module _ (ws : List ℕ) (names at : ℕ) (o : is_ok (read_clause (tables ws nam
     pub projections-begin : at + 3 ≤ length ws
     projections-begin = (opens t ws at o).inside
 
-    pub projections-fine : is_ok (counted (read_projection t) (drop (at + 3) ws)) ≡ true
+    projections-fine : is_ok (counted (read_projection t) (drop (at + 3) ws)) ≡ true
     unfolding read_with
     projections-fine = ok-left (counted (read_projection t) (drop (at + 3) ws)) _ (rw with-is at o)
 
-    pub projections-never : {X : Type 0} (c : ℕ) → bare (counted (read_projection t) (drop (at + 3) ws)) ≡ no c → X
-    projections-never c e = refused (counted (read_projection t) (drop (at + 3) ws)) c projections-fine e
+    pub projections-there : (r : Result ℕ Refusal) → Reads ws (at + 3) (counted (read_projection t)) r → IsOk r
+    projections-there (Ok p) u = refl
+    projections-there (Err e) u = refused (counted (read_projection t) (drop (at + 3) ws)) (number_of e) projections-fine u.same
 
     module _ (q : ℕ) (h : bare (counted (read_projection t) (drop (at + 3) ws)) ≡ ok tt (drop q ws)) where
       abbrev ps : List Projection
@@ -158,7 +160,7 @@ module _ (ws : List ℕ) (names at : ℕ) (o : is_ok (read_clause (tables ws nam
       pub flag-inside : q < length ws
       flag-inside = flag_is.0
 
-      pub filter-stands : at + 3 ≤ q → get_or ws q 0 ≡ 1 → Stands ws names at (q + 1)
+      pub filter-stands : at + 3 ≤ q → get_or ws q 0 ≡ 1 → Stands ws t at (q + 1)
       unfolding of_clause cond_e
       filter-stands f g =
           let s : read_clause t (drop at ws) ≡ filtered 1 (drop (q + 1) ws) = rw g at flag_is.1.1 in
@@ -180,11 +182,11 @@ module _ (ws : List ℕ) (names at : ℕ) (o : is_ok (read_clause (tables ws nam
           ap (λ (u : Clause). of_clause u at) ((keyed done (drop (q + 1) ws)).given c r (rw s at x)).1.0
 
 -- an arm: its clauses, after its span and their count
-module _ (ws : List ℕ) (names at : ℕ) (o : is_ok (read_arm (tables ws names 0 0) (drop at ws)) ≡ true) where
+module _ (ws : List ℕ) (t : Tables) (at : ℕ) (o : is_ok (read_arm t (drop at ws)) ≡ true) where
   pub record ArmAt : Type 0 where
     pub start : ℕ
     pub stop : ℕ
-    pub same : read_arm (tables ws names 0 0) (drop at ws) ≡ bind (many (read_clause (tables ws names 0 0)) (get_or ws (at + 2) 0) (drop (at + 3) ws)) (λ cs r. ok (arm start stop cs) r)
+    pub same : read_arm t (drop at ws) ≡ bind (many (read_clause t) (get_or ws (at + 2) 0) (drop (at + 3) ws)) (λ cs r. ok (arm start stop cs) r)
     pub inside : at + 3 ≤ length ws
 
   pub arm_at : ArmAt

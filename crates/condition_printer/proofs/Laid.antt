@@ -1,9 +1,10 @@
 -- What an accepted sheet gives the printer: where its sections stand, its head and arms as the walks read them, and its conditions from these.
-use Prim.Native.Nat.{ℕ, ◌*◌, ◌-◌, ◌≤◌}
+use Prim.Native.Nat.{ℕ, ◌*◌, ◌≤◌}
 use native.Mathlib.Omega.{arith}
 use mathlib.Core.Path.{◌≡◌, refl, sym, ap, ◌∙◌}
 use mathlib.Core.List.{List, [], ◌∷◌}
 use lib.ListN.{length, take, drop, length-take}
+use Rattle.std.specs.Prelude.{None}
 use Rattle.words.specs.Words.{words}
 use Rattle.words.proofs.Words.{length-words}
 use Rattle.heads.specs.Got.{Got, ok, no, is_ok, many}
@@ -17,9 +18,8 @@ use Rattle.sheet.specs.Trailer.{places_of, section}
 use Rattle.sheet.specs.Read.{Sheet, accepted, refused, then', used_up, any_binder, read_names, read_rows, locate}
 use Rattle.sheet.specs.Answer.{InPlaces}
 use Rattle.sheet.specs.declared.trailer.Places.{Places}
-use Rattle.sheet.specs.declared.trailer.Opened.TheVariants as opened
 use Rattle.sheet.proofs.Placing.{places-of, in-places}
-use Rattle.sheet.proofs.Cutting.{words_take}
+use Rattle.sheet.proofs.Cutting.{words-front}
 use Rattle.condition.specs.Cond.{Cond}
 use Rattle.condition_text.specs.Write.{Wrote, Ready, Put}
 use Rattle.condition_text.proofs.Stages.{keeps, then-wrote}
@@ -42,22 +42,22 @@ used (no c) e = never (cc)
 
 module _ (s : List ℕ) where
   -- the tests in order
-  go-parts : (p : Places) → locate s ≡ accepted p → (h : Sheet (List Clause)) → used_up (many (read_clause (any_binder p.names)) p.clauses (section (words s) p.head p.tail)) ≡ h → (a : Sheet (List Arm)) → used_up (many (read_arm (any_binder p.names)) p.arms (section (words s) p.tail p.trailer)) ≡ a → (r : Sheet (List Cond)) → read_conditions s ≡ r → r ≡ then' {A = List Clause × List Arm} (then' h (λ x. then' a (λ y. accepted (x, y)))) (λ z. accepted (conditions_of p z.0 z.1)) → opened.At p ≡ opened_for r s → Laid s p
+  go-parts : (p : Places) → locate s ≡ accepted p → (h : Sheet (List Clause)) → used_up (many (read_clause (any_binder p.names)) p.clauses (section (words s) p.head p.tail)) ≡ h → (a : Sheet (List Arm)) → used_up (many (read_arm (any_binder p.names)) p.arms (section (words s) p.tail p.trailer)) ≡ a → (r : Sheet (List Cond)) → read_conditions s ≡ r → r ≡ then' {A = List Clause × List Arm} (then' h (λ x. then' a (λ y. accepted (x, y)))) (λ z. accepted (conditions_of p z.0 z.1)) → accepted p ≡ opened_for r s → Laid s p
   go-parts p l (accepted h) eh (accepted a) ea r er e f = record { places = in-places s p l; head = h; arms = a; head_read = used _ eh; arms_read = used _ ea; conds = ap conds_in (er ∙ e) }
-  go-parts p l (accepted h) eh (refused c) ea r er e f = never (let z : opened.At p ≡ opened.Refused c = rw e at f in cc)
-  go-parts p l (refused c) eh a ea r er e f = never (let z : opened.At p ≡ opened.Refused c = rw e at f in cc)
+  go-parts p l (accepted h) eh (refused c) ea r er e f = never (let z : accepted p ≡ refused c = rw e at f in cc)
+  go-parts p l (refused c) eh a ea r er e f = never (let z : accepted p ≡ refused c = rw e at f in cc)
 
-  is-places : {p : Places} (r : Sheet (List Cond)) → opened.At p ≡ opened_for r s → p ≡ places_of (words s)
+  is-places : {p : Places} (r : Sheet (List Cond)) → accepted p ≡ opened_for r s → p ≡ places_of (words s)
   is-places (accepted cs) f = cc
   is-places (refused c) f = never (cc)
 
-  go-tables : (p : Places) → locate s ≡ accepted p → (x : Sheet (List (List ℕ))) → read_names p.names (take (p.rows * 4) s) ≡ x → (y : Sheet (List Row)) → read_rows p.names p.bindings (section (words s) p.rows p.head) ≡ y → read_conditions s ≡ then' x (λ names. then' y (λ rows. then' (read_parts (words s) p) (λ z. accepted (conditions_of p z.0 z.1)))) → opened.At p ≡ opened_for (read_conditions s) s → Laid s p
+  go-tables : (p : Places) → locate s ≡ accepted p → (x : Sheet (List (List ℕ))) → read_names p.names (take (p.rows * 4) s) ≡ x → (y : Sheet (List Row)) → read_rows p.names p.bindings (section (words s) p.rows p.head) ≡ y → read_conditions s ≡ then' x (λ names. then' y (λ rows. then' (read_parts (words s) p) (λ z. accepted (conditions_of p z.0 z.1)))) → accepted p ≡ opened_for (read_conditions s) s → Laid s p
   unfolding read_parts
   go-tables p l (accepted ns) en (accepted rs) er e f = go-parts p l _ refl _ refl (read_conditions s) refl e f
-  go-tables p l (accepted ns) en (refused c) er e f = never (let z : opened.At p ≡ opened.Refused c = rw e at f in cc)
-  go-tables p l (refused c) en y er e f = never (let z : opened.At p ≡ opened.Refused c = rw e at f in cc)
+  go-tables p l (accepted ns) en (refused c) er e f = never (let z : accepted p ≡ refused c = rw e at f in cc)
+  go-tables p l (refused c) en y er e f = never (let z : accepted p ≡ refused c = rw e at f in cc)
 
-  pub laid : (p : Places) → opened.At p ≡ opened_for (read_conditions s) s → Laid s p
+  pub laid : (p : Places) → accepted p ≡ opened_for (read_conditions s) s → Laid s p
   unfolding read_conditions
   laid p f = go (locate s) refl
     where
@@ -66,39 +66,36 @@ module _ (s : List ℕ) where
           let z : q ≡ p = places-of s q e ∙ sym (is-places (read_conditions s) f) in
           let l : locate s ≡ accepted p = rw z at e in
           go-tables p l _ refl _ refl (rw l) f
-      go (refused c) e = never (let z : opened.At p ≡ opened.Refused c = rw e at f in cc)
+      go (refused c) e = never (let z : accepted p ≡ refused c = rw e at f in cc)
 
 -- the words of a sheet up to a word
 abbrev part : List ℕ → ℕ → List ℕ
 part s to = words (take (to * 4) s)
 
-cut : (to : ℕ) (s : List ℕ) → part s to ≡ take to (words s)
-cut to s = let z : to * 4 - 0 ≡ to * 4 = omega arith in rw z at (words_take to s)
-
 part_length : (s : List ℕ) (to : ℕ) → to * 4 ≤ length s → length (part s to) ≡ to
-part_length s to h = omega (arith, ap length (cut to s), length-take to (words s), length-words s)
+part_length s to h = omega (arith, ap length (words-front to s), length-take to (words s), length-words s)
 
 module _ {s : List ℕ} {p : Places} (l : Laid s p) where
-  head-reads : many (read_clause (tables (part s p.tail) p.names 0 0)) p.clauses (drop p.head (part s p.tail)) ≡ ok l.head []
+  head-reads : many (read_clause (tables (part s p.tail) p.names p.rows None)) p.clauses (drop p.head (part s p.tail)) ≡ ok l.head []
   unfolding known_at
-  head-reads = ap (λ (ws : List ℕ). many (read_clause (tables ws p.names 0 0)) p.clauses (drop p.head ws)) (cut p.tail s) ∙ l.head_read
+  head-reads = ap (λ (ws : List ℕ). many (read_clause (tables ws p.names p.rows None)) p.clauses (drop p.head ws)) (words-front p.tail s) ∙ l.head_read
 
-  arms-reads : many (read_arm (tables (part s p.trailer) p.names 0 0)) p.arms (drop p.tail (part s p.trailer)) ≡ ok l.arms []
+  arms-reads : many (read_arm (tables (part s p.trailer) p.names p.rows None)) p.arms (drop p.tail (part s p.trailer)) ≡ ok l.arms []
   unfolding known_at
-  arms-reads = ap (λ (ws : List ℕ). many (read_arm (tables ws p.names 0 0)) p.arms (drop p.tail ws)) (cut p.trailer s) ∙ l.arms_read
+  arms-reads = ap (λ (ws : List ℕ). many (read_arm (tables ws p.names p.rows None)) p.arms (drop p.tail ws)) (words-front p.trailer s) ∙ l.arms_read
 
-  pub head-ready : (k size : ℕ) → k ≡ 0 → 30720 ≤ size → Ready (many (read_clause (tables (part s p.tail) p.names 0 0)) p.clauses (drop p.head (part s p.tail))) (part s p.tail) p.head k size
+  pub head-ready : (k size : ℕ) → k ≡ 0 → 30720 ≤ size → Ready (many (read_clause (tables (part s p.tail) p.names p.rows None)) p.clauses (drop p.head (part s p.tail))) (part s p.tail) p.head k size
   head-ready k size z h =
       let i = l.places in
       let n = part_length s p.tail (omega (arith, i.tail, i.trailer)) in
       record { fine = ap is_ok head-reads; inside = omega (arith, n, i.head); few = omega (arith, n, i.tail, i.trailer, i.short); room = omega (arith, n, i.tail, i.trailer, i.short) }
 
   -- the head was put
-  module _ {old mid : List ℕ} {k next j : ℕ} (z : k ≡ 0) (u : Put (many (read_clause (tables (part s p.tail) p.names 0 0)) p.clauses (drop p.head (part s p.tail))) (row_words write_clause) (text_of (in_row write_clause of_clause) p.head) (part s p.tail) p.head k old mid next j) where
+  module _ {old mid : List ℕ} {k next j : ℕ} (z : k ≡ 0) (u : Put (many (read_clause (tables (part s p.tail) p.names p.rows None)) p.clauses (drop p.head (part s p.tail))) (row_words write_clause) (text_of (in_row write_clause of_clause) p.head) (part s p.tail) p.head k old mid next j) where
     head-wrote : Wrote (page_of (in_row write_clause of_clause l.head p.head)) k old mid j
     head-wrote = (u.is l.head [] head-reads).1.1
 
-    pub arms-ready : 30720 ≤ length old → Ready (many (read_arm (tables (part s p.trailer) p.names 0 0)) p.arms (drop p.tail (part s p.trailer))) (part s p.trailer) p.tail j (length mid)
+    pub arms-ready : 30720 ≤ length old → Ready (many (read_arm (tables (part s p.trailer) p.names p.rows None)) p.arms (drop p.tail (part s p.trailer))) (part s p.trailer) p.tail j (length mid)
     arms-ready h =
         let i = l.places in
         let n = part_length s p.trailer (omega (arith, i.trailer)) in
@@ -106,5 +103,5 @@ module _ {s : List ℕ} {p : Places} (l : Laid s p) where
         let k = keeps head-wrote in
         record { fine = ap is_ok arms-reads; inside = omega (arith, n, i.tail); few = omega (arith, n, i.trailer, i.short); room = omega (arith, n, m, k, u.short, u.within, i.trailer, i.tail, i.head, i.short) }
 
-    pub all-put : {new : List ℕ} {last end : ℕ} → Put (many (read_arm (tables (part s p.trailer) p.names 0 0)) p.arms (drop p.tail (part s p.trailer))) (row_words write_arm) (text_of (in_row write_arm of_arm) p.tail) (part s p.trailer) p.tail j mid new last end → Wrote (page_of (conds_in (read_conditions s))) k old new end
+    pub all-put : {new : List ℕ} {last end : ℕ} → Put (many (read_arm (tables (part s p.trailer) p.names p.rows None)) p.arms (drop p.tail (part s p.trailer))) (row_words write_arm) (text_of (in_row write_arm of_arm) p.tail) (part s p.trailer) p.tail j mid new last end → Wrote (page_of (conds_in (read_conditions s))) k old new end
     all-put v = rw (l.conds, page-append (in_row write_clause of_clause l.head p.head) (in_row write_arm of_arm l.arms p.tail)) (then-wrote head-wrote (v.is l.arms [] arms-reads).1.1)

@@ -6,6 +6,10 @@ use mathlib.Core.Path.{◌≡◌, refl, ap, ◌∙◌}
 use mathlib.Core.Bool.{Bool, true, false}
 use mathlib.Core.List.{List, [], ◌∷◌, ◌++◌, map, flat_map}
 use lib.ListN.{take}
+use Rattle.std.specs.Prelude.{None}
+use Rattle.refusal.specs.Number.{number_of}
+use Rattle.refusal.specs.declared.Refusal.{Refusal}
+use Rattle.refusal.specs.declared.Refusal.TheVariants as refusals
 use Rattle.words.specs.Words.{words}
 use Rattle.heads.specs.Got.{Got, ok, no, many}
 use Rattle.heads.specs.Answer.{is_in, known_at}
@@ -20,11 +24,8 @@ use Rattle.tables.specs.Distinct.{name_in, distinct}
 use Rattle.sheet.specs.Trailer.{places_of, section}
 use Rattle.sheet.specs.Statement.{Statement}
 use Rattle.sheet.specs.Read.{Sheet, accepted, refused, then', unless, entire, used_up, any_binder, read_names, read_rows, read_clauses, locate, read_sections, read_sheet}
-use Rattle.sheet.specs.Answer.{opened_as, verdict, sections_of}
+use Rattle.sheet.specs.Answer.{opened_as, with_value, judged, sections_of}
 use Rattle.sheet.specs.declared.trailer.Places.{Places}
-use Rattle.sheet.specs.declared.trailer.Opened.{Opened}
-use Rattle.sheet.specs.declared.trailer.Opened.TheVariants as opened
-use Rattle.sheet.specs.declared.sections.Verdict.TheVariants.{Accepted, Refused}
 use Rattle.sheet.proofs.Placing.{places-of}
 use Rattle.condition.specs.Cond.{Cond}
 use Rattle.condition_printer.specs.Conditions.{conditions_of, read_parts, read_conditions}
@@ -60,22 +61,28 @@ loose s =
     let st : List Clause × List Arm → Statement = λ z. record { names = names; bindings = rows; head = z.0; arms = z.1; start = p.start; stop = p.end } in
     loose-parts (used_up (many (read_clause (any_binder p.names)) p.clauses (section (words s) p.head p.tail))) (used_up (many (read_arm (any_binder p.names)) p.arms (section (words s) p.tail p.trailer))) (λ head arms. all_known (λ v. is_in v (map row_id rows)) (flat_map binders_c head ++ flat_map binders_a arms)) st (λ z. conditions_of p z.0 z.1))))
 
-module _ (s : List ℕ) {a : Opened} where
-  at_same : {A : Type 0} {x : Sheet Statement} {y : Sheet A} {p : Places} → Loose x y → a ≡ opened_as x s → a ≡ opened.At p → a ≡ opened_for y s
-  at_same fine e f = e
-  at_same alike e f = e
-  at_same unbound e f = never (cc)
+-- 7 is the cause of a variable without a binding, and of nothing else
+pub unbound-is-seven : (e : Refusal) → number_of e ≡ 7 → e ≡ refusals.Unbound
+unbound-is-seven refusals.Unbound h = refl
+unbound-is-seven refusals.Size h = never (cc)
+unbound-is-seven refusals.Places h = never (cc)
+unbound-is-seven refusals.Names h = never (cc)
+unbound-is-seven refusals.Bindings h = never (cc)
+unbound-is-seven refusals.Word h = never (cc)
+unbound-is-seven refusals.Depth h = never (cc)
+unbound-is-seven refusals.Entries h = never (cc)
+unbound-is-seven refusals.Asked h = never (cc)
+unbound-is-seven refusals.Page h = never (cc)
+unbound-is-seven refusals.Room h = never (cc)
 
-  no_same : {A : Type 0} {x : Sheet Statement} {y : Sheet A} {c : ℕ} → Loose x y → a ≡ opened_as x s → a ≡ opened.Refused c → (c ≡ 7 → ⊥) → a ≡ opened_for y s
-  no_same fine e f g = e
-  no_same alike e f g = e
-  no_same {c = c} unbound e f g = let n : c ≡ 7 = cc in absurd (g n)
+-- an answer that is not 7 is kept
+not_seven : (s : List ℕ) {A : Type 0} {a : Sheet Places} {x : Sheet Statement} {y : Sheet A} → Loose x y → a ≡ with_value (places_of (words s)) x → (a ≡ refused 7 → ⊥) → a ≡ opened_for y s
+not_seven s fine e f = e
+not_seven s alike e f = e
+not_seven s unbound e f = absurd (f e)
 
-pub open_at : (s : List ℕ) {a : Opened} {p : Places} → a ≡ opened_as (read_sheet s) s → a ≡ opened.At p → a ≡ opened_for (read_conditions s) s
-open_at s e f = at_same s (loose s) e f
-
-pub open_no : (s : List ℕ) {a : Opened} {c : ℕ} → a ≡ opened_as (read_sheet s) s → a ≡ opened.Refused c → (c ≡ 7 → ⊥) → a ≡ opened_for (read_conditions s) s
-open_no s e f g = no_same s (loose s) e f g
+pub kept : (s : List ℕ) {a : Sheet Places} → a ≡ opened_as s → (a ≡ refused 7 → ⊥) → a ≡ opened_for (read_conditions s) s
+kept s e f = not_seven s (loose s) e f
 
 -- ---- where the sheet's own reading gives 7
 
@@ -111,31 +118,31 @@ module _ (s : List ℕ) (p : Places) (placed : locate s ≡ accepted p) where
       go k (accepted ns) f (refused c) g e = let n : c ≡ 7 = cc in let m = rows-only p.names p.bindings (section (words s) p.rows p.head) c g in absurd (omega arith)
       go k (refused c) f y g e = let n : c ≡ 7 = cc in let m = names-only p.names (take (p.rows * 4) s) c f in absurd (omega arith)
 
-  parts-no : {A : Type 0} {C D : Type 0} (x : Sheet C) (y : Sheet D) (k : C × D → A) {c : ℕ} → Refused c ≡ verdict (then' x (λ h. y)) → opened.Refused c ≡ opened_for (then' (then' x (λ h. then' y (λ a. accepted (h, a)))) (λ z. accepted (k z))) s
+  parts-no : {A : Type 0} {C D : Type 0} (x : Sheet C) (y : Sheet D) (k : C × D → A) {c : ℕ} → refused c ≡ judged (then' x (λ h. y)) → refused c ≡ opened_for (then' (then' x (λ h. then' y (λ a. accepted (h, a)))) (λ z. accepted (k z))) s
   parts-no (accepted h) (accepted a) k e = never (cc)
   parts-no (accepted h) (refused d) k e = cc
   parts-no (refused d) y k e = cc
 
-  parts_at : {A : Type 0} {C D : Type 0} (x : Sheet C) (y : Sheet D) (k : C × D → A) → Accepted ≡ verdict (then' x (λ h. y)) → opened.At (places_of (words s)) ≡ opened_for (then' (then' x (λ h. then' y (λ a. accepted (h, a)))) (λ z. accepted (k z))) s
+  parts_at : {A : Type 0} {C D : Type 0} (x : Sheet C) (y : Sheet D) (k : C × D → A) → accepted tt ≡ judged (then' x (λ h. y)) → accepted (places_of (words s)) ≡ opened_for (then' (then' x (λ h. then' y (λ a. accepted (h, a)))) (λ z. accepted (k z))) s
   parts_at (accepted h) (accepted a) k e = refl
   parts_at (accepted h) (refused d) k e = never (cc)
   parts_at (refused d) y k e = never (cc)
 
-  pub loose-no : {c : ℕ} → read_sheet s ≡ refused 7 → Refused c ≡ verdict (sections_of s p 0) → opened.Refused c ≡ opened_for (read_conditions s) s
+  pub loose-no : {c : ℕ} → read_sheet s ≡ refused 7 → refused c ≡ judged (sections_of s p None) → refused c ≡ opened_for (read_conditions s) s
   unfolding read_parts known_at
   loose-no e f = rw (parts-left e) (parts-no (used_up (many (read_clause (any_binder p.names)) p.clauses (section (words s) p.head p.tail))) (used_up (many (read_arm (any_binder p.names)) p.arms (section (words s) p.tail p.trailer))) (λ z. conditions_of p z.0 z.1) f)
 
-  pub loose_at : read_sheet s ≡ refused 7 → Accepted ≡ verdict (sections_of s p 0) → opened.At p ≡ opened_for (read_conditions s) s
+  pub loose_at : read_sheet s ≡ refused 7 → accepted tt ≡ judged (sections_of s p None) → accepted p ≡ opened_for (read_conditions s) s
   unfolding read_parts known_at
-  loose_at e f = ap opened.At (places-of s p placed) ∙ rw (parts-left e) (parts_at (used_up (many (read_clause (any_binder p.names)) p.clauses (section (words s) p.head p.tail))) (used_up (many (read_arm (any_binder p.names)) p.arms (section (words s) p.tail p.trailer))) (λ z. conditions_of p z.0 z.1) f)
+  loose_at e f = ap (λ (q : Places). accepted q) (places-of s p placed) ∙ rw (parts-left e) (parts_at (used_up (many (read_clause (any_binder p.names)) p.clauses (section (words s) p.head p.tail))) (used_up (many (read_arm (any_binder p.names)) p.arms (section (words s) p.tail p.trailer))) (λ z. conditions_of p z.0 z.1) f)
 
-pub places-refused : (s : List ℕ) {a : Opened} {c : ℕ} → a ≡ opened.Refused c → locate s ≡ refused c → a ≡ opened_for (read_conditions s) s
+pub places-refused : (s : List ℕ) {c : ℕ} → refused c ≡ locate s → refused c ≡ opened_for (read_conditions s) s
 unfolding read_conditions
-places-refused s e f = e ∙ rw f
+places-refused s e = rw (← e)
 
-pub gave-seven : (s : List ℕ) {a : Opened} {c : ℕ} → a ≡ opened_as (read_sheet s) s → a ≡ opened.Refused c → c ≡ 7 → read_sheet s ≡ refused 7
-gave-seven s {a} {c} e f g = go (read_sheet s) e
+pub gave-seven : (s : List ℕ) → refused 7 ≡ opened_as s → read_sheet s ≡ refused 7
+gave-seven s e = go (read_sheet s) e
   where
-    go : (x : Sheet Statement) → a ≡ opened_as x s → x ≡ refused 7
+    go : (x : Sheet Statement) → refused 7 ≡ with_value (places_of (words s)) x → x ≡ refused 7
     go (accepted st) e = never (cc)
-    go (refused d) e = let n : d ≡ 7 = cc in ap refused n
+    go (refused d) e = cc

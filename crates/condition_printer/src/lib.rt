@@ -4,53 +4,61 @@
 mod lines;
 
 ghost use Rattle.std.specs.Prelude.{◌≡◌, ◌≤◌, length, IfOk};
-ghost use Rattle.sheet.specs.declared.trailer.Opened.TheVariants as opened;
+ghost use Rattle.sheet.specs.Read.{accepted};
+ghost use Rattle.sheet.specs.Answer.{sheet_of};
 ghost use Rattle.condition_text.specs.Write.{Adds};
 ghost use Rattle.condition_printer.specs.Conditions.{read_conditions};
 ghost use Rattle.condition_printer.specs.Page.{page_of, conditions_as, page_as, conds_in, opened_for};
 
 use condition_text::Page;
+use heads::Section;
 use lines::{print_arms, print_clauses};
-use sheet::{Opened, Places, Verdict, check_both, find_places, open};
+use refusal::Refusal;
+use sheet::{Places, check_both, find_places, open};
 
 // Room for 15 bytes for each word of the longest sheet, which no text exceeds.
 const ROOM: usize = 15 * 2048;
 
 // Where the sections stand, or which of the causes 1 to 6 the sheet has. Only where a variable has no binding, head and arms are read again,
 // with binders not looked up.
-fn open_unbound(s: &[u8]) -> Opened
-    ensures { result ≡ opened_for (read_conditions s.now) s.now }
+fn open_unbound(s: &[u8]) -> Result<Places, Refusal>
+    ensures { sheet_of result ≡ opened_for (read_conditions s.now) s.now }
 {
-    let a = open(s);
-    let Opened::Refused(c) = a else {
-        return a;
+    let told = open(s);
+    let Err(refusal) = told else {
+        return told;
     };
-    if c != 7 {
-        return a;
+    if refusal != Refusal::Unbound {
+        return told;
     }
-    let b = find_places(s);
-    let Opened::At(p) = b else {
-        return b;
-    };
-    match check_both(s, p, 0) {
-        Verdict::Refused(d) => Opened::Refused(d),
-        Verdict::Accepted => b,
-    }
+    let p = find_places(s)?;
+    check_both(s, p, None)?;
+    Ok(p)
 }
 
 // Writes the text of head and arms on an empty page.
 fn print_all(s: &[u8], p: Places, page: &mut Page<'_>)
-    requires { (opened.At p ≡ opened_for (read_conditions s.now) s.now) × ((page.old.end ≡ 0) × (30720 ≤ length page.old.bytes.now)) }
+    requires { (accepted p ≡ opened_for (read_conditions s.now) s.now) × ((page.old.end ≡ 0) × (30720 ≤ length page.old.bytes.now)) }
     ensures { Adds (page_of (conds_in (read_conditions s.now))) page.old page.new }
 {
-    print_clauses(&s[..p.tail * 4], p.names, p.head, p.clauses, page);
-    print_arms(&s[..p.trailer * 4], p.names, p.tail, p.arms, page);
+    let head = Section {
+        bytes: &s[..p.tail * 4],
+        names: p.names,
+        rows: p.rows,
+        bound: None,
+    };
+    let arms = Section {
+        bytes: &s[..p.trailer * 4],
+        ..head
+    };
+    print_clauses(&head, p.head, p.clauses, page);
+    print_arms(&arms, p.tail, p.arms, page);
 }
 
 // The text is made first, so that a page that is too short stays as it was.
-fn show(s: &[u8], p: Places, page: &mut [u8]) -> Result<usize, u32>
-    requires { opened.At p ≡ opened_for (read_conditions s.now) s.now }
-    ensures answer { result ≡ conditions_as (read_conditions s.now) (length page.old) }
+fn show(s: &[u8], p: Places, page: &mut [u8]) -> Result<usize, Refusal>
+    requires { accepted p ≡ opened_for (read_conditions s.now) s.now }
+    ensures answer { sheet_of result ≡ conditions_as (read_conditions s.now) (length page.old) }
     ensures page { page.new ≡ page_as (read_conditions s.now) page.old }
     ensures within { IfOk result (λ n. n ≤ length page.new) }
 {
@@ -59,20 +67,19 @@ fn show(s: &[u8], p: Places, page: &mut [u8]) -> Result<usize, u32>
     print_all(s, p, &mut text);
     let n = text.end;
     if page.len() < n {
-        return Err(12);
+        return Err(Refusal::Room);
     }
     page[..n].copy_from_slice(&bytes[..n]);
     Ok(n)
 }
 
-// Prints a sheet's conditions at the front of a page, and answers how long they are, or the refusal's number, as `sheet` gives it.
-pub fn conditions(s: &[u8], page: &mut [u8]) -> Result<usize, u32>
-    ensures answer { result ≡ conditions_as (read_conditions s.now) (length page.old) }
+// Prints a sheet's conditions at the front of a page, and answers how long they are, or why the sheet is refused, as `sheet` tells it, or
+// that the page has no room.
+pub fn conditions(s: &[u8], page: &mut [u8]) -> Result<usize, Refusal>
+    ensures answer { sheet_of result ≡ conditions_as (read_conditions s.now) (length page.old) }
     ensures page { page.new ≡ page_as (read_conditions s.now) page.old }
     ensures within { IfOk result (λ n. n ≤ length page.new) }
 {
-    match open_unbound(s) {
-        Opened::Refused(c) => Err(c),
-        Opened::At(p) => show(s, p, page),
-    }
+    let p = open_unbound(s)?;
+    show(s, p, page)
 }

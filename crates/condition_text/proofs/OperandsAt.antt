@@ -7,16 +7,16 @@ use mathlib.Core.Bool.{true}
 use mathlib.Core.List.{List, [], ◌++◌}
 use lib.ListN.{length, get_or, drop, length-append}
 use lib.Seq.{get_or-drop}
-use Rattle.heads.specs.Got.{Got, ok, no, is_ok, bare, bind, word_in, any_word}
+use Rattle.heads.specs.Got.{Got, ok, no, is_ok, bind, word_in, any_word}
 use Rattle.heads.specs.Head.{Tables}
 use Rattle.heads.specs.Form.{form_words, read_form, rest_of, shape_of, limit_of, form_one}
 use Rattle.heads.specs.declared.Form.{Form}
 use Rattle.heads.specs.declared.Form.TheVariants.{Leaf, Var, Unresolved, Prop, Two as Form-Two, Slice, Many, BinOp, UnaryOp, Case, IsNull, PatternPredicate, ListComprehension, PatternComprehension, ListPredicate, MapProjection}
 use Rattle.expr.specs.Tree.{Expr, var, unresolved, node, predicate, comprehension, Exprs, done, more, tree}
-use Rattle.expr.specs.Read.{Reader, reader, read_expr, after_form, maybe_pattern, times, marks}
+use Rattle.expr.specs.Read.{Reader, read_expr, after_form, maybe_pattern, times, marks}
 use Rattle.expr.specs.Write.{write_e}
 use Rattle.expr.specs.Well.{WellE}
-use Rattle.expr.proofs.Accepted.{refused, ok-left, ok-inverse, word-there, room-left, expr-is}
+use Rattle.expr.proofs.Accepted.{ok-left, ok-inverse, word-there, room-left, expr-is}
 use Rattle.expr.proofs.Written.{written}
 use Rattle.condition.specs.Cond.{atom, unary, binary}
 use Rattle.condition_text.specs.Tree.{cond_e}
@@ -151,10 +151,6 @@ atom-is (unresolved x) at ws rest w a b = refl
 atom-is (node f es) at ws rest w a b = other f es at ws rest w a b
 atom-is (predicate s) at ws rest w a b = refl
 atom-is (comprehension x y s es) at ws rest w a b = refl
-
--- an accepted expression is not refused
-pub not-refused : {X : Type 0} (ws : List ℕ) (names room at c : ℕ) → is_ok (reader ws names 0 0 room (drop at ws)) ≡ true → bare (reader ws names 0 0 room (drop at ws)) ≡ no c → X
-not-refused ws names room at c o e = refused (reader ws names 0 0 room (drop at ws)) c o e
 
 module _ (t : Tables) (room : ℕ) (ws : List ℕ) (at : ℕ) (e : Expr) (rest : List ℕ) (h : read_expr t room (drop at ws) ≡ ok e rest) where
   some-room : 0 < room

@@ -1,17 +1,13 @@
 // An expression that was accepted: where it ends.
-ghost use Rattle.words.specs.Words.{words};
+ghost use Rattle.heads.specs.Answer.{words_of, tables_of};
 ghost use Rattle.condition_text.specs.Skip.{Accepted, Skips};
 
 use flat::read_expr;
-use heads::Read;
+use heads::Section;
 
-pub fn skip(s: &[u8], names: u32, at: usize, room: u32) -> usize
-    requires { Accepted (words s.now) names room at }
-    ensures { Skips (words s.now) names room at result }
+pub fn skip(section: &Section, at: usize, room: u32) -> usize
+    requires { Accepted (words_of section.now) (tables_of section.now) room at }
+    ensures { Skips (words_of section.now) (tables_of section.now) room at result }
 {
-    let r = read_expr(s, names, 0, 0, at, room);
-    let Read::Next(q) = r else {
-        return at;
-    };
-    q
+    read_expr(section, at, room).unwrap()
 }

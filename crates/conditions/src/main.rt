@@ -14,7 +14,7 @@ fn show<W: Write>(out: &mut W, s: &[u8]) -> io::Result<()> {
     let mut page = [0u8; PAGE];
     match conditions(s, &mut page) {
         Ok(n) => out.write_all(&page[..n]),
-        Err(number) => writeln!(out, "refused {number}"),
+        Err(refusal) => writeln!(out, "{refusal}"),
     }
 }
 

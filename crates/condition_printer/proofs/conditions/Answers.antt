@@ -1,8 +1,13 @@
 -- A refusal is handed up.
+use Rattle.std.proofs.Common.{◌∙◌}
+use Rattle.sheet.proofs.Causes.{refusal_told}
 use Rattle.condition_printer.proofs.Showing.{shown-refused}
 use Rattle.condition_printer.proofs.conditions.Goals as goal
 
-pub returns-in-Refused : goal.returns-in-Refused
-returns-in-Refused c =
-    let r = shown-refused _ _ c.args.page.now c.open_unbound.ensures c.in-Refused.is in
-    record { answer = r.0; page = r.1; within = tt }
+pub returns-in_err-p-clause-answer : goal.returns-in_err-p-clause-answer
+returns-in_err-p-clause-answer c =
+    refusal_told _ _ c.from_residual.ensures ∙ (shown-refused _ c.args.s.now c.args.page.now c.in_err-p.ensures).0
+
+pub returns-in_err-p-clause-page : goal.returns-in_err-p-clause-page
+returns-in_err-p-clause-page c =
+    (shown-refused _ c.args.s.now c.args.page.now c.in_err-p.ensures).1

@@ -2,7 +2,7 @@
 -- ended, with 15 bytes of room for each word. The expression's length falls.
 use native.Mathlib.Omega.{arith}
 use mathlib.Core.Path.{refl, sym, ap, ◌∙◌}
-use Rattle.words.specs.Words.{words}
+use Rattle.heads.specs.Answer.{words_of, tables_of}
 use Rattle.heads.specs.Got.{is_ok}
 use Rattle.condition_text.proofs.Stages.{fits, piece, ready, part}
 use Rattle.condition_text.proofs.Operators.{task, bracket-short, binary-short, unary-short, operator, binary-begun, left-shorter, second, right-shorter, binary-put, prefix, unary-begun, operand-shorter, unary-put, atom-fits, atom-put}
@@ -10,25 +10,25 @@ use Rattle.condition_text.proofs.writing.+print.Goals as goal
 
 pub binary_level-level-requires : goal.binary_level-level-requires
 binary_level-level-requires t c =
-    let two = let a = c.args in task (words a.s.now) a.names a.room a.at a.least a.page.now.end a.page.now.bytes.now c.requires in
+    let two = let a = c.args in task (words_of a.section.now) (tables_of a.section.now) a.room a.at a.least a.page.now.end a.page.now.bytes.now c.requires in
     let code = sym c.word.ensures ∙ c.in-15.is in
     rw (← c.word-operator.ensures) at (operator two code).known
 
 pub overflow_sub-room : goal.overflow_sub-room
 overflow_sub-room t c =
-    let two = let a = c.args in task (words a.s.now) a.names a.room a.at a.least a.page.now.end a.page.now.bytes.now c.requires in
+    let two = let a = c.args in task (words_of a.section.now) (tables_of a.section.now) a.room a.at a.least a.page.now.end a.page.now.bytes.now c.requires in
     let code = sym c.word.ensures ∙ c.in-15.is in
     (operator two code).deep
 
 pub left_level-requires : goal.left_level-requires
 left_level-requires t c =
-    let two = let a = c.args in task (words a.s.now) a.names a.room a.at a.least a.page.now.end a.page.now.bytes.now c.requires in
+    let two = let a = c.args in task (words_of a.section.now) (tables_of a.section.now) a.room a.at a.least a.page.now.end a.page.now.bytes.now c.requires in
     let code = sym c.word.ensures ∙ c.in-15.is in
     rw (← c.word-operator.ensures) at (operator two code).known
 
 pub print-middle-requires : goal.print-middle-requires
 print-middle-requires t c =
-    let two = let a = c.args in task (words a.s.now) a.names a.room a.at a.least a.page.now.end a.page.now.bytes.now c.requires in
+    let two = let a = c.args in task (words_of a.section.now) (tables_of a.section.now) a.room a.at a.least a.page.now.end a.page.now.bytes.now c.requires in
     let code = sym c.word.ensures ∙ c.in-15.is in
     let op = operator two code in
     let s1 = piece (binary-begun two code) 1 14 c.put_if.ensures.wrote (bracket-short _ _) (omega arith) in
@@ -36,13 +36,13 @@ print-middle-requires t c =
 
 pub binary_sign-requires : goal.binary_sign-requires
 binary_sign-requires t c =
-    let two = let a = c.args in task (words a.s.now) a.names a.room a.at a.least a.page.now.end a.page.now.bytes.now c.requires in
+    let two = let a = c.args in task (words_of a.section.now) (tables_of a.section.now) a.room a.at a.least a.page.now.end a.page.now.bytes.now c.requires in
     let code = sym c.word.ensures ∙ c.in-15.is in
     rw (← c.word-operator.ensures) at (operator two code).known
 
 pub put-requires : goal.put-requires
 put-requires t c =
-    let two = let a = c.args in task (words a.s.now) a.names a.room a.at a.least a.page.now.end a.page.now.bytes.now c.requires in
+    let two = let a = c.args in task (words_of a.section.now) (tables_of a.section.now) a.room a.at a.least a.page.now.end a.page.now.bytes.now c.requires in
     let code = sym c.word.ensures ∙ c.in-15.is in
     let op = operator two code in
     let known = rw (← c.word-operator.ensures) at op.known in
@@ -52,13 +52,13 @@ put-requires t c =
 
 pub overflow_sub-room-in-15 : goal.overflow_sub-room-in-15
 overflow_sub-room-in-15 t c =
-    let two = let a = c.args in task (words a.s.now) a.names a.room a.at a.least a.page.now.end a.page.now.bytes.now c.requires in
+    let two = let a = c.args in task (words_of a.section.now) (tables_of a.section.now) a.room a.at a.least a.page.now.end a.page.now.bytes.now c.requires in
     let code = sym c.word.ensures ∙ c.in-15.is in
     (operator two code).deep
 
 pub print-next-requires : goal.print-next-requires
 print-next-requires t c =
-    let two = let a = c.args in task (words a.s.now) a.names a.room a.at a.least a.page.now.end a.page.now.bytes.now c.requires in
+    let two = let a = c.args in task (words_of a.section.now) (tables_of a.section.now) a.room a.at a.least a.page.now.end a.page.now.bytes.now c.requires in
     let code = sym c.word.ensures ∙ c.in-15.is in
     let op = operator two code in
     let known = rw (← c.word-operator.ensures) at op.known in
@@ -70,7 +70,7 @@ print-next-requires t c =
 
 pub put_if-requires-in-15 : goal.put_if-requires-in-15
 put_if-requires-in-15 t c =
-    let two = let a = c.args in task (words a.s.now) a.names a.room a.at a.least a.page.now.end a.page.now.bytes.now c.requires in
+    let two = let a = c.args in task (words_of a.section.now) (tables_of a.section.now) a.room a.at a.least a.page.now.end a.page.now.bytes.now c.requires in
     let code = sym c.word.ensures ∙ c.in-15.is in
     let op = operator two code in
     let known = rw (← c.word-operator.ensures) at op.known in
@@ -83,7 +83,7 @@ put_if-requires-in-15 t c =
 
 pub returns-in-15 : goal.returns-in-15
 returns-in-15 t c =
-    let two = let a = c.args in task (words a.s.now) a.names a.room a.at a.least a.page.now.end a.page.now.bytes.now c.requires in
+    let two = let a = c.args in task (words_of a.section.now) (tables_of a.section.now) a.room a.at a.least a.page.now.end a.page.now.bytes.now c.requires in
     let code = sym c.word.ensures ∙ c.in-15.is in
     let op = operator two code in
     let known = rw (← c.word-operator.ensures) at op.known in
@@ -100,19 +100,19 @@ returns-in-15 t c =
 
 pub unary_sign-requires : goal.unary_sign-requires
 unary_sign-requires t c =
-    let two = let a = c.args in task (words a.s.now) a.names a.room a.at a.least a.page.now.end a.page.now.bytes.now c.requires in
+    let two = let a = c.args in task (words_of a.section.now) (tables_of a.section.now) a.room a.at a.least a.page.now.end a.page.now.bytes.now c.requires in
     let code = sym c.word.ensures ∙ c.in-16.is in
     rw (← c.word-operator-in-16.ensures) at (prefix two code).known
 
 pub overflow_sub-room-in-16 : goal.overflow_sub-room-in-16
 overflow_sub-room-in-16 t c =
-    let two = let a = c.args in task (words a.s.now) a.names a.room a.at a.least a.page.now.end a.page.now.bytes.now c.requires in
+    let two = let a = c.args in task (words_of a.section.now) (tables_of a.section.now) a.room a.at a.least a.page.now.end a.page.now.bytes.now c.requires in
     let code = sym c.word.ensures ∙ c.in-16.is in
     (prefix two code).deep
 
 pub print-next-requires-in-16 : goal.print-next-requires-in-16
 print-next-requires-in-16 t c =
-    let two = let a = c.args in task (words a.s.now) a.names a.room a.at a.least a.page.now.end a.page.now.bytes.now c.requires in
+    let two = let a = c.args in task (words_of a.section.now) (tables_of a.section.now) a.room a.at a.least a.page.now.end a.page.now.bytes.now c.requires in
     let code = sym c.word.ensures ∙ c.in-16.is in
     let op = prefix two code in
     let known = rw (← c.word-operator-in-16.ensures) at op.known in
@@ -122,7 +122,7 @@ print-next-requires-in-16 t c =
 
 pub put_if-requires-in-16-2 : goal.put_if-requires-in-16-2
 put_if-requires-in-16-2 t c =
-    let two = let a = c.args in task (words a.s.now) a.names a.room a.at a.least a.page.now.end a.page.now.bytes.now c.requires in
+    let two = let a = c.args in task (words_of a.section.now) (tables_of a.section.now) a.room a.at a.least a.page.now.end a.page.now.bytes.now c.requires in
     let code = sym c.word.ensures ∙ c.in-16.is in
     let op = prefix two code in
     let known = rw (← c.word-operator-in-16.ensures) at op.known in
@@ -133,7 +133,7 @@ put_if-requires-in-16-2 t c =
 
 pub returns-in-16 : goal.returns-in-16
 returns-in-16 t c =
-    let two = let a = c.args in task (words a.s.now) a.names a.room a.at a.least a.page.now.end a.page.now.bytes.now c.requires in
+    let two = let a = c.args in task (words_of a.section.now) (tables_of a.section.now) a.room a.at a.least a.page.now.end a.page.now.bytes.now c.requires in
     let code = sym c.word.ensures ∙ c.in-16.is in
     let op = prefix two code in
     let known = rw (← c.word-operator-in-16.ensures) at op.known in
@@ -148,12 +148,12 @@ returns-in-16 t c =
 
 pub put_atom-requires : goal.put_atom-requires
 put_atom-requires t c =
-    let two = let a = c.args in task (words a.s.now) a.names a.room a.at a.least a.page.now.end a.page.now.bytes.now c.requires in
+    let two = let a = c.args in task (words_of a.section.now) (tables_of a.section.now) a.room a.at a.least a.page.now.end a.page.now.bytes.now c.requires in
     atom-fits two
 
 pub returns-in_default : goal.returns-in_default
 returns-in_default t c =
-    let two = let a = c.args in task (words a.s.now) a.names a.room a.at a.least a.page.now.end a.page.now.bytes.now c.requires in
+    let two = let a = c.args in task (words_of a.section.now) (tables_of a.section.now) a.room a.at a.least a.page.now.end a.page.now.bytes.now c.requires in
     record {
       put = atom-put two (λ e. omega (arith, e, c.word.ensures)) (λ e. omega (arith, e, c.word.ensures)) c.skip.ensures c.put_atom.ensures.wrote;
       lent = c.put_atom.ensures.lent;
