@@ -89,6 +89,7 @@ pub fn scan_names(s: &[u8], n: u32, tab: &mut [u32], ids: &mut [u32]) -> Result<
     ensures { Scanned s.now n tab.new ids.new result }
 {
     let mut p = 0;
+    // By index: n may be more than the tables hold; then reading a name fails before.
     for i in 0..n as usize {
         let q = read_name(s, p)?;
         tab[i] = p as u32;
@@ -137,6 +138,7 @@ pub fn distinct_names(s: &[u8], tab: &[u32], ids: &[u32], n: usize) -> bool
     requires { (n ≤ length tab.now) × (take n ids.now ≡ map use_id (names_in s.now n tab.now)) }
     ensures { result ≡ distinct name_in (names_in s.now n tab.now) }
 {
+    // By index: each name is sought among the i before it.
     for i in 0..n {
         if has_id(ids, i, ids[i]) && has_name(s, tab, i, name_at(s, tab[i] as usize)) {
             return false;

@@ -40,6 +40,7 @@ pub fn distinct_ids(section: &Section, n: usize) -> bool
     requires { section.now.rows + n * 5 ≤ length (words_of section.now) }
     ensures { result ≡ distinct is_in (row_ids n (drop section.now.rows (words_of section.now))) }
 {
+    // By index: each variable is sought among the i bindings before it.
     for i in 0..n {
         if section.has_row(i, word(section.bytes, section.rows + i * 5)) {
             return false;
