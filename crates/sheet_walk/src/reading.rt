@@ -95,12 +95,9 @@ fn store_uses(tab: &mut [u32], ids: &[u32], slots: u32, n: u32)
     requires { (n ≤ slots) × ((n ≤ length ids.now) × (16 + slots * 2 ≤ length tab.old)) }
     ensures { Stored slots n ids.now tab.old tab.new }
 {
+    let n = n as usize;
     let from = MARKS + slots as usize;
-    let mut i = 0;
-    while i < n as usize {
-        tab[from + i] = ids[i];
-        i += 1;
-    }
+    tab[from..from + n].copy_from_slice(&ids[..n]);
 }
 
 // What the walks go by besides.
