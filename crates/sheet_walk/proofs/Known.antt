@@ -1,10 +1,9 @@
 -- The two tables where both are right: what the walks go by is in order, the World is that of the names and the bindings, and the use ids are
 -- the names' (`known`).
 -- Distinct names have `*` and `id` at one index at most, and a row that is found is the table's.
-use Prim.Native.Nat.{ℕ, zero, suc, ◌+◌, ◌*◌, ◌<◌, ◌≤◌}
+use Prim.Native.Nat.{ℕ, suc, ◌+◌, ◌*◌, ◌<◌, ◌≤◌}
 use native.Mathlib.Omega.{arith}
 use mathlib.Core.Path.{◌≡◌, refl, ap, sym, ◌∙◌}
-use mathlib.Core.Logic.{◌≢◌}
 use mathlib.Core.Bool.{Bool, true, false, cond, ◌&&◌, and-true, and-false}
 use mathlib.Core.List.{List, [], ◌∷◌, map}
 use lib.Dec.{eqb}
@@ -37,7 +36,7 @@ use Rattle.clause_parts.specs.Passes.{Unmarked}
 use Rattle.clause_parts.proofs.Passing.{none-hushed}
 use Rattle.steps.specs.Hold.{Fine}
 use Rattle.sheet_walk.specs.Runs.{warns_by}
-use Rattle.sheet_walk.specs.Parts.{slots_for, Rowed, names_by, Settles, Set, Uses, Tables, TablesAs, ReadsTables}
+use Rattle.sheet_walk.specs.Parts.{slots_for, Rowed, names_by, Settles, Set, Uses, Tables}
 use Rattle.sheet_walk.proofs.Rows.{row_words_lem}
 
 -- the names `*` and `id` as texts that are the same
@@ -153,11 +152,3 @@ module _ {s : List ℕ} {p : Places} {choice : ℕ} {places ids old tab : List �
 
   pub known : Tables s p choice places ids tab
   known = record { rows = r.rows; has = record { places = placed; names = t.same; rows = r.read }; tabled = t; set = set; world = world; uses = uses; wants = q.wants }
-
--- the cause that the tables give
-pub tables-no : {s : List ℕ} {p : Places} {choice : ℕ} {places ids tab : List ℕ} {r : ℕ} → r ≢ 0 → ReadsTables s p choice places ids tab r → read_sheet s ≡ refused r
-tables-no {s} {p} {choice} {places} {ids} {tab} {r} ne x = go r ne x.tables
-  where
-    go : (r : ℕ) → r ≢ 0 → TablesAs s p choice places ids tab r → read_sheet s ≡ refused r
-    go zero ne y = absurd (ne refl)
-    go (suc c) ne y = y

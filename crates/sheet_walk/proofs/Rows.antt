@@ -3,48 +3,48 @@
 use Prim.Native.Nat.{ℕ, zero, suc, ◌+◌, ◌*◌, ◌<◌, ◌≤◌}
 use native.Mathlib.Omega.{arith}
 use mathlib.Core.Path.{◌≡◌, refl, ap, sym, ◌∙◌}
-use mathlib.Core.Bool.{Bool, true, false, cond}
+use mathlib.Core.Bool.{Bool, true, false}
 use mathlib.Core.List.{List, [], ◌∷◌, ◌++◌, flat_map}
 use lib.ListN.{length, take, drop, get_or, length-take, length-drop}
 use lib.Seq.{get_or-drop, get_or-take}
 use Rattle.words.specs.Words.{words}
 use Rattle.words.proofs.Words.{length-words}
-use Rattle.heads.specs.Got.{ok, bare, many}
+use Rattle.heads.specs.Got.{ok, many}
 use Rattle.heads.specs.Answer.{Reads, is_in}
-use Rattle.heads.specs.declared.Read.TheVariants as read
 use Rattle.expr.proofs.Inverse.{never}
 use Rattle.clauses.specs.Well.{Each}
 use Rattle.clauses.proofs.WrittenClause.{many-gives}
 use Rattle.tables.specs.Distinct.{distinct}
 use Rattle.tables.specs.Row.{Row, row, row_words, read_row}
 use Rattle.sheet.specs.Trailer.{section}
-use Rattle.sheet.specs.Read.{Sheet, accepted, refused, read_rows}
+use Rattle.sheet.specs.Read.{Sheet, accepted, refused, unless, read_rows}
 use Rattle.sheet.specs.Write.{WellRow}
-use Rattle.sheet.specs.Answer.{InPlaces, verdict}
+use Rattle.sheet.specs.Answer.{InPlaces, judged}
 use Rattle.sheet.specs.declared.trailer.Places.{Places}
-use Rattle.sheet.specs.declared.sections.Verdict.TheVariants.{Accepted, Refused}
+use Rattle.std.specs.Prelude.{Ok, Err}
+use Rattle.refusal.specs.declared.Refusal.{Refusal}
 use Rattle.sheet.proofs.Cutting.{ids-take}
 use Rattle.sheet.proofs.Reading.{row_gives, rows-read, rows-refused, rows_left, rows_long, rows-done}
 use Rattle.rows.specs.Rows.{id_at, Hung}
 use Rattle.steps.specs.Memory.{mult_in, shift_in, chains_in}
 use Rattle.sheet_walk.specs.Parts.{slots_for, RowedIf, HungUp}
 
--- a verdict that refuses
-verdict-no : {A : Type 0} (x : Sheet A) {c : ℕ} → Refused c ≡ verdict x → x ≡ refused c
-verdict-no (accepted a) e = never (cc)
-verdict-no (refused d) e = cc
+-- what is judged refused
+judged-no : {A : Type 0} (x : Sheet A) {c : ℕ} → refused c ≡ judged x → x ≡ refused c
+judged-no (accepted a) e = cc
+judged-no (refused d) e = cc
 
 module _ {s : List ℕ} {p : Places} (h : InPlaces s p) where
   part-long : length (take p.head (words s)) ≡ p.head
   part-long = omega (arith, length-take p.head (words s), h.head, h.tail, h.trailer, length-words s)
 
-  pub rows-no : {c : ℕ} → Reads (take p.head (words s)) p.rows (bare (many (read_row p.names) p.bindings (drop p.rows (take p.head (words s))))) (read.Refused c) → read_rows p.names p.bindings (section (words s) p.rows p.head) ≡ refused 4
-  rows-no x = verdict-no _ (rows-refused _ _ _ x.same)
+  pub rows-no : (e : Refusal) → Reads (take p.head (words s)) p.rows (many (read_row p.names) p.bindings) (Err e) → read_rows p.names p.bindings (section (words s) p.rows p.head) ≡ refused 4
+  rows-no e x = judged-no _ (rows-refused _ _ _ x.same)
 
-  pub rows-over : {q : ℕ} → Reads (take p.head (words s)) p.rows (bare (many (read_row p.names) p.bindings (drop p.rows (take p.head (words s))))) (read.Next q) → q < p.head → read_rows p.names p.bindings (section (words s) p.rows p.head) ≡ refused 4
-  rows-over {q} x l = verdict-no _ (rows_left p.names p.bindings (drop p.rows (take p.head (words s))) {p = q} (take p.head (words s)) x.same (omega (arith, part-long)))
+  pub rows-over : {q : ℕ} → Reads (take p.head (words s)) p.rows (many (read_row p.names) p.bindings) (Ok q) → q < p.head → read_rows p.names p.bindings (section (words s) p.rows p.head) ≡ refused 4
+  rows-over {q} x l = judged-no _ (rows_left p.names p.bindings (drop p.rows (take p.head (words s))) {p = q} (take p.head (words s)) x.same (omega (arith, part-long)))
 
-  module _ {q : ℕ} (x : Reads (take p.head (words s)) p.rows (bare (many (read_row p.names) p.bindings (drop p.rows (take p.head (words s))))) (read.Next q)) (l : p.head ≤ q) where
+  module _ {q : ℕ} (x : Reads (take p.head (words s)) p.rows (many (read_row p.names) p.bindings) (Ok q)) (l : p.head ≤ q) where
     pub rows-within : p.rows + p.bindings * 5 ≤ p.head
     rows-within =
         let long = rows_long p.names p.bindings (drop p.rows (take p.head (words s))) {p = q} (take p.head (words s)) x.same (omega (arith, part-long)) in
@@ -56,7 +56,7 @@ module _ {s : List ℕ} {p : Places} (h : InPlaces s p) where
         (rows-done p.names p.bindings (drop p.rows (take p.head (words s))) {p = q} (take p.head (words s)) x.same (omega (arith, part-long))
         (y.same ∙ sym (ap (distinct is_in) (ids-take p.bindings p.rows p.head (words s) rows-within (omega (arith, part-long, length-take p.head (words s)))))))
       where
-        go : (b : Bool) (g : Sheet (List Row)) → read_rows p.names p.bindings (section (words s) p.rows p.head) ≡ g → (b ≡ true → Hung (mult_in tab) (shift_in tab) p.bindings (id_at (words s) p.rows) (chains_in tab)) → cond b Accepted (Refused 4) ≡ verdict g → RowedIf s p tab b
+        go : (b : Bool) (g : Sheet (List Row)) → read_rows p.names p.bindings (section (words s) p.rows p.head) ≡ g → (b ≡ true → Hung (mult_in tab) (shift_in tab) p.bindings (id_at (words s) p.rows) (chains_in tab)) → unless 4 b (accepted tt) ≡ judged g → RowedIf s p tab b
         go true (accepted rs) e k v = record { rows = rs; read = e; slots = y.slots ∙ z; unmarked = y.unmarked; hung = k refl }
         go true (refused c) e k v = never (cc)
         go false (accepted rs) e k v = never (cc)

@@ -1,5 +1,5 @@
--- What tab holds after stores: the chains behind three numbers, the marks and the use ids (`hang-empty`, `hung-up`), the use ids (`stored-none`,
--- `stored_one`), and the other seven numbers (`settles`).
+-- What tab holds after stores: the chains behind three numbers, the marks and the use ids (`hang-empty`, `hung-up`), the use ids (`stored`),
+-- and the other seven numbers (`settles`).
 use Prim.Native.Nat.{ℕ, ◌+◌, ◌-◌, ◌*◌, ◌/◌, ◌%◌, ◌<◌, ◌≤◌}
 use native.Mathlib.Numerals.{unary_clauses}
 use native.Mathlib.Omega.{arith}
@@ -9,9 +9,9 @@ use mathlib.Core.List.{List, [], ◌∷◌, ◌++◌, append-nil}
 use lib.Dec.{eqb}
 use lib.ListN.{length, take, drop, get_or, set, length-set, length-drop, get_or-append}
 use lib.Seq.{get_or-set_same, get_or-set_other, get_or-drop, get_or-take, drop-set-lt, drop_at, take_all, length-take-le}
-use borrow.Author.Count.{below_more}
 use borrow.Author.Tests.{eqb-true, eqb-false}
-use borrow.Rule.Slice.PartMut.{put_mid, mid_of}
+use borrow.Rule.Slice.PartMut.{put_mid, mid_of, same_len_mid}
+use Rattle.std.proofs.lemmas.Slice.{drop-put_mid}
 use Rattle.words.proofs.Words.{drop-none}
 use Rattle.tables.specs.Index.{index_of}
 use Rattle.sheet.specs.declared.trailer.Places.{Places}
@@ -71,18 +71,18 @@ module _ (tab : List ℕ) (k mult shift : ℕ) where
 
 -- ---- the use ids
 
--- none is stored yet, and one more
-pub stored-none : {k : ℕ} {ids tab : List ℕ} → Stored k 0 ids tab tab
-stored-none = record { length = refl; uses = λ x h. absurd (omega arith); before = λ i h. refl; chains = refl }
-
-pub stored_one : {k i : ℕ} {ids old new : List ℕ} → i < k → 16 + k * 2 ≤ length old → Stored k i ids old new → Stored k (i + 1) ids old (set new (16 + k + i) (get_or ids i 0))
-stored_one {k} {i} {ids} {old} {new} l long x =
-    let v = get_or ids i 0 in
+-- n of them are copied behind k marks
+pub stored : (k n : ℕ) (ids tab : List ℕ) {d : ℕ} {ys : List ℕ} → d ≡ n → ys ≡ take n ids → n ≤ k → n ≤ length ids → 16 + k * 2 ≤ length tab → Stored k n ids tab (put_mid (16 + k) d tab ys)
+stored k n ids tab {d} {ys} e f few used long =
+    let front = take (16 + k) tab in
+    let rest = ys ++ drop d (drop (16 + k) tab) in
+    let front-long : length front ≡ 16 + k = length-take-le (16 + k) tab (omega arith) in
+    let size : length ys ≡ n = ap length f ∙ length-take-le n ids used in
     record {
-      length = length-set new (16 + k + i) v ∙ x.length;
-      uses = below_more (λ j. get_or (set new (16 + k + i) v) (16 + k + j) 0 ≡ get_or ids j 0) i (λ j h. get_or-set_other new (16 + k + i) (16 + k + j) v 0 (λ e. omega arith) ∙ x.uses j h) (get_or-set_same new (16 + k + i) v 0 (omega (arith, x.length)));
-      before = λ j h. get_or-set_other new (16 + k + i) j v 0 (λ e. omega arith) ∙ x.before j h;
-      chains = drop-set-lt (16 + k * 2) new (16 + k + i) v (omega arith) ∙ x.chains;
+      length = same_len_mid (16 + k) d tab ys (size ∙ sym (ap (λ (i : ℕ). length (mid_of (16 + k) i tab)) e ∙ length-take-le n (drop (16 + k) tab) (omega (arith, length-drop (16 + k) tab))));
+      uses = λ x h. sym (get_or-drop (16 + k) (front ++ rest) x 0) ∙ ap (λ (l : List ℕ). get_or l x 0) (drop_at front rest (16 + k) front-long) ∙ get_or-append ys (drop d (drop (16 + k) tab)) 0 x (omega (arith, size)) ∙ ap (λ (l : List ℕ). get_or l x 0) f ∙ get_or-take n ids x 0 h;
+      before = λ i h. get_or-append front rest 0 i (omega (arith, front-long)) ∙ get_or-take (16 + k) tab i 0 h;
+      chains = drop-put_mid (16 + k) d tab ys (16 + k * 2) (omega (arith, e)) (omega arith) (size ∙ sym e);
     }
 
 -- ---- the other numbers

@@ -1,7 +1,9 @@
 -- What the parts of a run ask and leave: the tables of names and bindings, then the sections of head and arms. Only contracts need these.
-use Rattle.std.specs.Prelude.{ℕ, zero, suc, ◌+◌, ◌*◌, ◌<◌, ◌≤◌, ◌≡◌, Bool, true, false, cond, List, [], ◌∷◌, eqb, length, get_or, take, drop}
+use Rattle.std.specs.Prelude.{ℕ, zero, suc, ◌+◌, ◌*◌, ◌<◌, ◌≤◌, ◌≡◌, Bool, true, false, cond, List, [], ◌∷◌, eqb, length, get_or, take, drop, Result, Ok, Err}
 use Rattle.words.specs.Words.{words}
 use Rattle.words.specs.Fnv.{use_id}
+use Rattle.refusal.specs.Number.{number_of}
+use Rattle.refusal.specs.declared.Refusal.{Refusal}
 use Rattle.heads.specs.Answer.{row_ids, is_in}
 use Rattle.tables.specs.Answer.{names_in}
 use Rattle.tables.specs.Distinct.{distinct}
@@ -121,12 +123,12 @@ pub record Tables (s : List ℕ) (p : Places) (choice : ℕ) (places ids tab : L
   pub uses : Uses tab (λ x. use_id (get_or (names_by s p places) x []))
   pub wants : wants_in tab ≡ wants_by choice
 
--- 0, or the cause
-abbrev pub TablesAs : List ℕ → Places → ℕ → (places ids tab : List ℕ) → ℕ → Type 0
-TablesAs s p choice places ids tab zero = Tables s p choice places ids tab
-TablesAs s p choice places ids tab (suc c) = read_sheet s ≡ refused (suc c)
+-- or they refuse the sheet
+abbrev pub TablesAs : List ℕ → Places → ℕ → (places ids tab : List ℕ) → Result (Unit {0}) Refusal → Type 0
+TablesAs s p choice places ids tab (Ok u) = Tables s p choice places ids tab
+TablesAs s p choice places ids tab (Err e) = read_sheet s ≡ refused (number_of e)
 
-pub record ReadsTables (s : List ℕ) (p : Places) (choice : ℕ) (places ids tab : List ℕ) (r : ℕ) : Type 0 where
+pub record ReadsTables (s : List ℕ) (p : Places) (choice : ℕ) (places ids tab : List ℕ) (r : Result (Unit {0}) Refusal) : Type 0 where
   pub tables : TablesAs s p choice places ids tab r
 
 -- ---- the sections

@@ -10,7 +10,7 @@ ghost use Rattle.sheet_walk.specs.Runs.{Scratch, Sized, Runs};
 ghost use Rattle.sheet_walk.specs.Parts.{Lent, Unseen, RanBoth};
 
 use reading::read_tables;
-use sheet::{Opened, Places, find_places};
+use sheet::{Places, find_places};
 use steps::{MADE, SAID, TAKEN, TOLD};
 use walking::walk_both;
 
@@ -62,14 +62,13 @@ pub fn run(
     ensures runs { Runs choice s.now places.new ids.new tab.new found.new carried.old carried.new result }
 {
     let p = match find_places(s) {
-        Opened::Refused(c) => {
-            return Ran::Refused(c);
+        Ok(p) => p,
+        Err(refusal) => {
+            return Ran::Refused(u32::from(refusal));
         }
-        Opened::At(p) => p,
     };
-    let c = read_tables(s, p, choice, places, ids, tab, held);
-    if c != 0 {
-        return Ran::Refused(c);
+    match read_tables(s, p, choice, places, ids, tab, held) {
+        Ok(()) => walk_all(s, p, tab, vis, found, held, carried),
+        Err(refusal) => Ran::Refused(u32::from(refusal)),
     }
-    walk_all(s, p, tab, vis, found, held, carried)
 }

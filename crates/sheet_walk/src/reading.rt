@@ -6,8 +6,9 @@ ghost use Rattle.sheet.specs.Answer.{InPlaces, Tabled};
 ghost use Rattle.sheet.specs.Read.{locate, accepted};
 ghost use Rattle.sheet_walk.specs.Parts.{Shift, Clear, slots_for, RowedIf, HungUp, Stored, Settling, Settles, ReadsTables};
 
-use heads::Read;
+use heads::Section;
 use name_chains::are_names;
+use refusal::Refusal;
 use rows::{index_rows, mult_of};
 use sheet::Places;
 use steps::{BINDINGS, IDENT, MARKS, MULT, NAMES, ROWS, SHIFT, SLOTS, STAR, WANTS, WARNS};
@@ -51,9 +52,7 @@ fn names_of(s: &[u8], p: Places, places: &mut [u32], ids: &mut [u32], held: &mut
     requires { InPlaces s.now p × (Roomy s.now places.old ids.old × (length (words s.now) ≤ length held.old)) }
     ensures { Tabled p.names (take (p.rows * 4) s.now) places.new ids.new result }
 {
-    let rows = p.rows;
-    let e = rows * 4;
-    are_names(&s[0..e], p.names, places, ids, held)
+    are_names(&s[..p.rows * 4], p.names, places, ids, held)
 }
 
 // The n bindings from the word `rows` on, hung up in chains behind the marks and the use ids of so many places; whether their variables are distinct.
@@ -75,18 +74,20 @@ fn rows_of(s: &[u8], p: Places, tab: &mut [u32]) -> bool
     requires { (InPlaces s.now p × (p.names ≤ p.rows)) × Clear (length (words s.now)) tab.old }
     ensures { RowedIf s.now p tab.new result }
 {
-    let head = p.head;
-    let f = head * 4;
-    let rows = p.rows;
-    let n = p.bindings;
-    let Read::Next(q) = read_rows(&s[0..f], p.names, rows, n) else {
+    let section = Section {
+        bytes: &s[..p.head * 4],
+        names: p.names,
+        rows: p.rows,
+        bound: None,
+    };
+    let Ok(q) = read_rows(&section, p.rows, p.bindings) else {
         return false;
     };
-    if q < head {
+    if q < p.head {
         return false;
     }
     let slots = slots_for(p.names);
-    hang(s, tab, rows, n, slots)
+    hang(s, tab, p.rows, p.bindings, slots)
 }
 
 // The use ids of n names, behind the marks of so many places.
@@ -94,12 +95,9 @@ fn store_uses(tab: &mut [u32], ids: &[u32], slots: u32, n: u32)
     requires { (n ≤ slots) × ((n ≤ length ids.now) × (16 + slots * 2 ≤ length tab.old)) }
     ensures { Stored slots n ids.now tab.old tab.new }
 {
+    let n = n as usize;
     let from = MARKS + slots as usize;
-    let mut i = 0;
-    while i < n as usize {
-        tab[from + i] = ids[i];
-        i += 1;
-    }
+    tab[from..from + n].copy_from_slice(&ids[..n]);
 }
 
 // What the walks go by besides.
@@ -107,9 +105,7 @@ fn settle(s: &[u8], p: Places, choice: u32, places: &[u32], ids: &[u32], tab: &m
     requires { Settling s.now p places.now ids.now tab.old }
     ensures { Settles s.now p choice places.now ids.now tab.old tab.new }
 {
-    let rows = p.rows;
-    let e = rows * 4;
-    let part = &s[0..e];
+    let part = &s[..p.rows * 4];
     let names = p.names;
     let star = index_of(part, places, names as usize, b"*");
     let ident = index_of(part, places, names as usize, b"id");
@@ -119,12 +115,12 @@ fn settle(s: &[u8], p: Places, choice: u32, places: &[u32], ids: &[u32], tab: &m
     tab[STAR] = star;
     tab[IDENT] = ident;
     tab[WARNS] = choice % 2;
-    tab[ROWS] = rows as u32;
+    tab[ROWS] = p.rows as u32;
     tab[BINDINGS] = p.bindings;
     tab[WANTS] = choice / 2 % 2;
 }
 
-// All of them: 0, or the refusal's number. The last words are scratch.
+// All of them. The last words are scratch.
 pub fn read_tables(
     s: &[u8],
     p: Places,
@@ -133,16 +129,16 @@ pub fn read_tables(
     ids: &mut [u32],
     tab: &mut [u32],
     held: &mut [u32],
-) -> u32
+) -> Result<(), Refusal>
     requires { ((locate s.now ≡ accepted p) × (Roomy s.now places.old ids.old × (length (words s.now) ≤ length held.old))) × Clear (length (words s.now)) tab.old }
     ensures { ReadsTables s.now p choice places.new ids.new tab.new result }
 {
     if !names_of(s, p, places, ids, held) {
-        return 3;
+        return Err(Refusal::Names);
     }
     if !rows_of(s, p, tab) {
-        return 4;
+        return Err(Refusal::Bindings);
     }
     settle(s, p, choice, places, ids, tab);
-    0
+    Ok(())
 }

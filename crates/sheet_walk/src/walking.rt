@@ -12,8 +12,7 @@ fn begin(s: &[u8], p: Places, tab: &[u32], m: &mut [u32], vis: &[u32], found: &m
     requires { (Set s.now p tab.now × Wide (length (words s.now)) vis.now found.old) × Fresh m.old vis.now }
     ensures { Begins s.now p tab.now vis.now found.old m.new found.new }
 {
-    let head = p.head;
-    m[AT] = head as u32;
+    m[AT] = p.head as u32;
     say_wanted(tab, m, found, 1, 1, 0, p.start, p.end);
 }
 
@@ -31,13 +30,21 @@ fn walk_head(
     requires { Lent s.now p tab.old vis.old found.old held.old × Stands (words s.now) tab.old m.old vis.old found.old p.head p.tail }
     ensures { (tab.new ≡ tab.old) × Walks (words s.now) tab.old m.old vis.old found.old held.old carried.old m.new vis.new found.new held.new carried.new p.tail (head_in (words s.now) p tab.old) result }
 {
-    let tail = p.tail;
-    let h = tail * 4;
-    let r = walk_clauses(&s[0..h], tab, m, vis, found, held, carried, p.clauses, 192);
+    let r = walk_clauses(
+        &s[..p.tail * 4],
+        tab,
+        m,
+        vis,
+        found,
+        held,
+        carried,
+        p.clauses,
+        192,
+    );
     if r != 0 {
         return r;
     }
-    if (m[AT] as usize) < tail {
+    if (m[AT] as usize) < p.tail {
         return 5;
     }
     0
@@ -57,13 +64,20 @@ fn walk_tail(
     requires { Lent s.now p tab.old vis.old found.old held.old × Stands (words s.now) tab.old m.old vis.old found.old p.tail p.trailer }
     ensures { (tab.new ≡ tab.old) × Walks (words s.now) tab.old m.old vis.old found.old held.old carried.old m.new vis.new found.new held.new carried.new p.trailer (arms_in (words s.now) p tab.old) result }
 {
-    let trailer = p.trailer;
-    let t = trailer * 4;
-    let r = walk_arms(&s[0..t], tab, m, vis, found, held, carried, p.arms);
+    let r = walk_arms(
+        &s[..p.trailer * 4],
+        tab,
+        m,
+        vis,
+        found,
+        held,
+        carried,
+        p.arms,
+    );
     if r != 0 {
         return r;
     }
-    if (m[AT] as usize) < trailer {
+    if (m[AT] as usize) < p.trailer {
         return 5;
     }
     0

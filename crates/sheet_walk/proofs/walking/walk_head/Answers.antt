@@ -3,7 +3,7 @@ use native.Mathlib.Omega.{arith}
 use mathlib.Core.Path.{refl}
 use lib.ListN.{length-take}
 use Rattle.words.specs.Words.{words}
-use Rattle.sheet.proofs.Cutting.{words_take}
+use Rattle.sheet.proofs.Cutting.{words-front}
 use Rattle.sheet_walk.proofs.Ended.{walks-no, walks-left, walks-end, head-is, tail-long, ready-in}
 use Rattle.sheet_walk.proofs.walking.walk_head.Goals as goal
 
@@ -11,14 +11,14 @@ pub walk_clauses-r-requires : goal.walk_clauses-r-requires
 walk_clauses-r-requires c =
     let a = c.args in
     let q = c.requires in
-    rw (words_take a.p.tail a.s.now)
+    rw (words-front a.p.tail a.s.now)
     (record { unmarked = q.0.set.unmarked; room = omega (arith, q.0.pairs, length-take a.p.tail (words a.s.now)); resolves = refl }, ready-in q.0.set (omega (arith, q.0.set.places)) (omega (arith, q.0.set.places)) q.1)
 
 pub returns-then-r-ne0 : goal.returns-then-r-ne0
 returns-then-r-ne0 c =
     let a = c.args in
-    let takes = rw (words_take a.p.tail a.s.now) at c.walk_clauses-r.ensures.takes in
-    let passes = rw (words_take a.p.tail a.s.now) at c.walk_clauses-r.ensures.tab_unchanged in
+    let takes = rw (words-front a.p.tail a.s.now) at c.walk_clauses-r.ensures.takes in
+    let passes = rw (words-front a.p.tail a.s.now) at c.walk_clauses-r.ensures.tab_unchanged in
     let asked = c.requires in
     let q = asked in
     (passes.0, walks-no (tail-long q.0.set) q.1 (head-is q.0.set) takes c.if-r-ne0.true passes.1)
@@ -27,20 +27,20 @@ pub overflow_cast-m : goal.overflow_cast-m
 overflow_cast-m c =
     omega (arith, c.type_inv.m 0)
 
-pub returns-then-m-tail : goal.returns-then-m-tail
-returns-then-m-tail c =
+pub returns-then-m-p : goal.returns-then-m-p
+returns-then-m-p c =
     let a = c.args in
-    let takes = rw (words_take a.p.tail a.s.now) at c.walk_clauses-r.ensures.takes in
-    let passes = rw (words_take a.p.tail a.s.now) at c.walk_clauses-r.ensures.tab_unchanged in
+    let takes = rw (words-front a.p.tail a.s.now) at c.walk_clauses-r.ensures.takes in
+    let passes = rw (words-front a.p.tail a.s.now) at c.walk_clauses-r.ensures.tab_unchanged in
     let asked = c.requires in
     let q = asked in
-    (passes.0, walks-left (tail-long q.0.set) q.1 (head-is q.0.set) takes (rw c.if-r-ne0.false at passes.1) c.if-m-tail.true)
+    (passes.0, walks-left (tail-long q.0.set) q.1 (head-is q.0.set) takes (rw c.if-r-ne0.false at passes.1) c.if-m-p.true)
 
 pub returns : goal.returns
 returns c =
     let a = c.args in
-    let takes = rw (words_take a.p.tail a.s.now) at c.walk_clauses-r.ensures.takes in
-    let passes = rw (words_take a.p.tail a.s.now) at c.walk_clauses-r.ensures.tab_unchanged in
+    let takes = rw (words-front a.p.tail a.s.now) at c.walk_clauses-r.ensures.takes in
+    let passes = rw (words-front a.p.tail a.s.now) at c.walk_clauses-r.ensures.tab_unchanged in
     let asked = c.requires in
     let q = asked in
-    (passes.0, walks-end (tail-long q.0.set) q.1 (head-is q.0.set) takes (rw c.if-r-ne0.false at passes.1) c.if-m-tail.false)
+    (passes.0, walks-end (tail-long q.0.set) q.1 (head-is q.0.set) takes (rw c.if-r-ne0.false at passes.1) c.if-m-p.false)
