@@ -47,9 +47,6 @@ same-comm a b = go (same_bytes a b) refl (same_bytes b a) refl
     go false e true f = let h = same-eq b a f in cc
     go false e false f = cc
 
-pub other_length : (a b : List ℕ) → (length a ≡ length b → ⊥) → false ≡ same_bytes a b
-other_length a b h = sym (is-not (same_bytes a b) (λ e. h (ap length (same-eq a b e))))
-
 -- they are the same where `==` on slices says so
 pub same-pointwise : (a b : List ℕ) → same_bytes a b ≡ bytes_eq a b
 unfolding same_bytes
