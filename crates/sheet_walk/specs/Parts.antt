@@ -123,7 +123,7 @@ pub record Tables (s : List ℕ) (p : Places) (choice : ℕ) (places ids tab : L
   pub uses : Uses tab (λ x. use_id (get_or (names_by s p places) x []))
   pub wants : wants_in tab ≡ wants_by choice
 
--- or they refuse the sheet
+-- the tables are right, or they refuse the sheet
 abbrev pub TablesAs : List ℕ → Places → ℕ → (places ids tab : List ℕ) → Result (Unit {0}) Refusal → Type 0
 TablesAs s p choice places ids tab (Ok u) = Tables s p choice places ids tab
 TablesAs s p choice places ids tab (Err e) = read_sheet s ≡ refused (number_of e)

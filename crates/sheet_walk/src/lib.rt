@@ -15,7 +15,7 @@ use steps::{MADE, SAID, TAKEN, TOLD};
 use walking::walk_both;
 
 // How many events and findings of the name walk, how many findings of the kind walk, how many bindings were made and how many names carried;
-// or the refusal's number.
+// or the refusal's number, as the walks answer it.
 #[derive(Clone, Copy)]
 pub enum Ran {
     Is(u32, u32, u32, u32),

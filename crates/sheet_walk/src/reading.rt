@@ -15,16 +15,15 @@ use steps::{BINDINGS, IDENT, MARKS, MULT, NAMES, ROWS, SHIFT, SLOTS, STAR, WANTS
 use tables::{index_of, read_rows};
 
 // The shift of a hash for n bindings: 8, 64 or 256 slots.
+#[tactic(auto, unfolding(rows::specs::Slot::slots))]
 fn shift_for(n: u32) -> u32
     ensures { Shift n result }
 {
-    if n < 14 {
-        return 29;
+    match n {
+        0..14 => 29,
+        14..62 => 26,
+        _ => 24,
     }
-    if n < 62 {
-        return 26;
-    }
-    24
 }
 
 // The multiplier of a hash: few bindings need none of their own.
@@ -41,10 +40,7 @@ fn mult_for(s: &[u8], rows: usize, n: u32) -> u32
 fn slots_for(names: u32) -> u32
     ensures { result ≡ slots_for names }
 {
-    if names == 0 {
-        return 1;
-    }
-    names
+    names.max(1)
 }
 
 // The names: where they stand and their use ids; whether they are right. The last words are scratch.

@@ -8,9 +8,9 @@ use Rattle.sheet.proofs.Placing.{placed_at}
 use Rattle.sheet_walk.proofs.Told.{places-no, runs}
 use Rattle.sheet_walk.proofs.run.Goals as goal
 
-pub returns-in-Err : goal.returns-in-Err
-returns-in-Err c =
-    record { sized = record { placed = refl; used = refl; long = refl; seen = refl; wrote = refl; kept = refl }; runs = record { lent = refl; ran = places-no c.args.s.now (sym c.in-Err.ensures ∙ ap refused (sym c.from.ensures)) } }
+pub returns-in-Err-clause-runs : goal.returns-in-Err-clause-runs
+returns-in-Err-clause-runs c =
+    record { lent = refl; ran = places-no c.args.s.now (sym c.in-Err.ensures ∙ ap refused (sym c.from.ensures)) }
 
 pub read_tables-requires : goal.read_tables-requires
 read_tables-requires c =
@@ -18,12 +18,6 @@ read_tables-requires c =
     let q = c.requires in
     let o = placed_at s c.in-Ok.ensures in
     ((o.0, (record { short = o.1.short; places = omega (arith, q.placed, length-words s); uses = omega (arith, q.used, length-words s) }, omega (arith, q.pairs))), record { long = q.long; clear = q.clear })
-
-pub walk_all-requires : goal.walk_all-requires
-walk_all-requires c =
-    let tabled = c.in-Ok-read_tables.ensures.tables in
-    let q = c.requires in
-    (record { set = tabled.set; wide = record { names = q.names; room = q.room }; pairs = omega (arith, q.pairs, c.held-1.given) }, record { unseen = q.unseen })
 
 pub returns-in-Ok-read_tables-clause-runs : goal.returns-in-Ok-read_tables-clause-runs
 returns-in-Ok-read_tables-clause-runs c =

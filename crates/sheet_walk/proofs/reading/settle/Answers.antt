@@ -3,30 +3,9 @@
 use Prim.Native.Nat.{◌≤◌}
 use native.Mathlib.Omega.{arith}
 use mathlib.Core.Path.{refl}
-use lib.ListN.{length, length-set}
+use lib.ListN.{length}
 use Rattle.sheet_walk.proofs.Table.{settles}
 use Rattle.sheet_walk.proofs.reading.settle.Goals as goal
-
-pub bounds-tab-0 : goal.bounds-tab-0
-bounds-tab-0 c = omega (arith, c.store_uses.ensures.length, c.requires.long)
-
-pub bounds-tab-2 : goal.bounds-tab-2
-bounds-tab-2 c = simp length-set (omega (arith, c.store_uses.ensures.length, c.requires.long))
-
-pub bounds-tab-3 : goal.bounds-tab-3
-bounds-tab-3 c = simp length-set (omega (arith, c.store_uses.ensures.length, c.requires.long))
-
-pub bounds-tab-4 : goal.bounds-tab-4
-bounds-tab-4 c = simp length-set (omega (arith, c.store_uses.ensures.length, c.requires.long))
-
-pub bounds-tab-5 : goal.bounds-tab-5
-bounds-tab-5 c = simp length-set (omega (arith, c.store_uses.ensures.length, c.requires.long))
-
-pub bounds-tab-6 : goal.bounds-tab-6
-bounds-tab-6 c = simp length-set (omega (arith, c.store_uses.ensures.length, c.requires.long))
-
-pub bounds-tab-9 : goal.bounds-tab-9
-bounds-tab-9 c = simp length-set (omega (arith, c.store_uses.ensures.length, c.requires.long))
 
 pub returns : goal.returns
 returns c =

@@ -6,10 +6,6 @@ use Rattle.sheet_walk.proofs.Ended.{stands_on}
 use Rattle.sheet_walk.proofs.Whole.{wide-same, head-refused, arms-refused, rows-lacking, both-done}
 use Rattle.sheet_walk.proofs.walking.walk_both.Goals as goal
 
-pub begin-requires : goal.begin-requires
-begin-requires c =
-    let q = c.requires in ((q.0.set, q.0.wide), q.1)
-
 pub walk_head-r-requires : goal.walk_head-r-requires
 walk_head-r-requires c =
     let a = c.args in
@@ -41,13 +37,6 @@ returns-then-q-ne0 c =
     let headed = rw c.if-r-ne0.false at c.walk_head-r.ensures.1 in
     let tailed = rw same at c.walk_tail-q.ensures in
     (tailed.0, arms-refused begun headed c.if-q-ne0.true tailed.1)
-
-pub bounds-m-6 : goal.bounds-m-6
-bounds-m-6 c =
-    let same = c.walk_head-r.ensures.0 in
-    let tailed = rw same at c.walk_tail-q.ensures in
-    let armed = rw c.if-q-ne0.false at tailed.1 in
-    omega (arith, armed.done.stands.fit.size)
 
 pub returns-then-m-eq0 : goal.returns-then-m-eq0
 returns-then-m-eq0 c =

@@ -23,10 +23,6 @@ returns-then-r-ne0 c =
     let q = asked in
     (passes.0, walks-no (tail-long q.0.set) q.1 (head-is q.0.set) takes c.if-r-ne0.true passes.1)
 
-pub overflow_cast-m : goal.overflow_cast-m
-overflow_cast-m c =
-    omega (arith, c.type_inv.m 0)
-
 pub returns-then-m-p : goal.returns-then-m-p
 returns-then-m-p c =
     let a = c.args in
