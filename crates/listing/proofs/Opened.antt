@@ -1,17 +1,22 @@
 -- What a run over a sheet gives its listing: a refusal is handed on, and 8 is given by what it counted; else the findings that it left in words
 -- are the definition's, and what is written of them and of the names that a table has is the listing.
 use Prim.Native.Nat.{ℕ, ◌+◌, ◌*◌, ◌<◌, ◌≤◌}
-use mathlib.Core.Path.{◌≡◌, refl, subst}
+use native.Mathlib.Omega.{arith}
+use mathlib.Core.Path.{◌≡◌, refl, sym, subst}
 use mathlib.Core.Bool.{Bool, true, false, ◌&&◌, and-false}
 use mathlib.Core.List.{List}
 use borrow.Author.Tests.{le-leb, lt-leb}
 use lib.Dec.{leb}
 use lib.ListN.{take}
-use Rattle.std.specs.Prelude.{Result, Err}
+use Rattle.std.specs.Prelude.{Result, Ok, Err}
 use Rattle.words.specs.Words.{words}
 use Rattle.refusal.specs.Number.{number_of}
 use Rattle.refusal.specs.declared.Refusal.{Refusal}
 use Rattle.refusal.specs.declared.Refusal.TheVariants.{Entries}
+use Rattle.refusal.specs.declared.Refusal.TheVariants as refusals
+use Rattle.std.specs.Result.{IsErr, IsErrAnd}
+use Rattle.sheet.specs.declared.trailer.Places.{Places}
+use Rattle.sheet.specs.Answer.{sheet_of}
 use Rattle.tables.specs.Answer.{names_in}
 use Rattle.sheet.specs.Trailer.{places_of}
 use Rattle.sheet.specs.Read.{accepted, refused, locate, read_sheet}
@@ -23,7 +28,7 @@ use Rattle.semantics.specs.Lists.{findings}
 use Rattle.sheet_walk.specs.Runs.{warns_by, wants_by, id_of, RanTo, Runs}
 use Rattle.sheet_walk.specs.declared.Ran.{Ran}
 use Rattle.sheet_walk.specs.declared.Ran.TheVariants as ran
-use Rattle.texts.specs.Page.{Writes}
+use Rattle.texts.specs.Page.{Writes, answered, number}
 use Rattle.texts.proofs.Giving.{gives-refusal}
 use Rattle.lines.specs.Lines.{listed}
 use Rattle.lines.specs.Given.{findings_in}
@@ -40,6 +45,24 @@ refused-listing warns s page {r} n e = rw (e, ← n) (gives-refusal r page)
 pub unplaced : (s : List ℕ) {c : ℕ} → locate s ≡ refused c → read_sheet s ≡ refused c
 unfolding read_sheet
 unplaced s e = rw e
+
+small : (e : Refusal) → number_of e < 4294967296
+small refusals.Size = omega arith
+small refusals.Places = omega arith
+small refusals.Names = omega arith
+small refusals.Bindings = omega arith
+small refusals.Word = omega arith
+small refusals.Depth = omega arith
+small refusals.Unbound = omega arith
+small refusals.Entries = omega arith
+small refusals.Asked = omega arith
+small refusals.Page = omega arith
+small refusals.Room = omega arith
+
+-- what a `?` answers where the sections stand nowhere
+pub unplaced-listing : (warns : Bool) (s page : List ℕ) (e : Refusal) (r : Result ℕ Refusal) → sheet_of {A = Places} (Err e) ≡ locate s → IsErr r × IsErrAnd r (λ y. y ≡ e) → Writes (listing warns s) page page r × (number (answered r) < 4294967296)
+unplaced-listing warns s page e (Err y) h f = rw f.1 (refused-listing warns s page refl (unplaced s (sym h)), small e)
+unplaced-listing warns s page e (Ok y) h f = absurd f.1
 
 -- what a run answers
 pub ran_to : (warns : Bool) {choice : ℕ} {s places ids tab found old carried : List ℕ} {r : Ran} {said told made taken : ℕ} → choice ≡ choice_of warns → r ≡ ran.Is said told made taken → Runs choice s places ids tab found old carried r → RanTo (choice_of warns) s places ids tab found old carried said told made taken

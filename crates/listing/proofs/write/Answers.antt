@@ -7,7 +7,7 @@ use lib.ListN.{length-take}
 use Rattle.words.proofs.Words.{length-words}
 use Rattle.sheet.specs.declared.trailer.Places.{Places}
 use Rattle.sheet.proofs.Placing.{placed_at, places-of}
-use Rattle.listing.proofs.Opened.{refused-listing, unplaced, listed-is}
+use Rattle.listing.proofs.Opened.{unplaced-listing, listed-is}
 use Rattle.listing.proofs.write.Goals as goal
 
 pub overflow_mul-names : goal.overflow_mul-names
@@ -36,7 +36,7 @@ invariant_of-found c =
     record { few = omega (arith, c.requires.few, length-words c.args.s.now, i.short); flat = c.requires.wide; small = λ i. omega (arith, c.type_inv.found i) }
 
 pub returns-in_err-p : goal.returns-in_err-p
-returns-in_err-p c = ?
+returns-in_err-p c = unplaced-listing _ _ _ _ _ c.in_err-p.ensures c.from_residual.ensures
 
 pub returns : goal.returns
 returns c =
