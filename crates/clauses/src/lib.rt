@@ -25,7 +25,7 @@ pub fn read_projection(section: &Section, at: usize) -> Result<usize, Refusal>
 }
 
 // n projections.
-fn read_projections(section: &Section, at: usize, n: u32) -> Result<usize, Refusal>
+pub fn read_projections(section: &Section, at: usize, n: u32) -> Result<usize, Refusal>
     requires { at ≤ length (words_of section.now) }
     ensures { Reads (words_of section.now) at (many (read_projection (tables_of section.now)) n) result }
 {
@@ -46,7 +46,7 @@ pub fn counted_projections(section: &Section, at: usize) -> Result<usize, Refusa
 }
 
 // A yield: a name, an alias or none, a variable.
-fn read_yield(section: &Section, at: usize) -> Result<usize, Refusal>
+pub fn read_yield(section: &Section, at: usize) -> Result<usize, Refusal>
     requires { at ≤ length (words_of section.now) }
     ensures { Reads (words_of section.now) at (read_yield (tables_of section.now)) result }
 {
@@ -57,7 +57,7 @@ fn read_yield(section: &Section, at: usize) -> Result<usize, Refusal>
 }
 
 // n yields.
-fn read_yields(section: &Section, at: usize, n: u32) -> Result<usize, Refusal>
+pub fn read_yields(section: &Section, at: usize, n: u32) -> Result<usize, Refusal>
     requires { at ≤ length (words_of section.now) }
     ensures { Reads (words_of section.now) at (many (read_yield (tables_of section.now)) n) result }
 {
@@ -69,7 +69,7 @@ fn read_yields(section: &Section, at: usize, n: u32) -> Result<usize, Refusal>
 }
 
 // A count, and as many yields.
-fn counted_yields(section: &Section, at: usize) -> Result<usize, Refusal>
+pub fn counted_yields(section: &Section, at: usize) -> Result<usize, Refusal>
     requires { at ≤ length (words_of section.now) }
     ensures { Reads (words_of section.now) at (counted (read_yield (tables_of section.now))) result }
 {
@@ -78,7 +78,7 @@ fn counted_yields(section: &Section, at: usize) -> Result<usize, Refusal>
 }
 
 // A count, and as many expressions.
-fn counted_exprs(section: &Section, at: usize) -> Result<usize, Refusal>
+pub fn counted_exprs(section: &Section, at: usize) -> Result<usize, Refusal>
     requires { at ≤ length (words_of section.now) }
     ensures { Reads (words_of section.now) at (counted_exprs (tables_of section.now)) result }
 {
@@ -87,7 +87,7 @@ fn counted_exprs(section: &Section, at: usize) -> Result<usize, Refusal>
 }
 
 // A count, and as many marks of a kind with their expressions.
-fn counted_marks(section: &Section, at: usize, kind: MarkKind) -> Result<usize, Refusal>
+pub fn counted_marks(section: &Section, at: usize, kind: MarkKind) -> Result<usize, Refusal>
     requires { at ≤ length (words_of section.now) }
     ensures { Reads (words_of section.now) at (counted_marks (tables_of section.now) (kind_of kind)) result }
 {
@@ -96,7 +96,7 @@ fn counted_marks(section: &Section, at: usize, kind: MarkKind) -> Result<usize, 
 }
 
 // Match: a flag, a pattern.
-fn read_match(section: &Section, at: usize) -> Result<usize, Refusal>
+pub fn read_match(section: &Section, at: usize) -> Result<usize, Refusal>
     requires { at ≤ length (words_of section.now) }
     ensures { Reads (words_of section.now) at (read_match (tables_of section.now) 0 0) result }
 {
@@ -105,7 +105,7 @@ fn read_match(section: &Section, at: usize) -> Result<usize, Refusal>
 }
 
 // With: projections, a flag, a filter if it is 1.
-fn read_with(section: &Section, at: usize) -> Result<usize, Refusal>
+pub fn read_with(section: &Section, at: usize) -> Result<usize, Refusal>
     requires { at ≤ length (words_of section.now) }
     ensures { Reads (words_of section.now) at (read_with (tables_of section.now) 0 0 (no_keys (tables_of section.now))) result }
 {
@@ -115,7 +115,7 @@ fn read_with(section: &Section, at: usize) -> Result<usize, Refusal>
 }
 
 // With, sorted: the same, a count, and as many sort keys.
-fn read_sorted_with(section: &Section, at: usize) -> Result<usize, Refusal>
+pub fn read_sorted_with(section: &Section, at: usize) -> Result<usize, Refusal>
     requires { at ≤ length (words_of section.now) }
     ensures { Reads (words_of section.now) at (sorted_with (tables_of section.now)) result }
 {
@@ -124,7 +124,7 @@ fn read_sorted_with(section: &Section, at: usize) -> Result<usize, Refusal>
 }
 
 // Return, sorted: projections, a count, and as many sort keys.
-fn read_sorted_return(section: &Section, at: usize) -> Result<usize, Refusal>
+pub fn read_sorted_return(section: &Section, at: usize) -> Result<usize, Refusal>
     requires { at ≤ length (words_of section.now) }
     ensures { Reads (words_of section.now) at (sorted_return (tables_of section.now)) result }
 {
@@ -133,7 +133,7 @@ fn read_sorted_return(section: &Section, at: usize) -> Result<usize, Refusal>
 }
 
 // Unwind: a variable that is bound, an expression.
-fn read_unwind(section: &Section, at: usize) -> Result<usize, Refusal>
+pub fn read_unwind(section: &Section, at: usize) -> Result<usize, Refusal>
     requires { at ≤ length (words_of section.now) }
     ensures { Reads (words_of section.now) at (read_unwind (tables_of section.now) 0 0) result }
 {
@@ -145,7 +145,7 @@ fn read_unwind(section: &Section, at: usize) -> Result<usize, Refusal>
 }
 
 // Call: arguments, yields.
-fn read_call(section: &Section, at: usize) -> Result<usize, Refusal>
+pub fn read_call(section: &Section, at: usize) -> Result<usize, Refusal>
     requires { at ≤ length (words_of section.now) }
     ensures { Reads (words_of section.now) at (read_call (tables_of section.now) 0 0) result }
 {
@@ -154,7 +154,7 @@ fn read_call(section: &Section, at: usize) -> Result<usize, Refusal>
 }
 
 // What follows the kind and the span of a clause.
-fn read_body(section: &Section, at: usize, kind: u32) -> Result<usize, Refusal>
+pub fn read_body(section: &Section, at: usize, kind: u32) -> Result<usize, Refusal>
     requires { at ≤ length (words_of section.now) }
     ensures { Reads (words_of section.now) at (read_body (tables_of section.now) 0 0 kind) result }
 {
@@ -209,7 +209,7 @@ fn counted_clauses(section: &Section, at: usize) -> Result<usize, Refusal>
 }
 
 // An arm: span, a count, and as many clauses.
-fn read_arm(section: &Section, at: usize) -> Result<usize, Refusal>
+pub fn read_arm(section: &Section, at: usize) -> Result<usize, Refusal>
     requires { at ≤ length (words_of section.now) }
     ensures { Reads (words_of section.now) at (read_arm (tables_of section.now)) result }
 {

@@ -72,7 +72,7 @@ pub fn read_pattern(section: &Section, at: usize, room: u32, has: bool) -> Resul
 
 // n parts of a pattern.
 #[cycle(readers)]
-fn read_parts(section: &Section, at: usize, room: u32, n: u32) -> Result<usize, Refusal>
+pub fn read_parts(section: &Section, at: usize, room: u32, n: u32) -> Result<usize, Refusal>
     requires { at ≤ length (words_of section.now) }
     ensures { Reads (words_of section.now) at (parts n (tables_of section.now) (reader_of section.now room)) result }
 {
@@ -85,7 +85,7 @@ fn read_parts(section: &Section, at: usize, room: u32, n: u32) -> Result<usize, 
 
 // A part of a pattern, with its elements.
 #[cycle(readers)]
-fn read_part(section: &Section, at: usize, room: u32) -> Result<usize, Refusal>
+pub fn read_part(section: &Section, at: usize, room: u32) -> Result<usize, Refusal>
     requires { at ≤ length (words_of section.now) }
     ensures { Reads (words_of section.now) at (part_one (tables_of section.now) (reader_of section.now room)) result }
 {
@@ -98,7 +98,7 @@ fn read_part(section: &Section, at: usize, room: u32) -> Result<usize, Refusal>
 
 // n elements of a part.
 #[cycle(readers)]
-fn read_elems(section: &Section, at: usize, room: u32, n: u32) -> Result<usize, Refusal>
+pub fn read_elems(section: &Section, at: usize, room: u32, n: u32) -> Result<usize, Refusal>
     requires { at ≤ length (words_of section.now) }
     ensures { Reads (words_of section.now) at (elems n (tables_of section.now) (reader_of section.now room) no_steps) result }
 {
@@ -111,7 +111,7 @@ fn read_elems(section: &Section, at: usize, room: u32, n: u32) -> Result<usize, 
 
 // An element of a part, with its property.
 #[cycle(readers)]
-fn read_elem(section: &Section, at: usize, room: u32) -> Result<usize, Refusal>
+pub fn read_elem(section: &Section, at: usize, room: u32) -> Result<usize, Refusal>
     requires { at ≤ length (words_of section.now) }
     ensures { Reads (words_of section.now) at (elem_one (tables_of section.now) (reader_of section.now room)) result }
 {

@@ -73,13 +73,13 @@ const LIMIT: [u64; 26] = [
     0, 0, 2, 0, 2, 4294967296, 0,
 ];
 
-fn shape_of(code: u32) -> u8
+pub fn shape_of(code: u32) -> u8
     ensures { result ≡ shape_of code }
 {
     if code < 26 { SHAPE[code as usize] } else { 0 }
 }
 
-fn limit_of(code: u32, names: u32) -> u64
+pub fn limit_of(code: u32, names: u32) -> u64
     ensures { result ≡ limit_of names code }
 {
     if code == 8 {
@@ -92,7 +92,7 @@ fn limit_of(code: u32, names: u32) -> u64
 }
 
 // The head with the code and no word after it.
-fn form_none(code: u32) -> Form
+pub fn form_none(code: u32) -> Form
     ensures { result ≡ form_none code }
 {
     match code {
@@ -105,7 +105,7 @@ fn form_none(code: u32) -> Form
 }
 
 // The head with the code and the word a after it.
-fn form_one(code: u32, a: u32) -> Form
+pub fn form_one(code: u32, a: u32) -> Form
     ensures { result ≡ form_one code a }
 {
     match code {
