@@ -1,4 +1,5 @@
 -- What is seen of a check call that is lent the first n entries of a list of 2,048 marker records.
+use Rattle.refusal.specs.declared.Refusal.{Refusal}
 use Rattle.std.specs.Prelude.{ℕ, ◌≡◌, true, List, ◌++◌, take, drop, replicate, Result}
 use Rattle.finding.specs.declared.Finding.{Finding}
 use Rattle.finding.specs.Records.{out_of}
@@ -22,5 +23,5 @@ unfoldable pub after : List ℕ → Lent Finding → ℕ → Finding → List Fi
 after s l n f = (left_for true s l).findings ++ drop n (marks f)
 
 -- the call's answer, and the list's records as they are copied over flat words
-abbrev pub Ran : List ℕ → Lent Finding → ℕ → Finding → Result Counts ℕ → (before flat : List ℕ) → Type 0
+abbrev pub Ran : List ℕ → Lent Finding → ℕ → Finding → Result Counts Refusal → (before flat : List ℕ) → Type 0
 Ran s l n f r before flat = (answered r ≡ answer_for true s l) × (flat ≡ out_of before (after s l n f) 2048)

@@ -11,6 +11,7 @@ ghost use Rattle.checked.specs.Ran.{lent_with, marked, Ran};
 use checker::{Counts, Lists, findings_in};
 use finding::{Finding, load_all};
 use records::check;
+use refusal::Refusal;
 use show::show_records;
 use std::io;
 use std::io::Write;
@@ -19,7 +20,7 @@ use std::io::Write;
 const MARK: u32 = 7;
 
 // The check call with a list of records in place of the flat findings, which stay as they are.
-fn check_into(s: &[u8], lists: &mut Lists<u32>, records: &mut [Finding]) -> Result<Counts, u32>
+fn check_into(s: &[u8], lists: &mut Lists<u32>, records: &mut [Finding]) -> Result<Counts, Refusal>
     ensures still { IsStill lists.old lists.new }
     ensures flat { lists.new.findings.now ≡ lists.old.findings.now }
     ensures answers { answered result ≡ answer_for true s.now (lent_with (lent lists.old) records.old) }
@@ -36,7 +37,7 @@ fn check_into(s: &[u8], lists: &mut Lists<u32>, records: &mut [Finding]) -> Resu
 }
 
 // The check call with the first n entries of a list of 2,048 records f; then all 2,048 of them, as flat findings.
-fn run(s: &[u8], n: usize, f: Finding, lists: &mut Lists<u32>) -> Result<Counts, u32>
+fn run(s: &[u8], n: usize, f: Finding, lists: &mut Lists<u32>) -> Result<Counts, Refusal>
     requires few { n ≤ 2048 }
     requires room { 12288 ≤ length lists.old.findings.now }
     ensures still { IsStill lists.old lists.new }
@@ -75,7 +76,7 @@ fn report<W: Write>(out: &mut W, s: &[u8], n: usize) -> io::Result<()>
     let answer = run(s, n, Finding::from([MARK; 6]), &mut lists);
     match answer {
         Ok(counts) => show_records(out, &findings, counts.findings)?,
-        Err(cause) => writeln!(out, "refused {cause}")?,
+        Err(refusal) => writeln!(out, "{refusal}")?,
     }
     let untouched = markers(&findings, findings_in(answer));
     writeln!(out, "untouched {untouched}")

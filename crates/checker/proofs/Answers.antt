@@ -4,6 +4,9 @@
 --     same-fits, again-asks                       lists that fit when a sheet is run again
 --     copied                                      the carried list, from the words where it was stored first
 --     fill-asks, full-answer                      lists that have room are filled, and so are the definition's
+use Rattle.refusal.specs.Number.{number_of}
+use Rattle.refusal.specs.declared.Refusal.{Refusal}
+use Rattle.refusal.specs.declared.Refusal.TheVariants.{Size, Entries}
 use Prim.Native.Nat.{ℕ, ◌*◌, ◌<◌, ◌≤◌}
 use native.Mathlib.Omega.{arith}
 use mathlib.Core.Path.{◌≡◌, sym, ◌∙◌, ap, subst}
@@ -39,19 +42,19 @@ use Rattle.checker.proofs.Fits.{fits_by, Long, long}
 use Rattle.checker.proofs.Reading.{carrieds-back}
 
 module _ (warns : Bool) (s : List ℕ) (old : Lent ℕ) (room : ℕ) where
-  pub refused-answer : {c : ℕ} → read_sheet s ≡ refused c → Answers warns s old room (Err c) old
+  pub refused-answer : (e : Refusal) → read_sheet s ≡ refused (number_of e) → Answers warns s old room (Err e) old
   unfolding answer_in left_in answer left
-  refused-answer e = record { counts = rw e; lists = rw e }
+  refused-answer r e = record { counts = rw e; lists = rw e }
 
-  pub handed-on : {r : Result Counts ℕ} {c : ℕ} → IsErrAnd r (λ e. e ≡ c) → read_sheet s ≡ refused c → Answers warns s old room r old
-  handed-on {r = Ok n} h e = absurd h
-  handed-on {r = Err d} h e = rw h (refused-answer e)
+  pub handed-on : {r : Result Counts Refusal} (c : Refusal) → IsErrAnd r (λ e. e ≡ c) → read_sheet s ≡ refused (number_of c) → Answers warns s old room r old
+  handed-on {r = Ok n} c h e = absurd h
+  handed-on {r = Err d} c h e = rw h (refused-answer _ e)
 
-  pub long-answer : max_bytes < length s → Answers warns s old room (Err 1) old
+  pub long-answer : max_bytes < length s → Answers warns s old room (Err Size) old
   unfolding read_sheet
-  long-answer h = refused-answer (rw (too_long s h))
+  long-answer h = refused-answer Size (rw (too_long s h))
 
-  pub short-answer : {st : Statement} → read_sheet s ≡ accepted st → fits (length (words s)) (counts_of warns st) old room ≡ false → Answers warns s old room (Err 8) old
+  pub short-answer : {st : Statement} → read_sheet s ≡ accepted st → fits (length (words s)) (counts_of warns st) old room ≡ false → Answers warns s old room (Err Entries) old
   unfolding answer_in left_in answer left
   short-answer e f = record { counts = rw (e, f); lists = rw (e, f) }
 

@@ -21,8 +21,10 @@ use Rattle.theorems.proofs.Woven.{written-reverse}
 use Rattle.theorems.proofs.Needs.{needs}
 use Rattle.steps.specs.Memory.{kept, events}
 use Rattle.sheet_walk.specs.Runs.{warns_by, wants_by, id_of, RanTo, RanAs, Runs}
-use Rattle.sheet_walk.specs.declared.Ran.{Ran}
-use Rattle.sheet_walk.specs.declared.Ran.TheVariants as ran
+use Rattle.std.specs.Prelude.{Result, Ok, Err}
+use Rattle.refusal.specs.Number.{number_of}
+use Rattle.refusal.specs.declared.Refusal.{Refusal}
+use Rattle.sheet_walk.specs.declared.Totals.{Totals}
 use Rattle.lists_fill.specs.Said.{id_in, events_in, told_in}
 use Rattle.checker.specs.Filling.{Heard}
 use Rattle.checker.specs.declared.Scratch.{Scratch}
@@ -62,9 +64,6 @@ module _ (a : Scratch) {choice : ℕ} {s was has : List ℕ} {said told made tak
         wide = r.wide;
       }
 
-module _ {choice : ℕ} {s was has : List ℕ} (a : Scratch) {r : Ran} (h : Runs choice s a.places.now a.ids.now a.tab.now a.found.now was has r) where
-  pub run-refused : {c : ℕ} → r ≡ ran.Refused c → read_sheet s ≡ refused c
-  run-refused e = subst (RanAs choice s a.places.now a.ids.now a.tab.now a.found.now was has) e h.ran
-
-  pub heard : {warns : Bool} {said told made taken : ℕ} → r ≡ ran.Is said told made taken → (warns_by choice ≡ warns) × (wants_by choice ≡ true) → Heard warns s (record { said = said; told = told; made = made; taken = taken }) a was has
-  heard e w = rw (← w.0) (all-heard a (subst (RanAs choice s a.places.now a.ids.now a.tab.now a.found.now was has) e h.ran) w.1)
+module _ {choice : ℕ} {s was has : List ℕ} (a : Scratch) where
+  pub heard : {warns : Bool} {t : Totals} → Runs choice s a.places.now a.ids.now a.tab.now a.found.now was has (Ok t) → (warns_by choice ≡ warns) × (wants_by choice ≡ true) → Heard warns s (record { said = t.said; told = t.told; made = t.made; taken = t.taken }) a was has
+  heard h w = rw (← w.0) (all-heard a h.ran w.1)

@@ -1,4 +1,6 @@
 -- What the check call answers and leaves, for any sheet, warning choice and lists (document 01, "What comes out"; causes 1 to 8).
+use Rattle.refusal.specs.Number.{number_of}
+use Rattle.refusal.specs.declared.Refusal.{Refusal}
 use Rattle.std.specs.Prelude.{ℕ, ◌≡◌, Bool, cond, ◌&&◌, List, leb, length, Result, Ok, Err}
 use Rattle.words.specs.Words.{words}
 use Rattle.sheet.specs.Statement.{Statement}
@@ -90,11 +92,11 @@ findings_in (accepted c) = c.findings
 findings_in (refused n) = 0
 
 -- counts, or the refusal's number
-abbrev pub answered : Result Counts ℕ → Sheet Counts
+abbrev pub answered : Result Counts Refusal → Sheet Counts
 answered (Ok counts) = accepted counts
-answered (Err cause) = refused cause
+answered (Err e) = refused (number_of e)
 
 -- a call answers so, and leaves the lists so
-pub record Answers (warns : Bool) (s : List ℕ) (old : Lent ℕ) (room : ℕ) (r : Result Counts ℕ) (new : Lent ℕ) : Type 0 where
+pub record Answers (warns : Bool) (s : List ℕ) (old : Lent ℕ) (room : ℕ) (r : Result Counts Refusal) (new : Lent ℕ) : Type 0 where
   pub counts : answered r ≡ answer_in warns s old room
   pub lists : new ≡ left_in warns s old room

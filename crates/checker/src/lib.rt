@@ -6,6 +6,7 @@
 
 ghost use Rattle.std.specs.Prelude.{◌≡◌, true, ◌+◌, ◌*◌, ◌≤◌, length, take, IfOk, IfErr};
 ghost use Rattle.words.specs.Words.{words};
+ghost use Rattle.refusal.specs.Number.{number_of};
 ghost use Rattle.sheet.specs.Read.{read_sheet, refused};
 ghost use Rattle.sheet_walk.specs.Runs.{warns_by, wants_by};
 ghost use Rattle.entries.specs.Filled.{filled};
@@ -14,7 +15,8 @@ ghost use Rattle.checker.specs.Filling.{fitting, Clean, IsSized, Heard, Bindable
 ghost use Rattle.checker.specs.Checked.{lent, IsStill, roomy, each, Answers, answered, answer_in, left_in, findings_in};
 
 use lists_fill::{Carried, fill_all_findings, fill_bindings, fill_recorded, fill_scopes};
-use sheet_walk::{Ran, run};
+use refusal::Refusal;
+use sheet_walk::run;
 use words::{count, word};
 
 // How many entries the lists have.
@@ -148,7 +150,7 @@ impl Lists<'_, u32> {
 }
 
 // How many findings a check answers; none where the sheet is refused.
-pub fn findings_in(answer: Result<Counts, u32>) -> usize
+pub fn findings_in(answer: Result<Counts, Refusal>) -> usize
     ensures { result ≡ findings_in (answered answer) }
 {
     match answer {
@@ -167,15 +169,20 @@ fn choice_of(warns: bool) -> u32
     2
 }
 
-// What both walks say of a sheet, and what they carry into a list. A refusal stays the number that the walks give, of which they promise no bound.
-fn listen(s: &[u8], warns: bool, scratch: &mut Scratch, carried: &mut [u32]) -> Result<Tally, u32>
+// What both walks say of a sheet, and what they carry into a list.
+fn listen(
+    s: &[u8],
+    warns: bool,
+    scratch: &mut Scratch,
+    carried: &mut [u32],
+) -> Result<Tally, Refusal>
     requires { Clean (length (words s.now)) scratch.old }
     ensures sized { IsSized scratch.old scratch.new }
     ensures kept { length carried.new ≡ length carried.old }
     ensures heard { IfOk result (λ t. Heard warns s.now t scratch.new carried.old carried.new) }
-    ensures refused { IfErr result (λ cause. read_sheet s.now ≡ refused cause) }
+    ensures refused { IfErr result (λ refusal. read_sheet s.now ≡ refused (number_of refusal)) }
 {
-    match run(
+    let totals = run(
         s,
         choice_of(warns),
         scratch.places,
@@ -185,15 +192,13 @@ fn listen(s: &[u8], warns: bool, scratch: &mut Scratch, carried: &mut [u32]) -> 
         scratch.found,
         scratch.held,
         carried,
-    ) {
-        Ran::Refused(cause) => Err(cause),
-        Ran::Is(said, told, made, taken) => Ok(Tally {
-            said: said as usize,
-            told: told as usize,
-            made: made as usize,
-            taken: taken as usize,
-        }),
-    }
+    )?;
+    Ok(Tally {
+        said: totals.said as usize,
+        told: totals.told as usize,
+        made: totals.made as usize,
+        taken: totals.taken as usize,
+    })
 }
 
 // The lists, which have room, of a sheet that was run and is accepted: it is run again, into the carried list that is lent.
@@ -203,7 +208,7 @@ fn check_again(
     scratch: &mut Scratch,
     lists: &mut Lists<u32>,
     room: usize,
-) -> Result<Counts, u32>
+) -> Result<Counts, Refusal>
     requires { Again warns s.now scratch.old (lent lists.old) room }
     ensures still { IsStill lists.old lists.new }
     ensures answers { Answers warns s.now (lent lists.old) room result (lent lists.new) }
@@ -223,14 +228,14 @@ fn check_in(
     kept: &mut [u32],
     lists: &mut Lists<u32>,
     room: usize,
-) -> Result<Counts, u32>
+) -> Result<Counts, Refusal>
     requires { Clean (length (words s.now)) scratch.old }
     ensures still { IsStill lists.old lists.new }
     ensures answers { Answers warns s.now (lent lists.old) room result (lent lists.new) }
 {
     let tally = listen(s, warns, scratch, kept)?;
     if !lists.fit(count(s), tally, room) {
-        return Err(8);
+        return Err(Refusal::Entries);
     }
     let n = tally.taken * 3;
     if kept.len() < n {
@@ -246,7 +251,7 @@ fn check_sized<const N: usize, const T: usize, const V: usize, const F: usize, c
     warns: bool,
     lists: &mut Lists<u32>,
     room: usize,
-) -> Result<Counts, u32>
+) -> Result<Counts, Refusal>
     requires few { (length (words s.now) ≤ N) × (N ≤ 2048) }
     requires tab { T ≡ 16 + N * 2 }
     requires vis { V ≡ 4 * (N + 2) }
@@ -274,7 +279,12 @@ fn check_sized<const N: usize, const T: usize, const V: usize, const F: usize, c
 }
 
 // A sheet of any size, with scratch for 1,024 words at least. Its frame is that of the largest scratch, and is touched page by page.
-fn check_large(s: &[u8], warns: bool, lists: &mut Lists<u32>, room: usize) -> Result<Counts, u32>
+fn check_large(
+    s: &[u8],
+    warns: bool,
+    lists: &mut Lists<u32>,
+    room: usize,
+) -> Result<Counts, Refusal>
     ensures still { IsStill lists.old lists.new }
     ensures answers { Answers warns s.now (lent lists.old) room result (lent lists.new) }
 {
@@ -284,7 +294,7 @@ fn check_large(s: &[u8], warns: bool, lists: &mut Lists<u32>, room: usize) -> Re
     if s.len() <= 8192 {
         return check_sized::<2048, 4112, 8200, 12288, 4096>(s, warns, lists, room);
     }
-    Err(1)
+    Err(Refusal::Size)
 }
 
 // The check call, warnings on or off. Its findings are flat words, for a list of finding records that has room for so many. Scratch is
@@ -295,7 +305,7 @@ pub fn check_words(
     warns: bool,
     lists: &mut Lists<u32>,
     room: usize,
-) -> Result<Counts, u32>
+) -> Result<Counts, Refusal>
     ensures still { IsStill lists.old lists.new }
     ensures answers { answered result ≡ answer_in warns s.now (lent lists.old) room }
     ensures leaves { lent lists.new ≡ left_in warns s.now (lent lists.old) room }

@@ -35,7 +35,7 @@ pub extern "C" fn cenguatu_check(
         findings,
     };
     match check_words(sheet, warnings != 0, &mut lists, room) {
-        Err(cause) => cause,
+        Err(cause) => u32::from(cause),
         Ok(c) => {
             *counts = [c.scopes, c.bindings, c.carried, c.recorded, c.findings];
             256

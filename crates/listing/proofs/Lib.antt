@@ -1,4 +1,3 @@
-pub mod Causes
 pub mod Counted
 pub mod Laid
 pub mod Opened

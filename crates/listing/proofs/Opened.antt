@@ -26,8 +26,7 @@ use Rattle.semantics.specs.Resolve.{run, log}
 use Rattle.semantics.specs.Kinds.{kinds}
 use Rattle.semantics.specs.Lists.{findings}
 use Rattle.sheet_walk.specs.Runs.{warns_by, wants_by, id_of, RanTo, Runs}
-use Rattle.sheet_walk.specs.declared.Ran.{Ran}
-use Rattle.sheet_walk.specs.declared.Ran.TheVariants as ran
+use Rattle.sheet_walk.specs.declared.Totals.{Totals}
 use Rattle.texts.specs.Page.{Writes, answered, number}
 use Rattle.texts.proofs.Giving.{gives-refusal}
 use Rattle.lines.specs.Lines.{listed}
@@ -65,12 +64,13 @@ unplaced-listing warns s page e (Err y) h f = rw f.1 (refused-listing warns s pa
 unplaced-listing warns s page e (Ok y) h f = absurd f.1
 
 -- what a run answers
-pub ran_to : (warns : Bool) {choice : ℕ} {s places ids tab found old carried : List ℕ} {r : Ran} {said told made taken : ℕ} → choice ≡ choice_of warns → r ≡ ran.Is said told made taken → Runs choice s places ids tab found old carried r → RanTo (choice_of warns) s places ids tab found old carried said told made taken
-ran_to warns {s = s} {places} {ids} {tab} {found} {old} {carried} {said = said} {told} {made} {taken} c e x =
-    subst (λ (n : ℕ). RanTo n s places ids tab found old carried said told made taken) c (rw e at x.ran)
+pub ran_to : (warns : Bool) {choice : ℕ} {s places ids tab found old carried : List ℕ} {t : Totals} → choice ≡ choice_of warns → Runs choice s places ids tab found old carried (Ok t) → RanTo (choice_of warns) s places ids tab found old carried t.said t.told t.made t.taken
+ran_to warns {s = s} {places} {ids} {tab} {found} {old} {carried} {t = t} c x =
+    subst (λ (n : ℕ). RanTo n s places ids tab found old carried t.said t.told t.made t.taken) c x.ran
 
-pub ran-no : {choice : ℕ} {s places ids tab found old carried : List ℕ} {r : Ran} {c : ℕ} → r ≡ ran.Refused c → Runs choice s places ids tab found old carried r → read_sheet s ≡ refused c
-ran-no e x = rw e at x.ran
+pub ran-no : (warns : Bool) (page : List ℕ) {choice : ℕ} {s places ids tab found old carried : List ℕ} (e : Refusal) (r : Result ℕ Refusal) → Runs choice s places ids tab found old carried (Err e) → IsErr r × IsErrAnd r (λ y. y ≡ e) → Writes (listing warns s) page page r × (number (answered r) < 4294967296)
+ran-no warns page {s = s} e (Err y) x f = rw f.1 (refused-listing warns s page refl x.ran, small e)
+ran-no warns page e (Ok y) x f = absurd f.1
 
 warned : (warns : Bool) → warns_by (choice_of warns) ≡ warns
 warned true = refl

@@ -4,7 +4,6 @@
 
 ghost use Rattle.std.specs.Prelude.{◌≡◌, not, ◌+◌, ◌*◌, ◌<◌, ◌≤◌, eqb, length};
 ghost use Rattle.words.specs.Words.{words};
-ghost use Rattle.refusal.specs.Number.{number_of};
 ghost use Rattle.texts.specs.Page.{answered, written_as, page_as, Writes, number};
 ghost use Rattle.listing.specs.Listing.{listing};
 ghost use Rattle.listing.specs.Found.{FoundIn, choice_of, AllZero};
@@ -12,7 +11,7 @@ ghost use Rattle.listing.specs.Found.{FoundIn, choice_of, AllZero};
 use lines::{Found, Names, write_listing};
 use refusal::Refusal;
 use sheet::find_places;
-use sheet_walk::{Ran, run};
+use sheet_walk::run;
 use words::count;
 
 // How many entries a list may need.
@@ -32,22 +31,6 @@ const FOR_512: usize = 512 * 16 + 24;
 const FOR_1024: usize = 1024 * 16 + 24;
 
 const FOR_2048: usize = 2048 * 16 + 24;
-
-// The refusal with the number that a run over a sheet gives: the walks hand causes up as numbers.
-fn refusal_with(cause: u32) -> Refusal
-    requires { (1 ≤ cause) × (cause ≤ 7) }
-    ensures { number_of result ≡ cause }
-{
-    match cause {
-        1 => Refusal::Size,
-        2 => Refusal::Places,
-        3 => Refusal::Names,
-        4 => Refusal::Bindings,
-        5 => Refusal::Word,
-        6 => Refusal::Depth,
-        _ => Refusal::Unbound,
-    }
-}
 
 // The lines of what was found in a sheet, or 10.
 fn write(
@@ -87,7 +70,7 @@ fn list(s: &[u8], warns: bool, scratch: &mut [u32], page: &mut [u8]) -> Result<u
     let (vis, rest) = rest.split_at_mut(n * 4 + 8);
     let (found, held) = rest.split_at_mut(n * 6);
     let mut nowhere = [0u32; 1];
-    match run(
+    let totals = run(
         s,
         u32::from(warns),
         places,
@@ -97,18 +80,14 @@ fn list(s: &[u8], warns: bool, scratch: &mut [u32], page: &mut [u8]) -> Result<u
         found,
         held,
         &mut nowhere,
-    ) {
-        Ran::Refused(c) => Err(refusal_with(c)),
-        Ran::Is(said, told, made, taken) => {
-            if ENTRIES < made {
-                return Err(Refusal::Entries);
-            }
-            if ENTRIES < taken {
-                return Err(Refusal::Entries);
-            }
-            write(s, warns, places, found, said, told, page)
-        }
+    )?;
+    if ENTRIES < totals.made {
+        return Err(Refusal::Entries);
     }
+    if ENTRIES < totals.taken {
+        return Err(Refusal::Entries);
+    }
+    write(s, warns, places, found, totals.said, totals.told, page)
 }
 
 // With scratch of N words.

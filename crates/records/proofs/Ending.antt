@@ -1,5 +1,6 @@
 -- What `check_words` answers and leaves with a flat list of 12,288 words is what `check` is to: no accepted sheet has more than 2,048 words,
 -- so that the flat list always has room, and its first words are those of the findings.
+use Rattle.refusal.specs.declared.Refusal.{Refusal}
 use Prim.Native.Nat.{ℕ, ◌*◌, ◌≤◌, zero-le}
 use native.Mathlib.Omega.{arith}
 use mathlib.Core.Path.{◌≡◌, refl, ◌∙◌}
@@ -98,7 +99,7 @@ module _ (warns : Bool) (s : List ℕ) (l : Lent Finding) (flat : List ℕ) (wid
   ends (accepted st) e = accepts st e (tests (counts_of warns st)) (wants (counts_of warns st)) refl (same_tests st e)
   ends (refused c) e = (refl, (zero-le, zero-le), refl)
 
-  module _ (r : Result Counts ℕ) (k : ℕ) (e : answered r ≡ answer_in warns s flatly (length l.findings)) (f : k ≡ findings_in (answered r)) where
+  module _ (r : Result Counts Refusal) (k : ℕ) (e : answered r ≡ answer_in warns s flatly (length l.findings)) (f : k ≡ findings_in (answered r)) where
     pub within : (k ≤ length l.findings) × (k * 6 ≤ 12288)
     unfolding answer_in
     within = rw (f, e) (ends (read_sheet s) refl).1

@@ -7,9 +7,10 @@ ghost use Rattle.records.specs.Checked.{answer_for, left_for};
 
 use checker::{Counts, Lists, check_words, findings_in};
 use finding::{Finding, store_all};
+use refusal::Refusal;
 
 // The check call, warnings on or off: the lists' counts, or a refusal, 1 to 8, which alters none of them.
-pub fn check(s: &[u8], warns: bool, lists: &mut Lists<Finding>) -> Result<Counts, u32>
+pub fn check(s: &[u8], warns: bool, lists: &mut Lists<Finding>) -> Result<Counts, Refusal>
     ensures still { IsStill lists.old lists.new }
     ensures answers { answered result ≡ answer_for warns s.now (lent lists.old) }
     ensures leaves { lent lists.new ≡ left_for warns s.now (lent lists.old) }

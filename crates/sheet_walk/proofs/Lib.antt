@@ -6,3 +6,4 @@ pub mod Rows
 pub mod Known
 pub mod Whole
 pub mod Told
+pub mod Caused

@@ -19,17 +19,20 @@ use Rattle.fused.proofs.ApartStatement.{world-read, when-accepted, when-refused}
 use Rattle.steps.specs.Memory.{said_of, told_of, made_of, taken_of, world_at, events}
 use Rattle.sheet_walk.specs.Runs.{warns_by, id_of, RanTo, RanAs}
 use Rattle.sheet_walk.specs.Parts.{names_by, Uses, Tables, WalkedAs, WalksBoth, RanBoth, RanBothAs, SaidAll}
-use Rattle.sheet_walk.specs.declared.Ran.{Ran}
-use Rattle.sheet_walk.specs.declared.Ran.TheVariants as ran
+use Rattle.std.specs.Prelude.{Result, Ok, Err}
+use Rattle.std.specs.Result.{IsErr, IsErrAnd}
+use Rattle.refusal.specs.Number.{number_of}
+use Rattle.refusal.specs.declared.Refusal.{Refusal}
+use Rattle.sheet_walk.specs.declared.Totals.{Totals}
 
-pub ran-no : {s : List ℕ} {p : Places} {tab vis found held carried m vis' found' held' carried' : List ℕ} {r : ℕ} → r ≢ 0 → WalksBoth s p tab vis found held carried m vis' found' held' carried' r → RanBoth s p tab vis found held carried vis' found' held' carried' (ran.Refused r)
+pub ran-no : {s : List ℕ} {p : Places} {tab vis found held carried m vis' found' held' carried' : List ℕ} {r : ℕ} → r ≢ 0 → WalksBoth s p tab vis found held carried m vis' found' held' carried' r → RanBoth s p tab vis found held carried vis' found' held' carried' (Err r)
 ran-no {s} {p} {tab} {carried = carried} {m} {vis'} {found'} {carried' = carried'} {r} ne x = record { lengths = x.lengths; ran = go r ne x.walked }
   where
     go : (r : ℕ) → r ≢ 0 → WalkedAs s p tab m vis' found' carried carried' r → (id : ℕ → ℕ) → Uses tab id → sheet_go (world_at (words s) tab id) p (words s) ≡ refused r
     go zero ne y = absurd (ne refl)
     go (suc c) ne y = y
 
-pub ran-is : {s : List ℕ} {p : Places} {tab vis found held carried m vis' found' held' carried' : List ℕ} → WalksBoth s p tab vis found held carried m vis' found' held' carried' 0 → RanBoth s p tab vis found held carried vis' found' held' carried' (ran.Is (said_of m) (told_of m) (made_of m) (taken_of m))
+pub ran-is : {s : List ℕ} {p : Places} {tab vis found held carried m vis' found' held' carried' : List ℕ} → WalksBoth s p tab vis found held carried m vis' found' held' carried' 0 → RanBoth s p tab vis found held carried vis' found' held' carried' (Ok (record { said = said_of m; told = told_of m; made = made_of m; taken = taken_of m }))
 ran-is x =
     record {
       lengths = x.lengths;
@@ -48,6 +51,11 @@ ran-is x =
             };
       };
     }
+
+-- what a `?` answers
+pub refused_run : (choice : ℕ) (s places ids tab found old carried : List ℕ) (e : Refusal) (r : Result Totals Refusal) → read_sheet s ≡ refused (number_of e) → IsErr r × IsErrAnd r (λ y. y ≡ e) → RanAs choice s places ids tab found old carried r
+refused_run choice s places ids tab found old carried e (Err y) h f = rw f.1 h
+refused_run choice s places ids tab found old carried e (Ok y) h f = absurd f.1
 
 -- a sheet whose sections are nowhere is refused
 pub places-no : (s : List ℕ) {c : ℕ} → locate s ≡ refused c → read_sheet s ≡ refused c
@@ -83,8 +91,11 @@ module _ {s : List ℕ} {p : Places} {choice : ℕ} {places ids tab : List ℕ} 
         wide = omega (arith, x.few);
       }
 
-  pub runs : (found old carried : List ℕ) → length (words s) ≤ length places → length (words s) * 6 ≤ length found → (r : Ran) → RanBothAs s p tab found old carried r → RanAs choice s places ids tab found old carried r
-  runs found old carried many room (ran.Is n k made taken) x = said many room x
-  runs found old carried many room (ran.Refused c) x =
-      let id : ℕ → ℕ = λ i. use_id (get_or (names_by s p places) i []) in
-      when-refused t.has (warns_by choice) (world_at (words s) tab id) t.world (x id t.uses)
+  module _ (found old carried : List ℕ) (many : length (words s) ≤ length places) (room : length (words s) * 6 ≤ length found) where
+    pub refuses : {c : ℕ} → RanBothAs s p tab found old carried (Err c) → read_sheet s ≡ refused c
+    refuses x =
+        let id : ℕ → ℕ = λ i. use_id (get_or (names_by s p places) i []) in
+        when-refused t.has (warns_by choice) (world_at (words s) tab id) t.world (x id t.uses)
+
+    pub runs : {r : Totals} → RanBothAs s p tab found old carried (Ok r) → RanAs choice s places ids tab found old carried (Ok r)
+    runs x = said many room x

@@ -25,8 +25,7 @@ use Rattle.steps.specs.Hold.{Fine, Fit, Holds}
 use Rattle.clause_parts.specs.Passes.{Unmarked}
 use Rattle.arm_walk.specs.Taking.{Carries}
 use Rattle.sheet_walk.specs.Runs.{warns_by, wants_by}
-use Rattle.sheet_walk.specs.declared.Ran.{Ran}
-use Rattle.sheet_walk.specs.declared.Ran.TheVariants as ran
+use Rattle.sheet_walk.specs.declared.Totals.{Totals}
 
 -- ---- the tables
 
@@ -237,10 +236,10 @@ pub record SaidAll (s : List ℕ) (p : Places) (tab found carried carried' : Lis
   pub few : said + told ≤ length (words s)
   pub says : (id : ℕ → ℕ) → Uses tab id → Said s p tab found carried carried' said told made taken id
 
-abbrev pub RanBothAs : List ℕ → Places → (tab found carried carried' : List ℕ) → Ran → Type 0
-RanBothAs s p tab found carried carried' (ran.Is said told made taken) = SaidAll s p tab found carried carried' said told made taken
-RanBothAs s p tab found carried carried' (ran.Refused c) = (id : ℕ → ℕ) → Uses tab id → sheet_go (world_at (words s) tab id) p (words s) ≡ refused c
+abbrev pub RanBothAs : List ℕ → Places → (tab found carried carried' : List ℕ) → Result Totals ℕ → Type 0
+RanBothAs s p tab found carried carried' (Ok r) = SaidAll s p tab found carried carried' r.said r.told r.made r.taken
+RanBothAs s p tab found carried carried' (Err c) = (id : ℕ → ℕ) → Uses tab id → sheet_go (world_at (words s) tab id) p (words s) ≡ refused c
 
-pub record RanBoth (s : List ℕ) (p : Places) (tab vis found held carried vis' found' held' carried' : List ℕ) (r : Ran) : Type 0 where
+pub record RanBoth (s : List ℕ) (p : Places) (tab vis found held carried vis' found' held' carried' : List ℕ) (r : Result Totals ℕ) : Type 0 where
   pub lengths : Lengths vis found held carried vis' found' held' carried'
   pub ran : RanBothAs s p tab found' carried carried' r

@@ -1,6 +1,6 @@
 -- What reading and walking a whole sheet in one leaves: the refusal, or the events and findings of the definition's two walks, in words, and
 -- what they carry.
-use Rattle.std.specs.Prelude.{ℕ, ◌+◌, ◌*◌, ◌/◌, ◌%◌, ◌≤◌, ◌≡◌, Bool, List, map, reverse, eqb, length, get_or, take}
+use Rattle.std.specs.Prelude.{ℕ, ◌+◌, ◌*◌, ◌/◌, ◌%◌, ◌≤◌, ◌≡◌, Bool, List, map, reverse, eqb, length, get_or, take, Result, Ok, Err}
 use Rattle.words.specs.Words.{words}
 use Rattle.words.specs.Fnv.{use_id}
 use Rattle.tables.specs.Answer.{names_in}
@@ -14,8 +14,9 @@ use Rattle.theorems.specs.Needs as needs
 use Rattle.steps.specs.Memory.{world_at, events, findings, kept}
 use Rattle.steps.specs.Hold.{Fine}
 use Rattle.arm_walk.specs.Taking.{Carries}
-use Rattle.sheet_walk.specs.declared.Ran.{Ran}
-use Rattle.sheet_walk.specs.declared.Ran.TheVariants as ran
+use Rattle.refusal.specs.Number.{number_of}
+use Rattle.refusal.specs.declared.Refusal.{Refusal}
+use Rattle.sheet_walk.specs.declared.Totals.{Totals}
 
 -- A choice as a number: 1 where warnings are on, 2 where every event is wanted and not findings alone.
 abbrev pub warns_by : ℕ → Bool
@@ -50,9 +51,9 @@ pub record RanTo (choice : ℕ) (s places ids tab found old carried : List ℕ) 
   pub many : (places_of (words s)).names ≤ length places
   pub wide : (said + told) * 6 ≤ length found
 
-abbrev pub RanAs : ℕ → (s places ids tab found old carried : List ℕ) → Ran → Type 0
-RanAs choice s places ids tab found old carried (ran.Is said told made taken) = RanTo choice s places ids tab found old carried said told made taken
-RanAs choice s places ids tab found old carried (ran.Refused c) = read_sheet s ≡ refused c
+abbrev pub RanAs : ℕ → (s places ids tab found old carried : List ℕ) → Result Totals Refusal → Type 0
+RanAs choice s places ids tab found old carried (Ok r) = RanTo choice s places ids tab found old carried r.said r.told r.made r.taken
+RanAs choice s places ids tab found old carried (Err e) = read_sheet s ≡ refused (number_of e)
 
 -- what it asks of the lent words, w being how many words the sheet has: all numbers are 0 at first where it matters
 pub record Scratch (w : ℕ) (places ids tab vis found held : List ℕ) : Type 0 where
@@ -74,6 +75,6 @@ pub record Sized (places ids tab vis found held places' ids' tab' vis' found' he
   pub wrote : length found' ≡ length found
   pub kept : length held' ≡ length held
 
-pub record Runs (choice : ℕ) (s places ids tab found carried carried' : List ℕ) (r : Ran) : Type 0 where
+pub record Runs (choice : ℕ) (s places ids tab found carried carried' : List ℕ) (r : Result Totals Refusal) : Type 0 where
   pub lent : length carried' ≡ length carried
   pub ran : RanAs choice s places ids tab found carried carried' r

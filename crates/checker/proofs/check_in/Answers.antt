@@ -7,7 +7,7 @@ use Rattle.checker.proofs.check_in.Goals as goal
 
 pub returns-in_err-tally-clause-answers : goal.returns-in_err-tally-clause-answers
 returns-in_err-tally-clause-answers c =
-    handed-on c.args.warns c.args.s.now (lent c.args.lists.now) c.args.room c.from_residual.ensures.1 c.in_err-tally.ensures.refused
+    handed-on c.args.warns c.args.s.now (lent c.args.lists.now) c.args.room _ c.from_residual.ensures.1 c.in_err-tally.ensures.refused
 
 pub returns-then-not-fit-clause-answers : goal.returns-then-not-fit-clause-answers
 returns-then-not-fit-clause-answers c =

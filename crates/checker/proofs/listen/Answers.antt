@@ -2,5 +2,5 @@
 use Rattle.checker.proofs.Hearing.{heard}
 use Rattle.checker.proofs.listen.Goals as goal
 
-pub returns-in-Is-clause-heard : goal.returns-in-Is-clause-heard
-returns-in-Is-clause-heard c = heard _ c.run.ensures.runs c.in-Is.is c.choice_of.ensures
+pub returns-clause-heard : goal.returns-clause-heard
+returns-clause-heard c = heard _ c.in_ok-totals.ensures.runs c.choice_of.ensures

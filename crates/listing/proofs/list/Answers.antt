@@ -2,9 +2,8 @@
 -- what it found is written.
 use native.Mathlib.Omega.{arith}
 use Rattle.listing.specs.Found.{AllZero}
-use Rattle.listing.proofs.Causes.{caused}
 use Rattle.listing.proofs.Zeros.{zeros_front, zeros_back}
-use Rattle.listing.proofs.Opened.{refused-listing, ran_to, ran-no, from-run, many-made, many-carried}
+use Rattle.listing.proofs.Opened.{ran_to, ran-no, from-run, many-made, many-carried}
 use Rattle.listing.proofs.list.Goals as goal
 
 pub run-requires : goal.run-requires
@@ -26,24 +25,20 @@ run-requires c =
       pairs = omega (arith, c.count-n.ensures, places.back_len, ids.back_len, tab.back_len, vis.back_len, found.back_len, c.requires.0);
     }
 
-pub refusal_with-requires : goal.refusal_with-requires
-refusal_with-requires c = caused c.args.s.now (ran-no c.in-Refused.is c.run.ensures.runs)
+pub returns-in_err-totals : goal.returns-in_err-totals
+returns-in_err-totals c = ran-no c.args.warns c.args.page.now _ _ c.in_err-totals.ensures.runs c.from_residual.ensures
 
-pub returns-in-Refused : goal.returns-in-Refused
-returns-in-Refused c =
-    (refused-listing c.args.warns c.args.s.now c.args.page.now c.refusal_with.ensures (ran-no c.in-Refused.is c.run.ensures.runs), omega (arith, c.refusal_with.ensures))
+pub returns-then-totals-gt-ENTRIES : goal.returns-then-totals-gt-ENTRIES
+returns-then-totals-gt-ENTRIES c =
+    let ran = ran_to c.args.warns c.from.ensures c.in_ok-totals.ensures.runs in
+    (many-made c.args.warns ran c.args.page.now c.if-totals-gt-ENTRIES.true, omega arith)
 
-pub returns-then-made-gt-ENTRIES : goal.returns-then-made-gt-ENTRIES
-returns-then-made-gt-ENTRIES c =
-    let ran = ran_to c.args.warns c.from.ensures c.in-Is.is c.run.ensures.runs in
-    (many-made c.args.warns ran c.args.page.now c.if-made-gt-ENTRIES.true, omega arith)
-
-pub returns-then-taken-gt-ENTRIES : goal.returns-then-taken-gt-ENTRIES
-returns-then-taken-gt-ENTRIES c =
-    let ran = ran_to c.args.warns c.from.ensures c.in-Is.is c.run.ensures.runs in
-    (many-carried c.args.warns ran c.args.page.now c.if-taken-gt-ENTRIES.true, omega arith)
+pub returns-then-totals-gt-ENTRIES-2 : goal.returns-then-totals-gt-ENTRIES-2
+returns-then-totals-gt-ENTRIES-2 c =
+    let ran = ran_to c.args.warns c.from.ensures c.in_ok-totals.ensures.runs in
+    (many-carried c.args.warns ran c.args.page.now c.if-totals-gt-ENTRIES-2.true, omega arith)
 
 pub write-requires : goal.write-requires
 write-requires c =
-    let ran = ran_to c.args.warns c.from.ensures c.in-Is.is c.run.ensures.runs in
-    from-run c.args.warns ran c.if-made-gt-ENTRIES.false c.if-taken-gt-ENTRIES.false
+    let ran = ran_to c.args.warns c.from.ensures c.in_ok-totals.ensures.runs in
+    from-run c.args.warns ran c.if-totals-gt-ENTRIES.false c.if-totals-gt-ENTRIES-2.false
