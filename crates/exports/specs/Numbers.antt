@@ -1,16 +1,23 @@
 -- The answers of the exported calls as numbers: a refusal's, or 256 and more.
-use Rattle.std.specs.Prelude.{ℕ, ◌+◌, List, [], ◌∷◌}
+use Rattle.std.specs.Prelude.{ℕ, ◌+◌, ◌/◌, not, eqb, length, List, [], ◌∷◌}
 use Rattle.scope.specs.Lookup.{Looked, at, nothing, refused}
 use Rattle.scope.specs.Offset.{Offset, in', nowhere}
 use Rattle.scope.specs.Offset as offsets
 use Rattle.sheet.specs.Read.{Sheet, accepted}
 use Rattle.sheet.specs.Read as sheets
-use Rattle.checker.specs.Checked.{Lent}
+use Rattle.checker.specs.Checked.{Lent, answer_in, left_in}
 use Rattle.checker.specs.declared.Counts.{Counts}
 
 -- the five lent lists
 abbrev pub flat : (scopes bindings carried recorded findings : List ℕ) → Lent ℕ
 flat a b c d e = record { scopes = a; bindings = b; carried = c; recorded = d; findings = e }
+
+-- what is answered, and what is left, where any warning number but 0 stands for on, and a finding has six words
+abbrev pub answer_by : ℕ → List ℕ → Lent ℕ → Sheet Counts
+answer_by warnings s l = answer_in (not (eqb warnings 0)) s l (length l.findings / 6)
+
+abbrev pub left_by : ℕ → List ℕ → Lent ℕ → Lent ℕ
+left_by warnings s l = left_in (not (eqb warnings 0)) s l (length l.findings / 6)
 
 -- 256 where the lists are filled
 abbrev pub checked_number : Sheet Counts → ℕ

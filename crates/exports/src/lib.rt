@@ -1,11 +1,10 @@
 // The check call, lookup and offset as C functions on flat lists, for the program that compares them with the Rust.
 #![tactic(auto)]
 
-ghost use Rattle.std.specs.Prelude.{◌≡◌, not, ◌/◌, eqb, length};
+ghost use Rattle.std.specs.Prelude.{◌≡◌};
 ghost use Rattle.scope.specs.Lookup.{lookup};
 ghost use Rattle.scope.specs.Offset.{offset};
-ghost use Rattle.checker.specs.Checked.{answer_in, left_in};
-ghost use Rattle.exports.specs.Numbers.{flat, checked_number, with_counts, looked_number, offset_number};
+ghost use Rattle.exports.specs.Numbers.{flat, answer_by, left_by, checked_number, with_counts, looked_number, offset_number};
 
 use checker::{Lists, check_words};
 use scope::{lookup, scope_at_offset};
@@ -22,9 +21,9 @@ pub extern "C" fn cenguatu_check(
     findings: &mut [u32],
     counts: &mut [usize; 5],
 ) -> u32
-    ensures number { result ≡ checked_number (answer_in (not (eqb warnings 0)) sheet.now (flat scopes.old bindings.old carried.old recorded.old findings.old) (length findings.old / 6)) }
-    ensures lists { flat scopes.new bindings.new carried.new recorded.new findings.new ≡ left_in (not (eqb warnings 0)) sheet.now (flat scopes.old bindings.old carried.old recorded.old findings.old) (length findings.old / 6) }
-    ensures counts { counts.new ≡ with_counts (answer_in (not (eqb warnings 0)) sheet.now (flat scopes.old bindings.old carried.old recorded.old findings.old) (length findings.old / 6)) counts.old }
+    ensures number { result ≡ checked_number (answer_by warnings sheet.now (flat scopes.old bindings.old carried.old recorded.old findings.old)) }
+    ensures lists { flat scopes.new bindings.new carried.new recorded.new findings.new ≡ left_by warnings sheet.now (flat scopes.old bindings.old carried.old recorded.old findings.old) }
+    ensures counts { counts.new ≡ with_counts (answer_by warnings sheet.now (flat scopes.old bindings.old carried.old recorded.old findings.old)) counts.old }
 {
     let room = findings.len() / 6;
     let mut lists = Lists {
