@@ -1,8 +1,6 @@
 -- A variable sought among the rows of the binding table, newest first, and the chains that find it.
-use Rattle.std.specs.Prelude.{ℕ, zero, suc, ◌+◌, ◌*◌, ◌<◌, ◌≤◌, ◌≡◌, Bool, true, cond, List, eqb, length, get_or, drop, None, Some, Option}
+use Rattle.std.specs.Prelude.{ℕ, zero, suc, ◌+◌, ◌*◌, ◌<◌, ◌≤◌, ◌≡◌, cond, List, eqb, length, get_or, None, Some, Option}
 use Rattle.std.specs.Prelude as code
-use Rattle.heads.specs.Answer.{row_ids, is_in}
-use Rattle.tables.specs.Distinct.{distinct}
 use Rattle.tables.specs.Row.{Row, row}
 use Rattle.rows.specs.Slot.{slot_of, slots}
 
@@ -27,6 +25,11 @@ row_at ws p = row (get_or ws p 0) (get_or ws (p + 1) 0) (get_or ws (p + 2) 0) (g
 abbrev pub row_told : List ℕ → ℕ → ℕ → Option Row
 row_told ws rows zero = None
 row_told ws rows (suc j) = Some (row_at ws (rows + j * 5))
+
+-- a row as the code tells it: name and kind
+abbrev pub shown : Option Row → Option (ℕ × ℕ)
+shown None = None
+shown (Some (row i x k a b)) = Some (x, k)
 
 -- the words hold the chains of the first n keys, over m slots that g gives
 abbrev pub keyed : (ℕ → ℕ) → (ℕ → ℕ) → ℕ → ℕ
@@ -54,9 +57,3 @@ pub record Empty (shift n : ℕ) (tab : List ℕ) : Type 0 where
   pub high : shift ≤ 31
   pub room : slots shift + n ≤ length tab
   pub zeros : (b : ℕ) → b < slots shift → get_or tab b 0 ≡ 0
-
--- all n rows are looked at: whether their variables are distinct, and if so they are all hung up
-pub record Indexed (mult shift rows n : ℕ) (ws old new : List ℕ) (r : Bool) : Type 0 where
-  pub same : r ≡ distinct is_in (row_ids n (drop rows ws))
-  pub kept : length new ≡ length old
-  pub hung : r ≡ true → Hung mult shift n (id_at ws rows) new

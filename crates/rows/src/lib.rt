@@ -6,7 +6,9 @@
 ghost use Rattle.std.specs.Prelude.{◌≡◌, ◌+◌, ◌*◌, ◌%◌, ◌<◌, ◌≤◌, length};
 ghost use Rattle.words.specs.Words.{words};
 ghost use Rattle.rows.specs.Slot.{slots, slot_of};
-ghost use Rattle.rows.specs.Rows.{id_at, seek, number_of, Hung, Hangs, Empty, Indexed};
+ghost use Rattle.semantics.specs.World.{row_kind};
+ghost use Rattle.rows.specs.Rows.{id_at, seek, number_of, shown, Hung, Hangs, Empty};
+ghost use Rattle.rows.specs.Table.{row_in, Standing, Indexed};
 
 use words::word;
 
@@ -49,16 +51,16 @@ pub fn hang(chains: &mut [u32], m: usize, slot: usize, n: u32)
     chains[slot] = n + 1;
 }
 
-// Rows of five words each, of which the first is the variable.
+// A run of rows of five words each, of which the first is the variable.
 #[derive(Clone, Copy)]
-struct Rows<'a> {
+struct Run<'a> {
     bytes: &'a [u8],
     first: usize,
     count: u32,
     ghost within: { first + count * 5 ≤ length (words bytes.now) },
 }
 
-impl Rows<'_> {
+impl Run<'_> {
     // The variable of a row.
     fn variable(&self, row: u32) -> u32
         requires { row < self.now.count }
@@ -89,7 +91,7 @@ pub fn mult_of(s: &[u8], rows: usize, n: u32) -> u32
     requires { rows + n * 5 ≤ length (words s.now) }
     ensures { result % 2 ≡ 1 }
 {
-    let rows = Rows {
+    let rows = Run {
         bytes: s,
         first: rows,
         count: n,
@@ -101,44 +103,86 @@ pub fn mult_of(s: &[u8], rows: usize, n: u32) -> u32
     hash / 2 * 2 + 1
 }
 
-// The number + 1 of the newest row of v among the n rows from the word `rows` on, or 0.
-pub fn find_row(s: &[u8], tab: &[u32], rows: usize, mult: u32, shift: u32, n: u32, v: u32) -> u32
-    requires { (rows + n * 5 ≤ length (words s.now)) × Hung mult shift n (id_at (words s.now) rows) tab.now }
-    ensures { result ≡ seek (id_at (words s.now) rows) v n }
-{
-    let rows = Rows {
-        bytes: s,
-        first: rows,
-        count: n,
-    };
-    match rows.find(Slots { mult, shift }, tab, v) {
-        Some(row) => row + 1,
-        None => 0,
+// Where the rows stand in the words of a sheet, how many they are, and how they spread over slots.
+#[derive(Clone, Copy, Debug, PartialEq, Eq)]
+pub struct Index {
+    pub first: usize,
+    pub count: u32,
+    pub mult: u32,
+    pub shift: u32,
+}
+
+impl Index {
+    // Hangs up all the rows, where no two have the same variable; whether that is so.
+    pub fn hang_rows(&self, bytes: &[u8], chains: &mut [u32]) -> bool
+        requires { (self.now.first + self.now.count * 5 ≤ length (words bytes.now)) × Empty self.now.shift self.now.count chains.old }
+        ensures { Indexed self.now (words bytes.now) chains.old chains.new result }
+    {
+        let slots = Slots {
+            mult: self.mult,
+            shift: self.shift,
+        };
+        let all = Run {
+            bytes,
+            first: self.first,
+            count: self.count,
+        };
+        for i in 0..self.count {
+            let before = Run {
+                bytes,
+                first: self.first,
+                count: i,
+            };
+            let variable = all.variable(i);
+            if before.find(slots, chains, variable).is_some() {
+                return false;
+            }
+            hang(chains, slots.count(), slots.of(variable), i);
+        }
+        true
     }
 }
 
-// Hangs up the n rows from the word `rows` on, where no two have the same variable; whether that is so.
-pub fn index_rows(s: &[u8], tab: &mut [u32], rows: usize, mult: u32, shift: u32, n: u32) -> bool
-    requires { (rows + n * 5 ≤ length (words s.now)) × Empty shift n tab.old }
-    ensures { Indexed mult shift rows n (words s.now) tab.old tab.new result }
-{
-    let slots = Slots { mult, shift };
-    let all = Rows {
-        bytes: s,
-        first: rows,
-        count: n,
-    };
-    for i in 0..n {
-        let before = Rows {
-            bytes: s,
-            first: rows,
-            count: i,
+// The rows of a sheet, hung up.
+#[derive(Clone, Copy)]
+pub struct Rows<'a> {
+    pub bytes: &'a [u8],
+    pub chains: &'a [u32],
+    pub index: Index,
+}
+
+impl Rows<'_> {
+    // The name and the kind of a variable's row.
+    pub fn row(&self, v: u32) -> Option<(u32, u32)>
+        requires { Standing self.now }
+        ensures { result ≡ shown (row_in self.now v) }
+    {
+        let run = Run {
+            bytes: self.bytes,
+            first: self.index.first,
+            count: self.index.count,
         };
-        let variable = all.variable(i);
-        if before.find(slots, tab, variable).is_some() {
-            return false;
+        let slots = Slots {
+            mult: self.index.mult,
+            shift: self.index.shift,
+        };
+        match run.find(slots, self.chains, v) {
+            Some(i) => {
+                let p = self.index.first + i as usize * 5;
+                Some((word(self.bytes, p + 1), word(self.bytes, p + 2)))
+            }
+            None => None,
         }
-        hang(tab, slots.count(), slots.of(variable), i);
     }
-    true
+
+    // "the table's, Value if it has none"
+    pub fn kind(&self, v: u32) -> u32
+        requires { Standing self.now }
+        ensures { result ≡ row_kind (row_in self.now v) }
+    {
+        match self.row(v) {
+            Some((_, kind)) => kind,
+            None => 4,
+        }
+    }
 }

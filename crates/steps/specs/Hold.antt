@@ -1,76 +1,96 @@
--- How both walks' state stands in the lent words, and what a step of the code does to it.
-use Rattle.std.specs.Prelude.{ℕ, suc, ◌+◌, ◌*◌, ◌/◌, ◌%◌, ◌<◌, ◌≤◌, ◌≡◌, Bool, true, false, not, ◌&&◌, List, [], ◌∷◌, eqb, length, get_or, set, Option, None, Some}
+-- How both walks' state stands in the walk of the code, and what a step does to it.
+use Rattle.std.specs.Prelude.{ℕ, suc, ◌+◌, ◌*◌, ◌<◌, ◌≤◌, ◌≡◌, Bool, true, false, not, ◌&&◌, List, [], ◌∷◌, eqb, length, get_or, Option, None, Some}
 use Rattle.scope.specs.Graph.{comprehension_scope}
 use Rattle.heads.specs.declared.Form.{Form}
 use Rattle.heads.specs.declared.Form.TheVariants.{Leaf, Var, Unresolved, Prop, Two, Slice, Many, BinOp, UnaryOp, Case, IsNull, PatternPredicate, ListComprehension, PatternComprehension, ListPredicate, MapProjection}
 use Rattle.expr.specs.Binders.{binder}
 use Rattle.tables.specs.Row.{path_kind, Row, row}
-use Rattle.semantics.specs.Log.{Finding, finding, missing, write, answer, Event}
+use Rattle.semantics.specs.Log.{Finding, missing, write, answer, Event}
 use Rattle.semantics.specs.Log.{found as found_as}
 use Rattle.semantics.specs.World.{World, variable, kind_of}
 use Rattle.semantics.specs.Resolve.{State, binds, say, enter, bind_name, use_var, bind_path}
-use Rattle.semantics.specs.Kinds.{Setting, Pair, both, pattern_type, type_of, at_type, at_row, misplaced, row_for}
+use Rattle.semantics.specs.Kinds.{Setting, pattern_type, type_of, at_type, at_row, misplaced, row_for}
 use Rattle.theorems.specs.Needs.{made, carried_in}
 use Rattle.fused.specs.Fused.{Both, Mode, when, told, step, same, noting, name_use}
-use Rattle.rows.specs.Rows.{id_at, Hung}
-use Rattle.visible.specs.Visible.{seens, Descends, Tabled}
-use Rattle.steps.specs.Memory.{at_of, top_of, cur_of, last_of, said_of, told_of, lost_of, held_of, made_of, taken_of, level_of, names_in, slots_in, use_in, rows_in, bindings_in, mult_in, shift_in, wants_in, chains_in, setting_of, events, findings, event_of, kept}
+use Rattle.rows.specs.Rows.{shown}
+use Rattle.rows.specs.Table.{row_in, Standing}
+use Rattle.visible.specs.Visible.{seens, Descends}
+use Rattle.visible.specs.Stack.{entries, Sound}
+use Rattle.visible.specs.Stack as stack
+use Rattle.steps.specs.Modes.{setting_of}
+use Rattle.steps.specs.Memory.{words_in, names_in, use_in}
+use Rattle.steps.specs.Said.{kept, events_in, findings_in, Roomy, Says, Tells}
+use Rattle.steps.specs.Said as said
+use Rattle.steps.specs.declared.Level.{Level}
+use Rattle.steps.specs.declared.Walk.{Walk}
+use Rattle.steps.specs.declared.context.Context.{Context}
+use Rattle.steps.specs.declared.mode.Setting.{Setting as Setting'}
+use Rattle.steps.specs.declared.mode.Setting.TheVariants.{General}
+use Rattle.steps.specs.declared.log.Log.{Log}
 use Rattle.steps.specs.declared.head.Act.{Act}
 use Rattle.steps.specs.declared.head.Act.TheVariants.{Shows, Uses, Names, Opens}
 
--- the tables are in order: the rows stand in the words, with names that `vis` has a place for and kinds up to Value, and hang in chains
-pub record Fine (ws tab : List ℕ) : Type 0 where
-  pub long : 16 + slots_in tab * 2 ≤ length tab
-  pub short : length ws ≤ 2048
-  pub some : 0 < slots_in tab
-  pub places : names_in tab ≤ slots_in tab
-  pub rows : rows_in tab + bindings_in tab * 5 ≤ length ws
-  pub named : (j : ℕ) → j < bindings_in tab → get_or ws (rows_in tab + j * 5 + 1) 0 < slots_in tab
-  pub kinded : (j : ℕ) → j < bindings_in tab → get_or ws (rows_in tab + j * 5 + 2) 0 ≤ 4
-  pub hung : Hung (mult_in tab) (shift_in tab) (bindings_in tab) (id_at ws (rows_in tab)) (chains_in tab)
+-- The context is in order: each row has a name and a kind up to Value, and each name a use id.
+pub record Fine (c : Context) : Type 0 where
+  pub short : length (words_in c) ≤ 2048
+  pub standing : Standing c.rows
+  pub named : (v x k : ℕ) → shown (row_in c.rows v) ≡ Some (x, k) → (x < names_in c) × (k ≤ 4)
+  pub used : names_in c ≤ length c.uses.now
 
 -- What is always so. Whatever is said, opened or bound is paid for by words that were read, so there is room for it: e words were read that
 -- nothing was said for yet, and t that nothing was opened or bound for.
-pub record Fits (e t : ℕ) (ws tab m vis found : List ℕ) : Type 0 where
-  pub size : length m ≡ 64
-  pub tabled : Tabled (slots_in tab) (top_of m) vis
-  pub descends : Descends (cur_of m) (seens (slots_in tab) (top_of m) vis)
-  pub cur : cur_of m ≤ last_of m
-  pub last : last_of m + t ≤ at_of m
-  pub count : said_of m + told_of m + e ≤ at_of m + 1
-  pub stack : slots_in tab + top_of m + t ≤ at_of m + 1
-  pub needs : made_of m + taken_of m + t * 16384 ≤ at_of m * 16384
-  pub within : at_of m ≤ length ws
-  pub names : 4 * (length ws + 2) ≤ length vis
-  pub room : (length ws + 1) * 6 ≤ length found
+pub record Fits (e t : ℕ) (c : Context) (w : Walk) : Type 0 where
+  pub some : 0 < w.visible.names
+  pub places : names_in c ≤ w.visible.names
+  pub sound : Sound w.visible
+  pub descends : Descends w.cur (entries w.visible)
+  pub cur : w.cur ≤ w.last
+  pub last : w.last + t ≤ w.at
+  pub count : w.log.said + w.log.told + e ≤ w.at + 1
+  pub stack : w.visible.names + w.visible.top + t ≤ w.at + 1
+  pub needs : w.made + w.taken + t * 16384 ≤ w.at * 16384
+  pub within : w.at ≤ length (words_in c)
+  pub names : 4 * (length (words_in c) + 2) ≤ length w.visible.words.now
+  pub room : (length (words_in c) + 1) * 6 ≤ length w.log.words.now
 
 -- k words were read that nothing was done for yet
-abbrev pub Fit : ℕ → (ws tab m vis found : List ℕ) → Type 0
+abbrev pub Fit : ℕ → Context → Walk → Type 0
 Fit k = Fits k k
 
 -- how many bindings and carried names a log has, counted
-pub record Counted (m : List ℕ) (l : List Event) : Type 0 where
-  pub made : made_of m ≡ made l
-  pub taken : taken_of m ≡ carried_in l
+pub record Counted (w : Walk) (l : List Event) : Type 0 where
+  pub made : w.made ≡ made l
+  pub taken : w.taken ≡ carried_in l
 
--- the words hold the state
-pub record Holds (id : ℕ → ℕ) (tab m vis found : List ℕ) (s : Both) : Type 0 where
-  pub visible : seens (slots_in tab) (top_of m) vis ≡ s.names.visible
-  pub cur : cur_of m ≡ s.names.cur
-  pub last : last_of m ≡ s.names.last
-  pub log : events id (said_of m) found ≡ kept (wants_in tab) s.names.log
-  pub kinds : findings (told_of m) found ≡ s.kinds
-  pub known : eqb (lost_of m) 0 ≡ s.known
-  pub counts : Counted m s.names.log
-  pub uses : (x : ℕ) → x < names_in tab → use_in tab x ≡ id x
+-- the walk holds the state
+pub record Holds (id : ℕ → ℕ) (c : Context) (w : Walk) (s : Both) : Type 0 where
+  pub visible : entries w.visible ≡ s.names.visible
+  pub cur : w.cur ≡ s.names.cur
+  pub last : w.last ≡ s.names.last
+  pub log : events_in id w.log ≡ kept c.wants s.names.log
+  pub kinds : findings_in w.log ≡ s.kinds
+  pub known : w.known ≡ s.known
+  pub counts : Counted w s.names.log
+  pub uses : (x : ℕ) → x < names_in c → use_in c x ≡ id x
+
+-- what waits at a level
+abbrev pub idle : Level
+idle = record { left = 0; later = General }
+
+abbrev pub level_of : Walk → ℕ → Level
+level_of w d = get_or w.levels d idle
 
 -- what was visible stays below what came, and the levels above `room` stay
-pub record Frame (room : ℕ) (tab m vis m' vis' : List ℕ) : Type 0 where
-  pub top : top_of m ≤ top_of m'
-  pub last : last_of m ≤ last_of m'
-  pub below : seens (slots_in tab) (top_of m) vis' ≡ seens (slots_in tab) (top_of m) vis
-  pub held : held_of m' ≡ held_of m
-  pub levels : (d : ℕ) → room < d → level_of m' d ≡ level_of m d
+pub record Frame (room : ℕ) (w w' : Walk) : Type 0 where
+  pub top : w.visible.top ≤ w'.visible.top
+  pub last : w.last ≤ w'.last
+  pub below : seens w.visible.names w.visible.top w'.visible.words.now ≡ entries w.visible
+  pub levels : (d : ℕ) → room < d → level_of w' d ≡ level_of w d
+
+-- the words are those that were lent, and as many
+pub record Still (w w' : Walk) : Type 0 where
+  pub visible : stack.Still w.visible w'.visible
+  pub log : said.Still w.log w'.log
 
 -- what a step does to one of the two walks
 abbrev pub on_names : (State → State) → Both → Both
@@ -80,91 +100,61 @@ abbrev pub on_kinds : List Finding → Both → Both
 on_kinds fs s = record { names = s.names; kinds = told fs s.kinds; known = s.known }
 
 -- A step of the state, at the same word: e words pay for what it says, t words for what it opens or binds. It may go by the use ids of names,
--- which the words don't hold.
-pub record Costs (e t : ℕ) (ws tab m vis found m' vis' found' : List ℕ) (F : (ℕ → ℕ) → Both → Both) : Type 0 where
-  pub at : at_of m' ≡ at_of m
-  pub sized : length m' ≡ length m
-  pub seen : length vis' ≡ length vis
-  pub wrote : length found' ≡ length found
-  pub fit : (i k : ℕ) → Fits (e + i) (t + k) ws tab m vis found → Fits i k ws tab m' vis' found'
-  pub frame : Frame 0 tab m vis m' vis'
-  pub goes : (id : ℕ → ℕ) (s : Both) → Holds id tab m vis found s → Holds id tab m' vis' found' (F id s)
+-- which the walk doesn't hold.
+pub record Costs (e t : ℕ) (c : Context) (w w' : Walk) (F : (ℕ → ℕ) → Both → Both) : Type 0 where
+  pub at : w'.at ≡ w.at
+  pub still : Still w w'
+  pub fit : (i k : ℕ) → Fits (e + i) (t + k) c w → Fits i k c w'
+  pub frame : Frame 0 w w'
+  pub goes : (id : ℕ → ℕ) (s : Both) → Holds id c w s → Holds id c w' (F id s)
 
 -- a step for which j words pay
-abbrev pub Steps : ℕ → (ws tab m vis found m' vis' found' : List ℕ) → ((ℕ → ℕ) → Both → Both) → Type 0
+abbrev pub Steps : ℕ → Context → (w w' : Walk) → ((ℕ → ℕ) → Both → Both) → Type 0
 Steps j = Costs j j
 
 -- A name was bound in the current scope, for three words; whether that binds it already.
-pub record Binds (ws tab m vis found m' vis' found' : List ℕ) (x v k : ℕ) (r : Bool) : Type 0 where
-  pub again : r ≡ binds (cur_of m) x (seens (slots_in tab) (top_of m) vis)
-  pub costs : Costs 1 3 ws tab m vis found m' vis' found' (λ id. on_names (bind_name x v k))
+pub record Binds (c : Context) (w w' : Walk) (x v k : ℕ) (r : Bool) : Type 0 where
+  pub again : r ≡ binds w.cur x (entries w.visible)
+  pub costs : Costs 1 3 c w w' (λ id. on_names (bind_name x v k))
 
 -- What telling whether the current scope binds a name asks.
-pub record Binding (tab m vis : List ℕ) : Type 0 where
-  pub long : 10 ≤ length tab
-  pub size : length m ≡ 64
-  pub tabled : Tabled (slots_in tab) (top_of m) vis
-  pub descends : Descends (cur_of m) (seens (slots_in tab) (top_of m) vis)
+pub record Binding (w : Walk) : Type 0 where
+  pub sound : Sound w.visible
+  pub descends : Descends w.cur (entries w.visible)
 
 -- What a step asks.
-pub record Ready (j : ℕ) (ws tab m vis found : List ℕ) : Type 0 where
-  pub fine : Fine ws tab
-  pub fit : Fit j ws tab m vis found
+pub record Ready (j : ℕ) (c : Context) (w : Walk) : Type 0 where
+  pub fine : Fine c
+  pub fit : Fit j c w
 
--- room for an event or a finding more
-pub record Roomy (m found : List ℕ) : Type 0 where
-  pub size : length m ≡ 64
-  pub small : said_of m + told_of m + 1 < 4294967296
-  pub room : (said_of m + told_of m + 1) * 6 ≤ length found
+-- what a step may do beside its log: a log that says or tells so
+abbrev pub logged : Walk → Log → Walk
+logged w l = record w { log = l }
 
--- six words were stored
-pub record Put (k tag a b c d e : ℕ) (old new : List ℕ) : Type 0 where
-  pub length : length new ≡ length old
-  pub first : get_or new k 0 ≡ tag
-  pub second : get_or new (k + 1) 0 ≡ a
-  pub third : get_or new (k + 2) 0 ≡ b
-  pub fourth : get_or new (k + 3) 0 ≡ c
-  pub fifth : get_or new (k + 4) 0 ≡ d
-  pub sixth : get_or new (k + 5) 0 ≡ e
-  pub before : (i : ℕ) → i < k → get_or new i 0 ≡ get_or old i 0
-  pub after : (i : ℕ) → k + 6 ≤ i → get_or new i 0 ≡ get_or old i 0
-
--- an event was said, and a finding of the kind walk told; the other's are as before
-pub record Says (tag a b c d e : ℕ) (m found m' found' : List ℕ) : Type 0 where
-  pub numbers : m' ≡ set m 4 (suc (said_of m))
-  pub wrote : length found' ≡ length found
-  pub events : (id : ℕ → ℕ) → events id (suc (said_of m)) found' ≡ event_of id tag a b c d e ∷ events id (said_of m) found
-  pub findings : findings (told_of m) found' ≡ findings (told_of m) found
-
-pub record Tells (code a b c d e : ℕ) (m found m' found' : List ℕ) : Type 0 where
-  pub numbers : m' ≡ set m 5 (suc (told_of m))
-  pub wrote : length found' ≡ length found
-  pub findings : findings (suc (told_of m)) found' ≡ finding code a b c d e ∷ findings (told_of m) found
-  pub events : (id : ℕ → ℕ) → events id (said_of m) found' ≡ events id (said_of m) found
+pub record Logs (P : Log → Log → Type 0) (w w' : Walk) : Type 0 where
+  pub log : P w.log w'.log
+  pub same : w' ≡ logged w w'.log
 
 -- the same where a test holds, and else nothing
-pub record SaysIf (t : Bool) (tag a b c d e : ℕ) (m found m' found' : List ℕ) : Type 0 where
-  pub yes : t ≡ true → Says tag a b c d e m found m' found'
-  pub no : t ≡ false → (m' ≡ m) × (found' ≡ found)
+pub record LogsIf (t : Bool) (P : Log → Log → Type 0) (w w' : Walk) : Type 0 where
+  pub yes : t ≡ true → Logs P w w'
+  pub no : t ≡ false → w' ≡ w
+
+abbrev pub SaysIf : Bool → List ℕ → (w w' : Walk) → Type 0
+SaysIf t event = LogsIf t (Says event)
+
+abbrev pub TellsIf : Bool → List ℕ → (w w' : Walk) → Type 0
+TellsIf t finding = LogsIf t (Tells finding)
 
 -- a binding was said in the current scope, and counted unless it replaces another
-pub record Makes (wants : Bool) (x v k : ℕ) (m found m' found' : List ℕ) : Type 0 where
-  pub between : List ℕ
-  pub says : SaysIf wants 2 (cur_of m) x v k 0 m found between found'
-  pub counts : m' ≡ set between 8 (suc (made_of between))
+pub record Makes (wants : Bool) (x v k : ℕ) (w w' : Walk) : Type 0 where
+  pub between : Walk
+  pub says : SaysIf wants (2 ∷ w.cur ∷ x ∷ v ∷ k ∷ 0 ∷ []) w between
+  pub counts : w' ≡ record between { made = suc between.made }
 
-pub record SaysBound (wants again : Bool) (x v k : ℕ) (m found m' found' : List ℕ) : Type 0 where
-  pub yes : again ≡ true → SaysIf wants 3 (cur_of m) x v k 0 m found m' found'
-  pub no : again ≡ false → Makes wants x v k m found m' found'
-
-pub record TellsIf (t : Bool) (code a b c d e : ℕ) (m found m' found' : List ℕ) : Type 0 where
-  pub yes : t ≡ true → Tells code a b c d e m found m' found'
-  pub no : t ≡ false → (m' ≡ m) × (found' ≡ found)
-
--- a row as the code tells it: name and kind
-abbrev pub shown : Option Row → Option (ℕ × ℕ)
-shown None = None
-shown (Some (row i x k a b)) = Some (x, k)
+pub record SaysBound (wants again : Bool) (x v k : ℕ) (w w' : Walk) : Type 0 where
+  pub yes : again ≡ true → SaysIf wants (3 ∷ w.cur ∷ x ∷ v ∷ k ∷ 0 ∷ []) w w'
+  pub no : again ≡ false → Makes wants x v k w w'
 
 abbrev pub name_in : (Option (ℕ × ℕ)) → ℕ
 name_in (Some (x, k)) = x
@@ -181,17 +171,17 @@ misplaced_in checks want None = false
 
 -- the name and the kind of a row that was told are in range
 abbrev pub InRange : ℕ → Option (ℕ × ℕ) → Type 0
-InRange slots (Some (x, k)) = (x < slots) × (k ≤ 4)
-InRange slots None = Unit {0}
+InRange names (Some (x, k)) = (x < names) × (k ≤ 4)
+InRange names None = Unit {0}
 
 -- both, of the row that it shows
-pub record shown_to (slots : ℕ) (o : Option Row) (r : Option (ℕ × ℕ)) : Type 0 where
+pub record ShownTo (names : ℕ) (o : Option Row) (r : Option (ℕ × ℕ)) : Type 0 where
   pub same : r ≡ shown o
-  pub range : InRange slots r
+  pub range : InRange names r
 
 -- a row with the name x and the kind k, in a setting
-abbrev pub AtRow : (ws tab m vis found m' found' : List ℕ) → (set x k : ℕ) → Type 0
-AtRow ws tab m vis found m' found' set x k = (i a b : ℕ) → Steps 1 ws tab m vis found m' vis found' (λ id. on_kinds (at_row (setting_of set) (Some (row i x k a b))))
+abbrev pub AtRow : Context → (w w' : Walk) → Setting' → (x k : ℕ) → Type 0
+AtRow c w w' set x k = (i a b : ℕ) → Steps 1 c w w' (λ id. on_kinds (at_row (setting_of set) (Some (row i x k a b))))
 
 -- what a head does before its parts
 abbrev pub act_of : Form → Act
@@ -244,16 +234,14 @@ abbrev pub path_step : World → Mode → Option ℕ → Both → Both
 path_step w m p s = noting w (binder p) (step m (bind_path w (variable p)) (misplaced 1 path_kind 0 0 (row_for w p)) s)
 
 -- out of a scope: the names that are visible and the current scope are as they were
-pub record Left (tab m vis m' vis' : List ℕ) (top cur : ℕ) : Type 0 where
-  pub numbers : m' ≡ set (set m 1 top) 2 cur
-  pub below : seens (slots_in tab) top vis' ≡ seens (slots_in tab) top vis
-  pub kept : length vis' ≡ length vis
-  pub tabled : Tabled (slots_in tab) top vis'
+pub record Left (w w' : Walk) (top cur : ℕ) : Type 0 where
+  pub visible : stack.Cut top w.visible w'.visible
+  pub same : w' ≡ record w { visible = w'.visible; cur = cur }
 
 -- after a head's parts: a comprehension is left where names are resolved
-abbrev pub ClosedIf : Bool → List ℕ → List ℕ → List ℕ → List ℕ → List ℕ → ℕ → ℕ → Type 0
-ClosedIf true tab m vis m' vis' top cur = Left tab m vis m' vis' top cur
-ClosedIf false tab m vis m' vis' top cur = (m' ≡ m) × (vis' ≡ vis)
+abbrev pub ClosedIf : Bool → (w w' : Walk) → ℕ → ℕ → Type 0
+ClosedIf true w w' top cur = Left w w' top cur
+ClosedIf false w w' top cur = w' ≡ w
 
 abbrev pub opens_in : Act → Bool
 opens_in (Shows t) = false
@@ -261,12 +249,8 @@ opens_in (Uses v) = false
 opens_in (Names x) = false
 opens_in (Opens a b) = true
 
-abbrev pub Closed : (tab m vis m' vis' : List ℕ) → (top cur : ℕ) → Mode → Form → Type 0
-Closed tab m vis m' vis' top cur mode f = ClosedIf (opens_in (act_of f) && mode.resolves) tab m vis m' vis' top cur
-
--- the settings that a number has
-abbrev pub pair_of : ℕ → Pair
-pair_of n = both (setting_of (n % 8)) (setting_of (n / 8))
+abbrev pub Closed : (w w' : Walk) → (top cur : ℕ) → Mode → Form → Type 0
+Closed w w' top cur mode f = ClosedIf (opens_in (act_of f) && mode.resolves) w w' top cur
 
 -- what is recorded of a variable that has a row
 abbrev pub var_record : Mode → ℕ → ℕ → State → State

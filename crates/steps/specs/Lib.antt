@@ -1,2 +1,4 @@
+pub mod Modes
+pub mod Said
 pub mod Memory
 pub mod Hold

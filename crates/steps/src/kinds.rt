@@ -1,78 +1,85 @@
 // The kind walk's findings at a place: a type, a row or a binder against what the place wants.
-ghost use Rattle.std.specs.Prelude.{◌≡◌, ℕ, ◌≤◌, ◌<◌};
-ghost use Rattle.words.specs.Words.{words};
-ghost use Rattle.semantics.specs.Kinds.{at_type};
-ghost use Rattle.steps.specs.Memory.{setting_of};
+ghost use Rattle.std.specs.Prelude.{◌≤◌, ◌<◌, cond, [], ◌∷◌, suc, eqb};
+ghost use Rattle.tables.specs.Row.{value_kind};
+ghost use Rattle.semantics.specs.Log.{e2007, finding};
+ghost use Rattle.semantics.specs.Kinds.{at_type, listed, kind_type};
+ghost use Rattle.steps.specs.Modes.{setting_of};
 ghost use Rattle.steps.specs.Hold.{Ready, Steps, AtRow, on_kinds};
 
-use crate::tell;
+use crate::{Context, Setting, Walk};
 
-// A type, 0 for none, in a setting.
-pub fn at_type(
-    s: &[u8],
-    tab: &[u32],
-    m: &mut [u32],
-    vis: &[u32],
-    found: &mut [u32],
-    set: u32,
-    t: u32,
-)
-    requires { (set < 8) × Ready 1 (words s.now) tab.now m.old vis.now found.old }
-    ensures { Steps 1 (words s.now) tab.now m.old vis.now found.old m.new vis.now found.new (λ id. on_kinds (at_type (setting_of set) t)) }
-{
-    if set < 3 {
-        return;
-    }
-    if set == 3 {
-        if 2 <= t {
-            if t <= 4 {
-                tell(m, found, 2011, 0, 0, 0, 0, t);
+impl Walk<'_> {
+    // A type, 0 for none, in a setting.
+    pub fn at_type(&mut self, context: &Context, set: Setting, t: u32)
+        requires { Ready 1 context.now self.old }
+        ensures { Steps 1 context.now self.old self.new (λ id. on_kinds (at_type (setting_of set) t)) }
+    {
+        match set {
+            Setting::General => {}
+            Setting::Arithmetic => {}
+            Setting::Property => {}
+            Setting::Boolean => {
+                if 2 <= t && t <= 4 {
+                    self.log.tell([2011, 0, 0, 0, 0, t]);
+                }
             }
+            Setting::Indexed => self.want_list(context, 5010, 1, t),
+            Setting::Sliced => self.want_list(context, 5010, 2, t),
+            Setting::Iterated => self.want_list(context, 5010, 3, t),
+            Setting::Quantified => self.want_list(context, 5011, 0, t),
         }
-        return;
     }
-    if t == 0 {
-        return;
-    }
-    if set == 7 {
-        tell(m, found, 5011, 0, 0, 0, 0, t);
-        return;
-    }
-    tell(m, found, 5010, 0, 0, 0, set - 3, t);
-}
 
-// A row with the name x and the kind k in a setting.
-pub fn at_row(
-    s: &[u8],
-    tab: &[u32],
-    m: &mut [u32],
-    vis: &[u32],
-    found: &mut [u32],
-    set: u32,
-    x: u32,
-    k: u32,
-)
-    requires { (set < 8) × ((x < 4294967295) × ((k ≤ 4) × Ready 1 (words s.now) tab.now m.old vis.now found.old)) }
-    ensures { AtRow (words s.now) tab.now m.old vis.now found.old m.new found.new set x k }
-{
-    if set == 0 {
-        return;
-    }
-    if set == 3 {
-        return;
-    }
-    if set == 2 {
-        if k == 3 {
-            tell(m, found, 2007, 0, 0, x + 1, 2, k);
+    // A type, 0 for none, where a list is wanted.
+    fn want_list(&mut self, context: &Context, code: u32, one: u32, t: u32)
+        requires { Ready 1 context.now self.old }
+        ensures { Steps 1 context.now self.old self.new (λ id. on_kinds (at_type (listed code one) t)) }
+    {
+        if t != 0 {
+            self.log.tell([code, 0, 0, 0, one, t]);
         }
-        return;
     }
-    if k == 4 {
-        return;
+
+    // E2007 for a row with the name x and the kind k.
+    fn mistype(&mut self, context: &Context, x: u32, one: u32, k: u32)
+        requires { (x < 4294967295) × Ready 1 context.now self.old }
+        ensures { Steps 1 context.now self.old self.new (λ id. on_kinds (finding e2007 0 0 (suc x) one k ∷ [])) }
+    {
+        self.log.tell([2007, 0, 0, x + 1, one, k]);
     }
-    if set == 1 {
-        tell(m, found, 2007, 0, 0, x + 1, 1, k);
-        return;
+
+    // A row with the name x and the kind k in a setting.
+    pub fn at_row(&mut self, context: &Context, set: Setting, x: u32, k: u32)
+        requires { (x < 4294967295) × ((k ≤ 4) × Ready 1 context.now self.old) }
+        ensures { AtRow context.now self.old self.new set x k }
+    {
+        match set {
+            Setting::General => {}
+            Setting::Arithmetic => {
+                if k != 4 {
+                    self.mistype(context, x, 1, k);
+                }
+            }
+            Setting::Property => {
+                if k == 3 {
+                    self.mistype(context, x, 2, k);
+                }
+            }
+            Setting::Boolean => {}
+            Setting::Indexed => self.want_kind(context, 5010, 1, k),
+            Setting::Sliced => self.want_kind(context, 5010, 2, k),
+            Setting::Iterated => self.want_kind(context, 5010, 3, k),
+            Setting::Quantified => self.want_kind(context, 5011, 0, k),
+        }
     }
-    at_type(s, tab, m, vis, found, set, k + 7);
+
+    // A kind where a list is wanted.
+    fn want_kind(&mut self, context: &Context, code: u32, one: u32, k: u32)
+        requires { (k ≤ 4) × Ready 1 context.now self.old }
+        ensures { Steps 1 context.now self.old self.new (λ id. on_kinds (cond (eqb k value_kind) [] (finding code 0 0 0 one (kind_type k) ∷ []))) }
+    {
+        if k != 4 {
+            self.log.tell([code, 0, 0, 0, one, k + 7]);
+        }
+    }
 }

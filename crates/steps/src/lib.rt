@@ -1,67 +1,38 @@
-// The steps of both walks on lent words (specs/Memory): what is said and told, what is opened, bound and left, and what the head of an
-// expression does before its parts. Room is paid for by the words that were read (specs/Hold).
+// The steps of both walks: what is said and told, what is opened, bound and left, and what the head of an expression does before its parts.
+// They go by a context, and the walk has where it stands. Room is paid for by the words that were read (specs/Hold).
 #![tactic(auto)]
 
 mod bound;
+mod context;
 mod head;
 mod kinds;
-mod row;
-mod said;
+mod log;
+mod mode;
 
-pub use bound::{bind_anew, bind_elem, bind_name, bind_path, enter, is_again, leave, note};
-pub use head::{begin, finish, pair_of, record_name, use_name, use_var};
-pub use kinds::at_type;
-pub use row::{kind_of, row_of};
-pub use said::{say, say_wanted, tell};
+pub use context::Context;
+pub use log::Log;
+pub use mode::{Mode, Setting, Settings};
 
-// Where the numbers stand in m.
-pub const AT: usize = 0;
+use visible::Visible;
 
-pub const TOP: usize = 1;
+// What is left of a row of expressions at a level, and the setting of those.
+#[derive(Clone, Copy, Debug, PartialEq, Eq)]
+pub struct Level {
+    pub left: u32,
+    pub later: Setting,
+}
 
-pub const CUR: usize = 2;
-
-pub const LAST: usize = 3;
-
-pub const SAID: usize = 4;
-
-pub const TOLD: usize = 5;
-
-pub const LOST: usize = 6;
-
-pub const HELD: usize = 7;
-
-pub const MADE: usize = 8;
-
-pub const TAKEN: usize = 9;
-
-pub const LEVELS: usize = 10;
-
-// and in tab.
-pub const NAMES: usize = 0;
-
-pub const SLOTS: usize = 1;
-
-pub const STAR: usize = 2;
-
-pub const IDENT: usize = 3;
-
-pub const WARNS: usize = 4;
-
-pub const ROWS: usize = 5;
-
-pub const BINDINGS: usize = 6;
-
-pub const MULT: usize = 7;
-
-pub const SHIFT: usize = 8;
-
-pub const WANTS: usize = 9;
-
-// From here on a mark for each name's place, then the use id of each, then the chains.
-pub const MARKS: usize = 16;
-
-// What a mode holds besides the settings.
-pub const RESOLVES: u32 = 64;
-
-pub const CHECKS: u32 = 128;
+// Where both walks stand: the next word, what is visible, the current scope and the last one, what was said and told, whether every binder so
+// far had a row, how many bindings were made and how many names carried; and what waits at each level of a row.
+#[derive(Drop)]
+pub struct Walk<'a> {
+    pub at: usize,
+    pub visible: Visible<'a>,
+    pub cur: u32,
+    pub last: u32,
+    pub log: Log<'a>,
+    pub known: bool,
+    pub made: u32,
+    pub taken: u32,
+    pub levels: [Level; 49],
+}

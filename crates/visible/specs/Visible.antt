@@ -45,31 +45,13 @@ pub record Tabled (n top : ℕ) (m : List ℕ) : Type 0 where
   pub prevs : (i : ℕ) → i < top → get_or m (n + i * 4 + 3) 0 ≡ place (name_at n m i) (seens n i m)
   pub named : (i : ℕ) → i < top → name_at n m i < n
 
--- one entry more
-pub record Bound (n top x v c : ℕ) (old new : List ℕ) (r : ℕ) : Type 0 where
-  pub height : r ≡ suc top
-  pub same : seens n r new ≡ seen x v c ∷ seens n top old
-  pub kept : length new ≡ length old
-  pub tabled : Tabled n r new
 
--- back to a height
-pub record Cut (n height : ℕ) (old new : List ℕ) (r : ℕ) : Type 0 where
-  pub back : r ≡ height
-  pub same : seens n height new ≡ seens n height old
-  pub kept : length new ≡ length old
-  pub tabled : Tabled n height new
 
 -- pairs as entries of one scope
 unfoldable pub seen_once : ℕ → List Pair → List Seen
 seen_once c [] = []
 seen_once c (pair x v ∷ ps) = seen x v c ∷ seen_once c ps
 
--- each visible name once, with its newest variable, all in the scope c
-pub record Restacked (n top c : ℕ) (old new : List ℕ) (r : ℕ) : Type 0 where
-  pub same : seens n r new ≡ seen_once c (once (seens n top old))
-  pub kept : length new ≡ length old
-  pub tabled : Tabled n r new
-  pub few : r ≤ top
 
 -- of the entries below i, those that are the newest of their name below the height top
 unfoldable pub newest : ℕ → ℕ → List ℕ → ℕ → List Pair

@@ -5,53 +5,72 @@
 
 ghost use Rattle.std.specs.Prelude.{◌≡◌, ◌+◌, ◌*◌, ◌<◌, ◌≤◌, length};
 ghost use Rattle.semantics.specs.Resolve.{lookup};
-ghost use Rattle.visible.specs.Visible.{seens, scope_of, name_at, answer, Tabled, Bound, Cut, Turned, Restacked};
+ghost use Rattle.visible.specs.Visible.{scope_of, name_at, answer, Turned};
+ghost use Rattle.visible.specs.Stack.{entries, Sound, Bound, Cut, Restacked};
 
-// The newest binding of x, its variable and its scope; a name past the table has none.
-pub fn find(vis: &[u32], names: u32, top: u32, x: u32) -> Option<(u32, u32)>
-    requires { Tabled names top vis.now }
-    ensures { result ≡ answer (lookup x (seens names top vis.now)) (scope_of x (seens names top vis.now)) }
-{
-    if x < names {
-        let i = vis[x as usize];
-        if 0 < i {
-            let k = (names as usize) + ((i - 1) as usize) * 4;
-            return Some((vis[k + 1], vis[k + 2]));
+// What is visible: the words, for how many names they have a place, and how many entries there are.
+#[derive(Drop)]
+pub struct Visible<'a> {
+    pub words: &'a mut [u32],
+    pub names: u32,
+    pub top: u32,
+}
+
+impl Visible<'_> {
+    // The newest binding of x, its variable and its scope; a name past the table has none.
+    pub fn find(&self, x: u32) -> Option<(u32, u32)>
+        requires { Sound self.now }
+        ensures { result ≡ answer (lookup x (entries self.now)) (scope_of x (entries self.now)) }
+    {
+        if x < self.names {
+            let i = self.words[x as usize];
+            if 0 < i {
+                let k = (self.names as usize) + ((i - 1) as usize) * 4;
+                return Some((self.words[k + 1], self.words[k + 2]));
+            }
+        }
+        None
+    }
+
+    // One entry more.
+    pub fn bind(&mut self, x: u32, v: u32, scope: u32)
+        requires { (x < self.old.names) × ((self.old.top < 4294967295) × ((self.old.names + (self.old.top + 1) * 4 ≤ length self.old.words.now) × Sound self.old)) }
+        ensures { Bound x v scope self.old self.new }
+    {
+        let old = self.words[x as usize];
+        let k = (self.names as usize) + (self.top as usize) * 4;
+        self.words[k] = x;
+        self.words[k + 1] = v;
+        self.words[k + 2] = scope;
+        self.words[k + 3] = old;
+        self.top += 1;
+        self.words[x as usize] = self.top;
+    }
+
+    // Back to a height: what each entry above it hid is the newest again.
+    pub fn cut(&mut self, height: u32)
+        requires { (height ≤ self.old.top) × Sound self.old }
+        ensures { Cut height self.old self.new }
+    {
+        while height < self.top {
+            self.top -= 1;
+            let k = (self.names as usize) + (self.top as usize) * 4;
+            let x = self.words[k] as usize;
+            self.words[x] = self.words[k + 3];
         }
     }
-    None
-}
 
-// One entry more; the height then.
-pub fn bind(vis: &mut [u32], names: u32, top: u32, x: u32, v: u32, scope: u32) -> u32
-    requires { (x < names) × ((top < 4294967295) × ((names + (top + 1) * 4 ≤ length vis.old) × Tabled names top vis.old)) }
-    ensures { Bound names top x v scope vis.old vis.new result }
-{
-    let old = vis[x as usize];
-    let k = (names as usize) + (top as usize) * 4;
-    vis[k] = x;
-    vis[k + 1] = v;
-    vis[k + 2] = scope;
-    vis[k + 3] = old;
-    let t = top + 1;
-    vis[x as usize] = t;
-    t
-}
-
-// Back to a height: what each entry above it hid is the newest again.
-pub fn cut(vis: &mut [u32], names: u32, height: u32, top: u32) -> u32
-    requires { (height ≤ top) × Tabled names top vis.old }
-    ensures { Cut names height vis.old vis.new result }
-{
-    let mut t = top;
-    while height < t {
-        t -= 1;
-        let k = (names as usize) + (t as usize) * 4;
-        let x = vis[k] as usize;
-        let before = k + 3;
-        vis[x] = vis[before];
+    // Each visible name once, with its newest variable, in the order of those bindings, oldest first, all in one scope: what a star carries.
+    pub fn restack(&mut self, scope: u32)
+        requires { Sound self.old }
+        ensures { Restacked scope self.old self.new }
+    {
+        let mut kept = 0;
+        for i in 0..self.top {
+            kept = keep(self.words, self.names, i, kept, scope);
+        }
+        self.top = kept;
     }
-    t
 }
 
 // One turn of `restack`: the entry i goes to the place j if it is the newest of its name; the number of entries that are kept then.
@@ -77,21 +96,6 @@ fn keep(vis: &mut [u32], names: u32, i: u32, j: u32, scope: u32) -> u32
         vis[k + 2] = scope;
         vis[k + 3] = 0;
         return kept;
-    }
-    j
-}
-
-// Each visible name once, with its newest variable, in the order of those bindings, oldest first, all in one scope: what a star carries.
-// The height then.
-pub fn restack(vis: &mut [u32], names: u32, top: u32, scope: u32) -> u32
-    requires { Tabled names top vis.old }
-    ensures { Restacked names top scope vis.old vis.new result }
-{
-    let mut i = 0;
-    let mut j = 0;
-    while i < top {
-        j = keep(vis, names, i, j, scope);
-        i += 1;
     }
     j
 }

@@ -1,0 +1,40 @@
+// What the walks say: the name walk's events from the front of the words, the kind walk's findings from their back, six words each.
+ghost use Rattle.std.specs.Prelude.{◌≡◌, ℕ, ◌+◌, ◌≤◌, length};
+ghost use Rattle.steps.specs.Said.{Roomy, Put, Says, Tells};
+
+// `said` events and `told` findings.
+#[derive(Drop)]
+pub struct Log<'a> {
+    pub words: &'a mut [u32],
+    pub said: u32,
+    pub told: u32,
+}
+
+fn put(words: &mut [u32], k: usize, entry: [u32; 6])
+    requires { k + 6 ≤ length words.old }
+    ensures { Put k entry words.old words.new }
+{
+    words[k..k + 6].copy_from_slice(&entry);
+}
+
+impl Log<'_> {
+    // An event, or a finding of the name walk.
+    pub fn say(&mut self, event: [u32; 6])
+        requires { Roomy self.old }
+        ensures { Says event self.old self.new }
+    {
+        let k = self.said as usize * 6;
+        put(self.words, k, event);
+        self.said += 1;
+    }
+
+    // A finding of the kind walk.
+    pub fn tell(&mut self, finding: [u32; 6])
+        requires { Roomy self.old }
+        ensures { Tells finding self.old self.new }
+    {
+        let k = self.words.len() - (self.told as usize + 1) * 6;
+        put(self.words, k, finding);
+        self.told += 1;
+    }
+}
