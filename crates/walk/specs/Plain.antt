@@ -4,9 +4,11 @@ use Rattle.std.specs.Prelude.{ℕ, zero, suc, ◌+◌, ◌-◌, ◌*◌, ◌/◌
 use Rattle.heads.specs.Got.{ok, look}
 use Rattle.heads.specs.Form.{shape_of, form_none, form_one, read_form}
 use Rattle.heads.specs.declared.Form.{Form}
+use Rattle.steps.specs.declared.mode.Setting.{Setting}
+use Rattle.steps.specs.declared.mode.Setting.TheVariants.{General, Arithmetic, Property, Boolean, Indexed, Sliced, Iterated, Quantified}
 
 -- What a shape is the sum of: that a head is plain; that a word follows its code; how many parts it has at least; that the word counts
--- more parts, and that half of it is not counted (a Slice's bits); that the word is a name; the settings (`setting_of`) of the first part and of the others; and
+-- more parts, and that half of it is not counted (a Slice's bits); that the word is a name; the settings (`number_of`) of the first part and of the others; and
 -- 65536 times a bit for each setting in which the head does something itself.
 abbrev pub worded : ℕ
 worded = 1
@@ -90,6 +92,17 @@ headed code a = cond (eqb (shape_of code) 1) (form_none code) (form_one code a)
 -- how many parts it has
 abbrev pub parts_of : ℕ → ℕ → ℕ
 parts_of t a = t / 4 % 4 + (cond (eqb (t / 16 % 2) 1) a 0 - cond (eqb (t / 32 % 2) 1) (a / 2) 0)
+
+-- the settings by their numbers in the shapes
+abbrev pub number_of : Setting → ℕ
+number_of General = 0
+number_of Arithmetic = 1
+number_of Property = 2
+number_of Boolean = 3
+number_of Indexed = 4
+number_of Sliced = 5
+number_of Iterated = 6
+number_of Quantified = 7
 
 -- the type that it shows: 1 Null, 2 Bool, 3 Int, 4 Float, 5 String, 13 Map
 abbrev pub type_by : ℕ → ℕ

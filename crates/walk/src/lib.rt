@@ -6,200 +6,152 @@
 mod plain;
 
 ghost use Rattle.std.specs.Prelude.{ℕ, ◌≤◌};
-ghost use Rattle.words.specs.Words.{words};
 ghost use Rattle.heads.specs.Answer.{kind_of};
-ghost use Rattle.steps.specs.Memory.{world_at, mode_of};
+ghost use Rattle.steps.specs.Modes.{mode_of, setting_of, pair_of};
+ghost use Rattle.steps.specs.Memory.{world_at};
 ghost use Rattle.steps.specs.Hold.{Ready, Steps, path_step};
 ghost use Rattle.walk.specs.Goes.{Walked, path_cost, expr_at, row_at, rest_at, inner_at, mark_at, marks_at, elem_at, elems_at, part_at, parts_at, pattern_at};
+ghost use Rattle.semantics.specs.Kinds.{plain};
 
-use heads::{Form, MarkKind, Section};
-use plain::{MOST, act, pair, parts_of, plain_at};
-use steps::{AT, CUR, IDENT, LEVELS, NAMES, TOP, begin, bind_elem, bind_path, finish, pair_of};
+use heads::{Form, MarkKind};
+use plain::{MOST, act, pair, parts_of, plain_at, shows};
+use refusal::Refusal;
+use steps::{Context, Level, Mode, Setting, Settings, Walk};
 use words::word;
 
-// Each answers 0, or the refusal's number.
-
-// An expression, with room for this many levels, in the first setting of the mode.
+// An expression, with room for this many levels, in a setting.
 #[cycle(walks)]
 pub fn walk_expr(
-    s: &[u8],
-    tab: &[u32],
-    m: &mut [u32],
-    vis: &mut [u32],
-    found: &mut [u32],
+    walk: &mut Walk,
+    context: &Context,
     room: u32,
-    mode: u32,
-) -> u32
-    requires { (room ≤ 48) × Ready 0 (words s.now) tab.now m.old vis.old found.old }
-    ensures { Walked room (words s.now) tab.now m.old vis.old found.old m.new vis.new found.new (expr_at (words s.now) tab.now room mode) result }
+    mode: Mode,
+    set: Setting,
+) -> Result<(), Refusal>
+    requires { (room ≤ 48) × Ready 0 context.now walk.old }
+    ensures { Walked room context.now walk.old walk.new (expr_at context.now room (mode_of mode) (setting_of set)) result }
 {
-    let at = m[AT] as usize;
-    let section = Section {
-        bytes: s,
-        names: tab[NAMES],
-        rows: 0,
-        bound: None,
-    };
     if room == 0 {
-        return u32::from(section.too_deep(at));
+        return Err(context.section.too_deep(walk.at));
     }
-    let Ok((f, p)) = section.read_form(at) else {
-        return 5;
-    };
-    let top = m[TOP];
-    let cur = m[CUR];
-    m[AT] = p as u32;
-    begin(s, tab, m, vis, found, f, mode);
-    let r = walk_rest(s, tab, m, vis, found, room - 1, f, mode);
-    if r != 0 {
-        return r;
-    }
-    finish(tab, m, vis, f, mode, top, cur);
-    0
+    let (f, at) = context.section.read_form(walk.at)?;
+    let top = walk.visible.top;
+    let cur = walk.cur;
+    walk.at = at;
+    walk.begin(context, f, mode, set);
+    walk_rest(walk, context, room - 1, f, mode, set)?;
+    walk.finish(f, mode, top, cur);
+    Ok(())
 }
 
 // What follows a head: its pattern, its expressions, its items.
 #[cycle(walks)]
 fn walk_rest(
-    s: &[u8],
-    tab: &[u32],
-    m: &mut [u32],
-    vis: &mut [u32],
-    found: &mut [u32],
+    walk: &mut Walk,
+    context: &Context,
     room: u32,
     f: Form,
-    mode: u32,
-) -> u32
-    requires { (room ≤ 47) × Ready 0 (words s.now) tab.now m.old vis.old found.old }
-    ensures { Walked room (words s.now) tab.now m.old vis.old found.old m.new vis.new found.new (rest_at (words s.now) tab.now room mode f) result }
+    mode: Mode,
+    set: Setting,
+) -> Result<(), Refusal>
+    requires { (room ≤ 47) × Ready 0 context.now walk.old }
+    ensures { Walked room context.now walk.old walk.new (rest_at context.now room (mode_of mode) f (setting_of set)) result }
 {
-    let a = walk_inner(s, tab, m, vis, found, room, f, mode);
-    if a != 0 {
-        return a;
-    }
-    let calm = mode / 64 * 64;
-    let b = walk_many(
-        s,
-        tab,
-        m,
-        vis,
-        found,
-        room,
-        f.kids(),
-        calm + pair_of(tab, f, mode % 8),
-    );
-    if b != 0 {
-        return b;
-    }
-    walk_marks(s, tab, m, vis, found, room, MarkKind::Item, f.items(), calm)
+    walk_inner(walk, context, room, f, mode)?;
+    let settings = context.settings_of(f, set);
+    walk_many(walk, context, room, f.kids(), mode, settings)?;
+    walk_marks(walk, context, room, MarkKind::Item, f.items(), mode)
 }
 
 // The pattern of a head, where it has one: a PatternPredicate's is not resolved.
 #[cycle(walks)]
 fn walk_inner(
-    s: &[u8],
-    tab: &[u32],
-    m: &mut [u32],
-    vis: &mut [u32],
-    found: &mut [u32],
+    walk: &mut Walk,
+    context: &Context,
     room: u32,
     f: Form,
-    mode: u32,
-) -> u32
-    requires { (room ≤ 47) × Ready 0 (words s.now) tab.now m.old vis.old found.old }
-    ensures { Walked room (words s.now) tab.now m.old vis.old found.old m.new vis.new found.new (inner_at (words s.now) tab.now room mode f) result }
+    mode: Mode,
+) -> Result<(), Refusal>
+    requires { (room ≤ 47) × Ready 0 context.now walk.old }
+    ensures { Walked room context.now walk.old walk.new (inner_at context.now room (mode_of mode) f) result }
 {
     match f {
-        Form::PatternPredicate => walk_pattern(s, tab, m, vis, found, room, mode / 128 * 128),
-        Form::PatternComprehension(_, _, _) => walk_pattern(
-            s,
-            tab,
-            m,
-            vis,
-            found,
-            room,
-            mode / 64 * 64,
-        ),
-        Form::Leaf(_) => 0,
-        Form::Var(_) => 0,
-        Form::Unresolved(_) => 0,
-        Form::Prop(_) => 0,
-        Form::Two(_) => 0,
-        Form::Slice(_) => 0,
-        Form::Many(_, _) => 0,
-        Form::BinOp(_) => 0,
-        Form::UnaryOp(_) => 0,
-        Form::Case(_, _) => 0,
-        Form::IsNull => 0,
-        Form::ListComprehension(_) => 0,
-        Form::ListPredicate(_) => 0,
-        Form::MapProjection(_) => 0,
+        Form::PatternPredicate => walk_pattern(walk, context, room, mode.unresolving()),
+        Form::PatternComprehension(_, _, _) => walk_pattern(walk, context, room, mode),
+        Form::Leaf(_) => Ok(()),
+        Form::Var(_) => Ok(()),
+        Form::Unresolved(_) => Ok(()),
+        Form::Prop(_) => Ok(()),
+        Form::Two(_) => Ok(()),
+        Form::Slice(_) => Ok(()),
+        Form::Many(_, _) => Ok(()),
+        Form::BinOp(_) => Ok(()),
+        Form::UnaryOp(_) => Ok(()),
+        Form::Case(_, _) => Ok(()),
+        Form::IsNull => Ok(()),
+        Form::ListComprehension(_) => Ok(()),
+        Form::ListPredicate(_) => Ok(()),
+        Form::MapProjection(_) => Ok(()),
     }
 }
 
-// n expressions, at most MOST, the first in the mode's first setting and the others in its later one. What is left at a level, and the setting
-// there, wait in m while the parts of a plain head are walked.
+// n expressions, at most MOST, the first in one setting and the others in another. What is left at a level, and the setting there, wait in the
+// walk's levels while the parts of a plain head are walked.
 #[cycle(walks)]
 pub fn walk_row(
-    s: &[u8],
-    tab: &[u32],
-    m: &mut [u32],
-    vis: &mut [u32],
-    found: &mut [u32],
+    walk: &mut Walk,
+    context: &Context,
     room: u32,
     n: usize,
-    mode: u32,
-) -> u32
-    requires { ((room ≤ 48) × (n ≤ 524287)) × Ready 0 (words s.now) tab.now m.old vis.old found.old }
-    ensures { Walked room (words s.now) tab.now m.old vis.old found.old m.new vis.new found.new (row_at (words s.now) tab.now room mode n) result }
+    mode: Mode,
+    settings: Settings,
+) -> Result<(), Refusal>
+    requires { ((room ≤ 48) × (n ≤ 524287)) × Ready 0 context.now walk.old }
+    ensures { Walked room context.now walk.old walk.new (row_at context.now room (mode_of mode) n (pair_of settings)) result }
 {
-    let calm = mode / 64 * 64;
-    let mut at = m[AT] as usize;
+    let bytes = context.section.bytes;
+    let names = context.section.names;
     let mut left = n;
-    let mut set = mode % 8;
-    let mut later = mode / 8 % 8;
+    let mut set = settings.first;
+    let mut later = settings.later;
     let mut d = room;
     loop {
         if left == 0 {
             if d == room {
-                m[AT] = at as u32;
-                return 0;
+                return Ok(());
             }
             d += 1;
-            let e = m[LEVELS + d as usize];
-            left = (e / 8) as usize;
-            later = e % 8;
+            let level = walk.levels[d as usize];
+            left = level.left as usize;
+            later = level.later;
             set = later;
         } else {
-            let t = plain_at(s, tab[NAMES], at, d);
+            let t = plain_at(bytes, names, walk.at, d);
             if t == 0 {
-                m[AT] = at as u32;
-                let r = walk_expr(s, tab, m, vis, found, d, calm + set);
-                if r != 0 {
-                    return r;
-                }
-                at = m[AT] as usize;
+                walk_expr(walk, context, d, mode, set)?;
                 left -= 1;
                 set = later;
             } else {
-                let code = word(s, at);
-                let a = word(s, at + 1);
-                at = at + 1 + (t % 2) as usize;
-                if (t >> (16 + set)) % 2 == 1 {
-                    m[AT] = at as u32;
-                    act(s, tab, m, vis, found, code, a, calm + set);
+                let code = word(bytes, walk.at);
+                let a = word(bytes, walk.at + 1);
+                walk.at += 1 + (t % 2) as usize;
+                if shows(t, set) {
+                    act(walk, context, code, a, mode, set);
                 }
                 let k = parts_of(t, a);
                 if k == 0 {
                     left -= 1;
                     set = later;
                 } else {
-                    let p = pair(t, code, a, set, tab[IDENT]);
-                    m[LEVELS + d as usize] = (left - 1) as u32 * 8 + later;
+                    let p = pair(t, code, a, set, context.ident);
+                    walk.levels[d as usize] = Level {
+                        left: (left - 1) as u32,
+                        later,
+                    };
                     d -= 1;
                     left = k;
-                    set = p % 8;
-                    later = p / 8;
+                    set = p.first;
+                    later = p.later;
                 }
             }
         }
@@ -209,252 +161,150 @@ pub fn walk_row(
 // n expressions, any number.
 #[cycle(walks)]
 pub fn walk_many(
-    s: &[u8],
-    tab: &[u32],
-    m: &mut [u32],
-    vis: &mut [u32],
-    found: &mut [u32],
+    walk: &mut Walk,
+    context: &Context,
     room: u32,
     n: usize,
-    mode: u32,
-) -> u32
-    requires { (room ≤ 48) × Ready 0 (words s.now) tab.now m.old vis.old found.old }
-    ensures { Walked room (words s.now) tab.now m.old vis.old found.old m.new vis.new found.new (row_at (words s.now) tab.now room mode n) result }
+    mode: Mode,
+    settings: Settings,
+) -> Result<(), Refusal>
+    requires { (room ≤ 48) × Ready 0 context.now walk.old }
+    ensures { Walked room context.now walk.old walk.new (row_at context.now room (mode_of mode) n (pair_of settings)) result }
 {
     if n <= MOST {
-        return walk_row(s, tab, m, vis, found, room, n, mode);
+        return walk_row(walk, context, room, n, mode, settings);
     }
-    let calm = mode / 64 * 64;
-    let later = mode / 8 % 8;
-    let mut set = mode % 8;
-    let mut left = n;
-    while 0 < left {
-        let r = walk_expr(s, tab, m, vis, found, room, calm + set);
-        if r != 0 {
-            return r;
-        }
-        left -= 1;
-        set = later;
+    let mut set = settings.first;
+    for _ in 0..n {
+        walk_expr(walk, context, room, mode, set)?;
+        set = settings.later;
     }
-    0
+    Ok(())
 }
 
 // n marks of a kind, each with its expressions.
 #[cycle(walks)]
 pub fn walk_marks(
-    s: &[u8],
-    tab: &[u32],
-    m: &mut [u32],
-    vis: &mut [u32],
-    found: &mut [u32],
+    walk: &mut Walk,
+    context: &Context,
     room: u32,
     kind: MarkKind,
     n: u32,
-    mode: u32,
-) -> u32
-    requires { (room ≤ 48) × Ready 0 (words s.now) tab.now m.old vis.old found.old }
-    ensures { Walked room (words s.now) tab.now m.old vis.old found.old m.new vis.new found.new (marks_at (words s.now) tab.now room mode (kind_of kind) n) result }
+    mode: Mode,
+) -> Result<(), Refusal>
+    requires { (room ≤ 48) × Ready 0 context.now walk.old }
+    ensures { Walked room context.now walk.old walk.new (marks_at context.now room (mode_of mode) (kind_of kind) n) result }
 {
-    let mut left = n;
-    while 0 < left {
-        let r = walk_mark(s, tab, m, vis, found, room, kind, mode);
-        if r != 0 {
-            return r;
-        }
-        left -= 1;
+    for _ in 0..n {
+        walk_mark(walk, context, room, kind, mode)?;
     }
-    0
+    Ok(())
 }
 
 #[cycle(walks)]
 fn walk_mark(
-    s: &[u8],
-    tab: &[u32],
-    m: &mut [u32],
-    vis: &mut [u32],
-    found: &mut [u32],
+    walk: &mut Walk,
+    context: &Context,
     room: u32,
     kind: MarkKind,
-    mode: u32,
-) -> u32
-    requires { (room ≤ 48) × Ready 0 (words s.now) tab.now m.old vis.old found.old }
-    ensures { Walked room (words s.now) tab.now m.old vis.old found.old m.new vis.new found.new (mark_at (words s.now) tab.now room mode (kind_of kind)) result }
+    mode: Mode,
+) -> Result<(), Refusal>
+    requires { (room ≤ 48) × Ready 0 context.now walk.old }
+    ensures { Walked room context.now walk.old walk.new (mark_at context.now room (mode_of mode) (kind_of kind)) result }
 {
-    let at = m[AT] as usize;
-    let section = Section {
-        bytes: s,
-        names: tab[NAMES],
-        rows: 0,
-        bound: None,
-    };
-    let Ok((k, p)) = section.word_in(at, kind.low(), kind.high()) else {
-        return 5;
-    };
-    m[AT] = p as u32;
-    walk_row(s, tab, m, vis, found, room, kind.kids(k), mode / 64 * 64)
+    let (k, at) = context.section.word_in(walk.at, kind.low(), kind.high())?;
+    walk.at = at;
+    walk_row(walk, context, room, kind.kids(k), mode, Settings::all(Setting::General))
 }
 
 // A pattern: the number of its parts, and the parts.
 #[cycle(walks)]
 pub fn walk_pattern(
-    s: &[u8],
-    tab: &[u32],
-    m: &mut [u32],
-    vis: &mut [u32],
-    found: &mut [u32],
+    walk: &mut Walk,
+    context: &Context,
     room: u32,
-    mode: u32,
-) -> u32
-    requires { (room ≤ 48) × Ready 0 (words s.now) tab.now m.old vis.old found.old }
-    ensures { Walked room (words s.now) tab.now m.old vis.old found.old m.new vis.new found.new (pattern_at (words s.now) tab.now room mode) result }
+    mode: Mode,
+) -> Result<(), Refusal>
+    requires { (room ≤ 48) × Ready 0 context.now walk.old }
+    ensures { Walked room context.now walk.old walk.new (pattern_at context.now room (mode_of mode)) result }
 {
-    let at = m[AT] as usize;
-    let section = Section {
-        bytes: s,
-        names: tab[NAMES],
-        rows: 0,
-        bound: None,
-    };
-    let Ok((n, p)) = section.any_word(at) else {
-        return 5;
-    };
-    m[AT] = p as u32;
-    walk_parts(s, tab, m, vis, found, room, n, mode)
+    let (n, at) = context.section.any_word(walk.at)?;
+    walk.at = at;
+    walk_parts(walk, context, room, n, mode)
 }
 
 #[cycle(walks)]
 fn walk_parts(
-    s: &[u8],
-    tab: &[u32],
-    m: &mut [u32],
-    vis: &mut [u32],
-    found: &mut [u32],
+    walk: &mut Walk,
+    context: &Context,
     room: u32,
     n: u32,
-    mode: u32,
-) -> u32
-    requires { (room ≤ 48) × Ready 0 (words s.now) tab.now m.old vis.old found.old }
-    ensures { Walked room (words s.now) tab.now m.old vis.old found.old m.new vis.new found.new (parts_at (words s.now) tab.now room mode n) result }
+    mode: Mode,
+) -> Result<(), Refusal>
+    requires { (room ≤ 48) × Ready 0 context.now walk.old }
+    ensures { Walked room context.now walk.old walk.new (parts_at context.now room (mode_of mode) n) result }
 {
-    let mut left = n;
-    while 0 < left {
-        let r = walk_part(s, tab, m, vis, found, room, mode);
-        if r != 0 {
-            return r;
-        }
-        left -= 1;
+    for _ in 0..n {
+        walk_part(walk, context, room, mode)?;
     }
-    0
+    Ok(())
 }
 
 // A part, with its elements.
 #[cycle(walks)]
-fn walk_part(
-    s: &[u8],
-    tab: &[u32],
-    m: &mut [u32],
-    vis: &mut [u32],
-    found: &mut [u32],
-    room: u32,
-    mode: u32,
-) -> u32
-    requires { (room ≤ 48) × Ready 0 (words s.now) tab.now m.old vis.old found.old }
-    ensures { Walked room (words s.now) tab.now m.old vis.old found.old m.new vis.new found.new (part_at (words s.now) tab.now room mode) result }
+fn walk_part(walk: &mut Walk, context: &Context, room: u32, mode: Mode) -> Result<(), Refusal>
+    requires { (room ≤ 48) × Ready 0 context.now walk.old }
+    ensures { Walked room context.now walk.old walk.new (part_at context.now room (mode_of mode)) result }
 {
-    let at = m[AT] as usize;
-    let section = Section {
-        bytes: s,
-        names: tab[NAMES],
-        rows: 0,
-        bound: None,
-    };
-    let Ok((h, p)) = section.read_part(at) else {
-        return 5;
-    };
-    m[AT] = p as u32;
-    let path = h.path;
-    bind_part(s, tab, m, vis, found, path, mode);
-    walk_elems(s, tab, m, vis, found, room, h.count, mode)
+    let (h, at) = context.section.read_part(walk.at)?;
+    walk.at = at;
+    bind_part(walk, context, h.path, mode);
+    walk_elems(walk, context, room, h.count, mode)
 }
 
 // A part's path, where it has one.
-fn bind_part(
-    s: &[u8],
-    tab: &[u32],
-    m: &mut [u32],
-    vis: &mut [u32],
-    found: &mut [u32],
-    path: Option<u32>,
-    mode: u32,
-)
-    requires { Ready (path_cost path) (words s.now) tab.now m.old vis.old found.old }
-    ensures { Steps (path_cost path) (words s.now) tab.now m.old vis.old found.old m.new vis.new found.new (λ id. path_step (world_at (words s.now) tab.now id) (mode_of mode) path) }
+fn bind_part(walk: &mut Walk, context: &Context, path: Option<u32>, mode: Mode)
+    requires { Ready (path_cost path) context.now walk.old }
+    ensures { Steps (path_cost path) context.now walk.old walk.new (λ id. path_step (world_at context.now id) (mode_of mode) path) }
 {
     match path {
-        Some(v) => bind_path(s, tab, m, vis, found, v, mode),
+        Some(v) => walk.bind_path(context, v, mode),
         None => {}
     }
 }
 
 #[cycle(walks)]
 fn walk_elems(
-    s: &[u8],
-    tab: &[u32],
-    m: &mut [u32],
-    vis: &mut [u32],
-    found: &mut [u32],
+    walk: &mut Walk,
+    context: &Context,
     room: u32,
     n: u32,
-    mode: u32,
-) -> u32
-    requires { (room ≤ 48) × Ready 0 (words s.now) tab.now m.old vis.old found.old }
-    ensures { Walked room (words s.now) tab.now m.old vis.old found.old m.new vis.new found.new (elems_at (words s.now) tab.now room mode n) result }
+    mode: Mode,
+) -> Result<(), Refusal>
+    requires { (room ≤ 48) × Ready 0 context.now walk.old }
+    ensures { Walked room context.now walk.old walk.new (elems_at context.now room (mode_of mode) n) result }
 {
-    let mut left = n;
-    while 0 < left {
-        let r = walk_elem(s, tab, m, vis, found, room, mode);
-        if r != 0 {
-            return r;
-        }
-        left -= 1;
+    for _ in 0..n {
+        walk_elem(walk, context, room, mode)?;
     }
-    0
+    Ok(())
 }
 
 // An element, with its property.
 #[cycle(walks)]
-fn walk_elem(
-    s: &[u8],
-    tab: &[u32],
-    m: &mut [u32],
-    vis: &mut [u32],
-    found: &mut [u32],
-    room: u32,
-    mode: u32,
-) -> u32
-    requires { (room ≤ 48) × Ready 0 (words s.now) tab.now m.old vis.old found.old }
-    ensures { Walked room (words s.now) tab.now m.old vis.old found.old m.new vis.new found.new (elem_at (words s.now) tab.now room mode) result }
+fn walk_elem(walk: &mut Walk, context: &Context, room: u32, mode: Mode) -> Result<(), Refusal>
+    requires { (room ≤ 48) × Ready 0 context.now walk.old }
+    ensures { Walked room context.now walk.old walk.new (elem_at context.now room (mode_of mode)) result }
 {
-    let at = m[AT] as usize;
-    let section = Section {
-        bytes: s,
-        names: tab[NAMES],
-        rows: 0,
-        bound: None,
-    };
-    let Ok((h, p)) = section.read_elem(at) else {
-        return 5;
-    };
-    m[AT] = p as u32;
-    bind_elem(s, tab, m, vis, found, h, mode);
+    let (h, at) = context.section.read_elem(walk.at)?;
+    walk.at = at;
+    walk.bind_elem(context, h, mode);
     walk_row(
-        s,
-        tab,
-        m,
-        vis,
-        found,
+        walk,
+        context,
         room,
         h.property as usize,
-        mode / 64 * 64,
+        mode,
+        Settings::all(Setting::General),
     )
 }

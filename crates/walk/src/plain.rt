@@ -1,14 +1,15 @@
 // Plain heads by their code (specs/Plain): which there are, how many parts they have, in which settings these stand, and what the head does
 // itself.
-ghost use Rattle.std.specs.Prelude.{◌≡◌, ℕ, suc, ◌+◌, ◌/◌, ◌%◌, ◌<◌, ◌≤◌, eqb, length};
+ghost use Rattle.std.specs.Prelude.{◌≡◌, ℕ, ◌+◌, ◌/◌, ◌%◌, ◌^◌, ◌<◌, ◌≤◌, eqb, length};
 ghost use Rattle.words.specs.Words.{words};
 ghost use Rattle.semantics.specs.Kinds.{settings};
 ghost use Rattle.fused.specs.Fused.{head_of};
-ghost use Rattle.steps.specs.Memory.{slots_in, world_at, mode_of, setting_of, first_of};
-ghost use Rattle.steps.specs.Hold.{Ready, Steps, cost_of, pair_of};
-ghost use Rattle.walk.specs.Plain.{shape, limit, headed, parts_of, type_by, Plainly};
+ghost use Rattle.steps.specs.Modes.{mode_of, setting_of, pair_of};
+ghost use Rattle.steps.specs.Memory.{names_in, is_the, world_at};
+ghost use Rattle.steps.specs.Hold.{Ready, Steps, cost_of};
+ghost use Rattle.walk.specs.Plain.{shape, limit, headed, parts_of, type_by, number_of, Plainly};
 
-use steps::{at_type, use_name, use_var};
+use steps::{Context, Mode, Setting, Settings, Walk};
 use words::{count, word};
 
 // The most parts that a row of the loop counts.
@@ -94,59 +95,73 @@ pub fn parts_of(t: u32, a: u32) -> usize
     (t / 4 % 4) as usize + (c - h) as usize
 }
 
-// The settings of the parts: the first, and 8 times the others'.
-pub fn pair(t: u32, code: u32, a: u32, set: u32, ident: u32) -> u32
-    requires { (t ≡ shape code) × ((0 < t) × ((set < 8) × (a ≤ limit code))) }
-    ensures below { result < 64 }
-    ensures result_value { pair_of result ≡ settings (λ x. eqb (suc x) ident) (headed code a) (setting_of set) }
+// Whether the head with the shape does something itself in the setting: the shape has a bit for each.
+pub fn shows(t: u32, set: Setting) -> bool
+    ensures { result ≡ eqb (t / 2 ^ (16 + number_of set) % 2) 1 }
+{
+    (t >> (16 + set as u32)) % 2 == 1
+}
+
+// The setting with a number of the shapes.
+fn setting_at(n: u32) -> Setting
+    requires { n < 8 }
+    ensures { number_of result ≡ n }
+{
+    match n {
+        0 => Setting::General,
+        1 => Setting::Arithmetic,
+        2 => Setting::Property,
+        3 => Setting::Boolean,
+        4 => Setting::Indexed,
+        5 => Setting::Sliced,
+        6 => Setting::Iterated,
+        _ => Setting::Quantified,
+    }
+}
+
+// The settings of the parts, the first one's and the others'.
+pub fn pair(t: u32, code: u32, a: u32, set: Setting, ident: Option<u32>) -> Settings
+    requires { (t ≡ shape code) × ((0 < t) × (a ≤ limit code)) }
+    ensures { pair_of result ≡ settings (λ x. is_the x ident) (headed code a) (setting_of set) }
 {
     if code == 9 {
-        if a as u64 + 1 == ident as u64 {
-            return 0;
+        if ident == Some(a) {
+            return Settings::all(Setting::General);
         }
-        return 2;
+        return Settings::first(Setting::Property);
     }
     if code == 15 {
         if (3903u32 >> (a % 32)) % 2 == 1 {
-            return 9;
+            return Settings::all(Setting::Arithmetic);
         }
-        return 0;
+        return Settings::all(Setting::General);
     }
     if code == 16 {
-        if set < 3 {
-            return set;
-        }
-        return 0;
+        return Settings::first(set.passed());
     }
-    t / 256 % 64
+    Settings {
+        first: setting_at(t / 256 % 8),
+        later: setting_at(t / 2048 % 8),
+    }
 }
 
 // What the head does itself.
-pub fn act(
-    s: &[u8],
-    tab: &[u32],
-    m: &mut [u32],
-    vis: &[u32],
-    found: &mut [u32],
-    code: u32,
-    a: u32,
-    mode: u32,
-)
-    requires { (0 < shape code) × ((a ≤ limit code) × ((shape code / 64 % 2 ≡ 1 → a < slots_in tab.now) × Ready (cost_of (headed code a)) (words s.now) tab.now m.old vis.now found.old)) }
-    ensures { Steps (cost_of (headed code a)) (words s.now) tab.now m.old vis.now found.old m.new vis.now found.new (λ id. head_of (world_at (words s.now) tab.now id) (mode_of mode) (headed code a) (first_of mode)) }
+pub fn act(walk: &mut Walk, context: &Context, code: u32, a: u32, mode: Mode, set: Setting)
+    requires { (0 < shape code) × ((a ≤ limit code) × ((shape code / 64 % 2 ≡ 1 → a < names_in context.now) × Ready (cost_of (headed code a)) context.now walk.old)) }
+    ensures { Steps (cost_of (headed code a)) context.now walk.old walk.new (λ id. head_of (world_at context.now id) (mode_of mode) (headed code a) (setting_of set)) }
 {
     if code == 7 {
-        use_var(s, tab, m, vis, found, a, mode);
+        walk.use_var(context, a, mode, set);
         return;
     }
     if code == 8 {
-        if mode / 64 % 2 == 1 {
-            use_name(s, tab, m, vis, found, a);
+        if mode.resolves {
+            walk.use_name(context, a);
         }
         return;
     }
-    if mode / 128 % 2 == 1 {
-        at_type(s, tab, m, vis, found, mode % 8, type_by(code));
+    if mode.checks {
+        walk.at_type(context, set, type_by(code));
     }
 }
 
