@@ -1,60 +1,66 @@
 -- What a walk over parts of clauses asks and leaves. A WITH replaces what is visible, so nothing is said of what stays below.
-use Rattle.std.specs.Prelude.{ℕ, zero, suc, ◌+◌, ◌*◌, ◌<◌, ◌≤◌, ◌≡◌, true, List, length, get_or, set, drop, Option, Some, None}
+use Rattle.std.specs.Prelude.{ℕ, ◌+◌, ◌*◌, ◌≤◌, ◌≡◌, true, false, List, length, get_or, drop, Result, Ok, Err}
+use Rattle.refusal.specs.Number.{number_of}
+use Rattle.refusal.specs.declared.Refusal.{Refusal}
 use Rattle.heads.specs.Got.{Got, ok, no, word_in}
 use Rattle.heads.specs.Answer.{Ans}
-use Rattle.fused.specs.Fused.{Both}
+use Rattle.fused.specs.Fused.{Both, Mode}
 use Rattle.fused.specs.Clauses.{counted_row}
-use Rattle.steps.specs.Memory.{at_of, slots_in, tables_in, world_at, mode_of}
-use Rattle.steps.specs.Hold.{Fit, Holds}
-use Rattle.walk.specs.Goes.{Goer, Comes}
+use Rattle.steps.specs.Memory.{words_in, names_in, tables_in, hushed_in, world_at}
+use Rattle.steps.specs.Hold.{Fit, Holds, Still}
+use Rattle.walk.specs.Goes.{Goer, rest_in, Comes, Refuses}
+use Rattle.steps.specs.declared.Walk.{Walk}
+use Rattle.steps.specs.declared.context.Context.{Context}
 
 -- The walk went on, and the words that it read, with j before it, pay for what it said.
-pub record Passed (j : ℕ) (ws tab m vis found m' vis' found' : List ℕ) (G : Goer) : Type 0 where
-  pub from : at_of m ≤ at_of m'
-  pub fit : (k : ℕ) → Fit (j + k) ws tab m vis found → Fit k ws tab m' vis' found'
-  pub goes : (id : ℕ → ℕ) (s : Both) → Holds id tab m vis found s → Comes id ws tab m' vis' found' (G id s (drop (at_of m) ws))
+pub record Passed (j : ℕ) (c : Context) (w w' : Walk) (G : Goer) : Type 0 where
+  pub from : w.at ≤ w'.at
+  pub fit : (k : ℕ) → Fit (j + k) c w → Fit k c w'
+  pub goes : (id : ℕ → ℕ) (s : Both) → Holds id c w s → Comes id c w' (G id s (rest_in c w))
 
--- 0 where it went on, else the cause
-abbrev pub PassesAs : (j : ℕ) → (ws tab m vis found m' vis' found' : List ℕ) → Goer → ℕ → Type 0
-PassesAs j ws tab m vis found m' vis' found' G zero = Passed j ws tab m vis found m' vis' found' G
-PassesAs j ws tab m vis found m' vis' found' G (suc c) = (id : ℕ → ℕ) (s : Both) → Holds id tab m vis found s → G id s (drop (at_of m) ws) ≡ no (suc c)
+-- it went on, or is refused
+abbrev pub PassesAs : ℕ → Context → (w w' : Walk) → Goer → Result (Unit {0}) Refusal → Type 0
+PassesAs j c w w' G (Ok u) = Passed j c w w' G
+PassesAs j c w w' G (Err e) = Refuses c w G e
 
-pub record Passes (j : ℕ) (ws tab m vis found held m' vis' found' held' : List ℕ) (G : Goer) (r : ℕ) : Type 0 where
-  pub sized : length m' ≡ length m
-  pub seen : length vis' ≡ length vis
-  pub wrote : length found' ≡ length found
-  pub kept : length held' ≡ length held
-  pub passes : PassesAs j ws tab m vis found m' vis' found' G r
+pub record Passes (j : ℕ) (c : Context) (w w' : Walk) (G : Goer) (r : Result (Unit {0}) Refusal) : Type 0 where
+  pub still : Still w w'
+  pub passes : PassesAs j c w w' G r
 
--- no mark is set in tab
-abbrev pub Unmarked : List ℕ → Type 0
-Unmarked tab = (x : ℕ) → x < slots_in tab → get_or tab (16 + x) 0 ≡ 0
+-- every name is a use
+abbrev pub Unhushed : Context → Type 0
+Unhushed c = (x : ℕ) → hushed_in c x ≡ false
 
--- what the clauses ask besides: room for the pairs of a WITH and the aliases of a RETURN, that names are resolved, and that none is marked
-pub record Held (ws tab held : List ℕ) (mode : ℕ) : Type 0 where
-  pub room : 2 * length ws ≤ length held
-  pub resolves : (mode_of mode).resolves ≡ true
-  pub unmarked : Unmarked tab
+-- what the clauses ask besides: room for the pairs of a WITH and the aliases of a RETURN, that names are resolved, and that each is a use
+pub record Held (c : Context) (held : List ℕ) (mode : Mode) : Type 0 where
+  pub room : 2 * length (words_in c) ≤ length held
+  pub resolves : mode.resolves ≡ true
+  pub unhushed : Unhushed c
 
--- a word that was read at `at`, or none that is there and in range, and where that ends
-abbrev pub word_got : List ℕ → ℕ → Option ℕ → Got ℕ
-word_got ws at (Some w) = ok w (drop (at + 1) ws)
-word_got ws at None = no 5
+-- a mark for each name, and none is set
+pub record Clear (c : Context) (marks : List ℕ) : Type 0 where
+  pub room : names_in c ≤ length marks
+  pub clear : (x : ℕ) → get_or marks x 0 ≡ 0
 
-abbrev pub word_end : ℕ → Option ℕ → ℕ
-word_end at (Some w) = at + 1
-word_end at None = at
+-- a word that was read at `at`, or the refusal, and where it ends
+abbrev pub word_got : List ℕ → ℕ → Result ℕ Refusal → Got ℕ
+word_got ws at (Ok w) = ok w (drop (at + 1) ws)
+word_got ws at (Err e) = no (number_of e)
 
--- where the walk stands after a word, which it passes if it is in range
-abbrev pub moved : List ℕ → Option ℕ → List ℕ
-moved m (Some w) = set m 0 (at_of m + 1)
-moved m None = m
+abbrev pub word_end : List ℕ → ℕ → Result ℕ Refusal → ℕ
+word_end ws at (Ok w) = at + 1
+word_end ws at (Err e) = length ws
 
-pub record Next (ws : List ℕ) (lo hi : ℕ) (m m' : List ℕ) (r : Option ℕ) : Type 0 where
-  pub got : Ans ws (at_of m) (word_in lo hi (drop (at_of m) ws)) (word_got ws (at_of m) r) (word_end (at_of m) r)
-  pub now : m' ≡ moved m r
+-- the walk stands behind a word that is in range
+abbrev pub moved : Walk → Result ℕ Refusal → Walk
+moved w (Ok x) = record w { at = w.at + 1 }
+moved w (Err e) = w
+
+pub record Next (c : Context) (lo hi : ℕ) (w w' : Walk) (r : Result ℕ Refusal) : Type 0 where
+  pub got : Ans (words_in c) w.at (word_in lo hi (rest_in c w)) (word_got (words_in c) w.at r) (word_end (words_in c) w.at r)
+  pub now : w' ≡ moved w r
 
 -- a count and as many expressions, in a mode
-module _ (ws tab : List ℕ) (mode : ℕ) where
+module _ (c : Context) (mode : Mode) where
   abbrev pub counted_at : Goer
-  counted_at id = counted_row (world_at ws tab id) (tables_in tab) (mode_of mode)
+  counted_at id = counted_row (world_at c id) (tables_in c) mode

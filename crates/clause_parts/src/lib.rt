@@ -1,23 +1,23 @@
-// What walks over clauses have in common: the next word, and a count of expressions. `head` is what a clause begins with: its kind, its
-// start, its end.
+// What walks over clauses have in common: the next word, an alias, and a count of expressions.
 #![tactic(auto)]
 
-ghost use Rattle.std.specs.Prelude.{◌≡◌, ◌+◌, ◌*◌, ◌≤◌, length};
-ghost use Rattle.words.specs.Words.{words};
-ghost use Rattle.steps.specs.Memory.{at_of};
+ghost use Rattle.std.specs.Prelude.{◌≡◌, ◌≤◌, length};
+ghost use Rattle.clauses.specs.Read.{alias_of};
+ghost use Rattle.steps.specs.Modes.{mode_of};
+ghost use Rattle.steps.specs.Memory.{words_in};
 ghost use Rattle.steps.specs.Hold.{Ready};
 ghost use Rattle.walk.specs.Goes.{Walked};
 ghost use Rattle.clause_parts.specs.Passes.{Next, counted_at};
 
-use heads::Section;
-use steps::AT;
+use refusal::Refusal;
+use steps::{Context, Mode, Setting, Settings, Walk};
 use walk::walk_many;
 
 // The most levels of an expression.
 pub const DEPTH: u32 = 48;
 
 // What a clause begins with.
-#[derive(Clone, Copy)]
+#[derive(Clone, Copy, Debug, PartialEq, Eq)]
 pub struct Head {
     pub kind: u32,
     pub start: u32,
@@ -25,37 +25,34 @@ pub struct Head {
 }
 
 // The next word, if it is there and in range; the walk then stands behind it.
-pub fn next_word(s: &[u8], m: &mut [u32], lo: u32, hi: u64) -> Option<u32>
-    requires { (length m.old ≡ 64) × ((at_of m.old ≤ length (words s.now)) × (length (words s.now) ≤ 2048)) }
-    ensures { Next (words s.now) lo hi m.old m.new result }
+pub fn next_word(walk: &mut Walk, context: &Context, lo: u32, hi: u64) -> Result<u32, Refusal>
+    requires { walk.old.at ≤ length (words_in context.now) }
+    ensures { Next context.now lo hi walk.old walk.new result }
 {
-    let section = Section {
-        bytes: s,
-        names: 0,
-        rows: 0,
-        bound: None,
-    };
-    let Ok((w, p)) = section.word_in(m[AT] as usize, lo, hi) else {
-        return None;
-    };
-    m[AT] = p as u32;
-    Some(w)
+    let (word, at) = context.section.word_in(walk.at, lo, hi)?;
+    walk.at = at;
+    Ok(word)
+}
+
+// The alias that a word tells, its number + 1, or 0 where there is none.
+pub fn alias_of(word: u32) -> Option<u32>
+    ensures { result ≡ alias_of word }
+{
+    word.checked_sub(1)
 }
 
 // A count, and as many expressions.
-pub fn walk_counted(
-    s: &[u8],
-    tab: &[u32],
-    m: &mut [u32],
-    vis: &mut [u32],
-    found: &mut [u32],
-    mode: u32,
-) -> u32
-    requires { Ready 0 (words s.now) tab.now m.old vis.old found.old }
-    ensures { Walked 48 (words s.now) tab.now m.old vis.old found.old m.new vis.new found.new (counted_at (words s.now) tab.now mode) result }
+pub fn walk_counted(walk: &mut Walk, context: &Context, mode: Mode) -> Result<(), Refusal>
+    requires { Ready 0 context.now walk.old }
+    ensures { Walked 48 context.now walk.old walk.new (counted_at context.now (mode_of mode)) result }
 {
-    let Some(n) = next_word(s, m, 0, 4294967296) else {
-        return 5;
-    };
-    walk_many(s, tab, m, vis, found, DEPTH, n as usize, mode / 64 * 64)
+    let n = next_word(walk, context, 0, 4294967296)?;
+    walk_many(
+        walk,
+        context,
+        DEPTH,
+        n as usize,
+        mode,
+        Settings::all(Setting::General),
+    )
 }
