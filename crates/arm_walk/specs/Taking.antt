@@ -1,18 +1,19 @@
 -- The carried list beside the walk. After a WITH the stack of visible names is just what it carried, so the list is stored from there, where it
 -- has room for all that was carried so far.
-use Rattle.std.specs.Prelude.{ℕ, ◌+◌, ◌-◌, ◌*◌, ◌<◌, ◌≤◌, ◌≡◌, List, [], ◌∷◌, ◌++◌, reverse, length, drop}
+use Rattle.std.specs.Prelude.{ℕ, ◌+◌, ◌-◌, ◌*◌, ◌<◌, ◌≤◌, ◌≡◌, List, [], ◌∷◌, ◌++◌, reverse, length}
 use Rattle.scope.specs.Graph.{Carried, carried}
 use Rattle.heads.specs.Got.{ok}
 use Rattle.semantics.specs.Log.{Event, carries_in}
 use Rattle.semantics.specs.Resolve.{Seen, seen}
 use Rattle.theorems.specs.Needs.{carried_in}
 use Rattle.fused.specs.Fused.{Both}
-use Rattle.visible.specs.Visible.{seens}
-use Rattle.steps.specs.Memory.{at_of, top_of, cur_of, taken_of, slots_in}
+use Rattle.visible.specs.Stack as stack
 use Rattle.steps.specs.Hold.{Holds}
-use Rattle.walk.specs.Goes.{Goer}
+use Rattle.walk.specs.Goes.{Goer, rest_in}
 use Rattle.entries.specs.Filled.{carried_words}
 use Rattle.entries.specs.Adding as entries
+use Rattle.steps.specs.declared.Walk.{Walk}
+use Rattle.steps.specs.declared.context.Context.{Context}
 
 -- visible names as what a barrier carries, oldest first
 unfoldable pub carried_as : ℕ → List Seen → List Carried
@@ -25,12 +26,12 @@ pub record Carries (old out : List ℕ) (l : List Event) : Type 0 where
   pub has : carried_in l * 3 ≤ length old → entries.Holds carried_words old out (carried_in l) (carries_in (reverse l))
 
 -- where more is carried than `from`, and the list has room for that, it comes to have all that is visible, behind the `from` entries that it has
-pub record Stores (tab m vis out new : List ℕ) (from : ℕ) : Type 0 where
+pub record Stores (w : Walk) (out new : List ℕ) (from : ℕ) : Type 0 where
   pub kept : length new ≡ length out
-  pub nothing : taken_of m ≤ from → new ≡ out
-  pub stores : (old : List ℕ) (es : List Carried) → from < taken_of m → taken_of m ≡ from + top_of m → 0 < cur_of m → taken_of m * 3 ≤ length out → entries.Holds carried_words old out from es → entries.Holds carried_words old new (taken_of m) (es ++ carried_as (cur_of m - 1) (seens (slots_in tab) (top_of m) vis))
+  pub nothing : w.taken ≤ from → new ≡ out
+  pub stores : (old : List ℕ) (es : List Carried) → from < w.taken → w.taken ≡ from + w.visible.top → 0 < w.cur → w.taken * 3 ≤ length out → entries.Holds carried_words old out from es → entries.Holds carried_words old new w.taken (es ++ carried_as (w.cur - 1) (stack.entries w.visible))
 
 -- a walk stores what it carries
-pub record Takes (ws tab m vis found out new : List ℕ) (G : Goer) : Type 0 where
+pub record Takes (c : Context) (w : Walk) (out new : List ℕ) (G : Goer) : Type 0 where
   pub kept : length new ≡ length out
-  pub takes : (id : ℕ → ℕ) (s t : Both) (rest old : List ℕ) → Holds id tab m vis found s → G id s (drop (at_of m) ws) ≡ ok t rest → Carries old out s.names.log → Carries old new t.names.log
+  pub takes : (id : ℕ → ℕ) (s t : Both) (rest old : List ℕ) → Holds id c w s → G id s (rest_in c w) ≡ ok t rest → Carries old out s.names.log → Carries old new t.names.log

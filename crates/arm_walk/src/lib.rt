@@ -2,25 +2,27 @@
 #![tactic(auto)]
 
 ghost use Rattle.std.specs.Prelude.{◌≡◌, ◌≤◌, length};
-ghost use Rattle.words.specs.Words.{words};
-ghost use Rattle.visible.specs.Visible.{Tabled};
-ghost use Rattle.steps.specs.Memory.{top_of, slots_in};
+ghost use Rattle.fused.specs.Clauses.{in_arms};
+ghost use Rattle.visible.specs.Stack.{Sound};
+ghost use Rattle.steps.specs.Modes.{mode_of};
 ghost use Rattle.steps.specs.Hold.{Ready};
-ghost use Rattle.clause_parts.specs.Passes.{Held, Passes};
-ghost use Rattle.arm_walk.specs.Clauses.{clauses_at, arm_at, arms_at};
+ghost use Rattle.clause_parts.specs.Passes.{Held, Clear, Passes};
+ghost use Rattle.clause_walk.specs.Clauses.{names_alone};
+ghost use Rattle.arm_walk.specs.Clauses.{both_walks, clauses_at, arm_at, arms_at};
 ghost use Rattle.arm_walk.specs.Taking.{Stores, Takes};
 
 use clause_parts::next_word;
 use clause_walk::walk_clause;
 use entries::put_carried;
-use steps::{CUR, SLOTS, TAKEN, TOP, leave};
+use refusal::Refusal;
+use steps::{Context, Mode, Walk};
 
 // What a clause carried, stored behind `from` entries: all that is visible after it, by the scope before the current one.
-fn take_carried(tab: &[u32], m: &[u32], vis: &[u32], carried: &mut [u32], from: u32)
-    requires { (10 ≤ length tab.now) × ((length m.now ≡ 64) × Tabled (slots_in tab.now) (top_of m.now) vis.now) }
-    ensures { Stores tab.now m.now vis.now carried.old carried.new from }
+fn take_carried(walk: &Walk, carried: &mut [u32], from: u32)
+    requires { Sound walk.now.visible }
+    ensures { Stores walk.now carried.old carried.new from }
 {
-    let taken = m[TAKEN];
+    let taken = walk.taken;
     if taken <= from {
         return;
     }
@@ -28,104 +30,91 @@ fn take_carried(tab: &[u32], m: &[u32], vis: &[u32], carried: &mut [u32], from: 
         return;
     }
     // Neither of these ever ends it: a clause that carries opens two scopes, and what it carried is all that is visible.
-    let cur = m[CUR];
-    if cur == 0 {
+    if walk.cur == 0 {
         return;
     }
-    let top = m[TOP];
-    if taken - from != top {
+    if taken - from != walk.visible.top {
         return;
     }
-    let slots = tab[SLOTS] as usize;
-    let barrier = cur - 1;
-    let mut i = 0;
-    while i < top {
-        let k = slots + i as usize * 4;
-        let x = vis[k];
-        let v = vis[k + 1];
-        put_carried(carried, from + i, barrier, x, v);
-        i += 1;
+    let barrier = walk.cur - 1;
+    for i in 0..walk.visible.top {
+        let k = walk.visible.names as usize + i as usize * 4;
+        put_carried(
+            carried,
+            from + i,
+            barrier,
+            walk.visible.words[k],
+            walk.visible.words[k + 1],
+        );
     }
 }
 
 // n clauses.
 pub fn walk_clauses(
-    s: &[u8],
-    tab: &mut [u32],
-    m: &mut [u32],
-    vis: &mut [u32],
-    found: &mut [u32],
+    walk: &mut Walk,
+    context: &Context,
     held: &mut [u32],
+    marks: &mut [u32],
     carried: &mut [u32],
     n: u32,
-    mode: u32,
-) -> u32
-    requires { Held (words s.now) tab.old held.old mode × (Ready 0 (words s.now) tab.old m.old vis.old found.old) }
-    ensures takes { Takes (words s.now) tab.old m.old vis.old found.old carried.old carried.new (clauses_at (words s.now) tab.old mode n) }
-    ensures tab_unchanged { (tab.new ≡ tab.old) × Passes 0 (words s.now) tab.old m.old vis.old found.old held.old m.new vis.new found.new held.new (clauses_at (words s.now) tab.old mode n) result }
+    mode: Mode,
+) -> Result<(), Refusal>
+    requires { (Held context.now held.old (mode_of mode) × Clear context.now marks.old) × Ready 0 context.now walk.old }
+    ensures same { marks.new ≡ marks.old }
+    ensures kept { length held.new ≡ length held.old }
+    ensures takes { Takes context.now walk.old carried.old carried.new (clauses_at context.now (mode_of mode) n) }
+    ensures passes { Passes 0 context.now walk.old walk.new (clauses_at context.now (mode_of mode) n) result }
 {
-    let mut left = n;
-    while 0 < left {
-        let from = m[TAKEN];
-        let r = walk_clause(s, tab, m, vis, found, held, mode);
-        if r != 0 {
-            return r;
-        }
-        take_carried(tab, m, vis, carried, from);
-        left -= 1;
+    for _ in 0..n {
+        let from = walk.taken;
+        walk_clause(walk, context, held, marks, mode)?;
+        take_carried(walk, carried, from);
     }
-    0
+    Ok(())
 }
 
 // An arm: from scope 0, with nothing visible, and no kinds checked.
 fn walk_arm(
-    s: &[u8],
-    tab: &mut [u32],
-    m: &mut [u32],
-    vis: &mut [u32],
-    found: &mut [u32],
+    walk: &mut Walk,
+    context: &Context,
     held: &mut [u32],
+    marks: &mut [u32],
     carried: &mut [u32],
-) -> u32
-    requires { Held (words s.now) tab.old held.old 64 × (Ready 0 (words s.now) tab.old m.old vis.old found.old) }
-    ensures takes { Takes (words s.now) tab.old m.old vis.old found.old carried.old carried.new (arm_at (words s.now) tab.old 192) }
-    ensures tab_unchanged { (tab.new ≡ tab.old) × Passes 0 (words s.now) tab.old m.old vis.old found.old held.old m.new vis.new found.new held.new (arm_at (words s.now) tab.old 192) result }
+) -> Result<(), Refusal>
+    requires { (Held context.now held.old names_alone × Clear context.now marks.old) × Ready 0 context.now walk.old }
+    ensures same { marks.new ≡ marks.old }
+    ensures kept { length held.new ≡ length held.old }
+    ensures takes { Takes context.now walk.old carried.old carried.new (arm_at context.now both_walks) }
+    ensures passes { Passes 0 context.now walk.old walk.new (arm_at context.now both_walks) result }
 {
-    let Some(start) = next_word(s, m, 0, 4294967296) else {
-        return 5;
+    let start = next_word(walk, context, 0, 4294967296)?;
+    next_word(walk, context, start, 4294967296)?;
+    let n = next_word(walk, context, 0, 4294967296)?;
+    walk.leave(0, 0);
+    let mode = Mode {
+        resolves: true,
+        checks: false,
     };
-    let Some(_) = next_word(s, m, start, 4294967296) else {
-        return 5;
-    };
-    let Some(n) = next_word(s, m, 0, 4294967296) else {
-        return 5;
-    };
-    leave(tab, m, vis, 0, 0);
-    walk_clauses(s, tab, m, vis, found, held, carried, n, 64)
+    walk_clauses(walk, context, held, marks, carried, n, mode)
 }
 
 // n arms.
 pub fn walk_arms(
-    s: &[u8],
-    tab: &mut [u32],
-    m: &mut [u32],
-    vis: &mut [u32],
-    found: &mut [u32],
+    walk: &mut Walk,
+    context: &Context,
     held: &mut [u32],
+    marks: &mut [u32],
     carried: &mut [u32],
     n: u32,
-) -> u32
-    requires { Held (words s.now) tab.old held.old 64 × (Ready 0 (words s.now) tab.old m.old vis.old found.old) }
-    ensures takes { Takes (words s.now) tab.old m.old vis.old found.old carried.old carried.new (arms_at (words s.now) tab.old 192 n) }
-    ensures tab_unchanged { (tab.new ≡ tab.old) × Passes 0 (words s.now) tab.old m.old vis.old found.old held.old m.new vis.new found.new held.new (arms_at (words s.now) tab.old 192 n) result }
+) -> Result<(), Refusal>
+    requires { (Held context.now held.old names_alone × Clear context.now marks.old) × Ready 0 context.now walk.old }
+    ensures same { marks.new ≡ marks.old }
+    ensures kept { length held.new ≡ length held.old }
+    ensures takes { Takes context.now walk.old carried.old carried.new (arms_at context.now both_walks n) }
+    ensures passes { Passes 0 context.now walk.old walk.new (arms_at context.now both_walks n) result }
 {
-    let mut left = n;
-    while 0 < left {
-        let r = walk_arm(s, tab, m, vis, found, held, carried);
-        if r != 0 {
-            return r;
-        }
-        left -= 1;
+    for _ in 0..n {
+        walk_arm(walk, context, held, marks, carried)?;
     }
-    0
+    Ok(())
 }

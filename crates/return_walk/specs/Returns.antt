@@ -1,45 +1,45 @@
 -- What the walk over a RETURN asks and does: its projections, the aliases that it holds, and its sort keys, in which these are no use.
-use Rattle.std.specs.Prelude.{ℕ, zero, suc, ◌+◌, ◌<◌, ◌≤◌, ◌≡◌, Bool, true, false, cond, ◌||◌, List, [], ◌∷◌, ◌++◌, eqb, length, get_or}
+use Rattle.std.specs.Prelude.{ℕ, zero, suc, ◌+◌, ◌<◌, ◌≤◌, ◌≡◌, Bool, true, false, cond, ◌||◌, List, [], ◌∷◌, ◌++◌, eqb, length, get_or, Option, Some}
 use Rattle.heads.specs.Got.{bind, word_in, any_word}
-use Rattle.clauses.specs.Read.{alias_of}
 use Rattle.semantics.specs.Resolve.{alias_in}
 use Rattle.semantics.specs.Kinds.{general}
-use Rattle.fused.specs.Fused.{rounds}
+use Rattle.fused.specs.Fused.{Mode, rounds}
 use Rattle.fused.specs.Clauses.{within, aliased, projections_go, hushed_row, return_go}
-use Rattle.steps.specs.Memory.{names_in, tables_in, world_at, mode_of}
+use Rattle.steps.specs.Memory.{names_in, tables_in, world_at}
 use Rattle.walk.specs.Goes.{Goer}
+use Rattle.steps.specs.declared.context.Context.{Context}
 
 -- the first k of the aliases that are held, a word each, in order
 unfoldable pub aliases_in : ℕ → List ℕ → List ℕ
 aliases_in zero held = []
 aliases_in (suc k) held = aliases_in k held ++ (get_or held k 0 ∷ [])
 
--- they are names that tab has a place for
-pub record AllNamed (slots k : ℕ) (held : List ℕ) : Type 0 where
-  pub named : (j : ℕ) → j < k → get_or held j 0 < slots
+-- they are below the number of names
+pub record AllNamed (names k : ℕ) (held : List ℕ) : Type 0 where
+  pub named : (j : ℕ) → j < k → get_or held j 0 < names
 
 -- an alias is held, if there is one
-pub record HeldAlias (k a : ℕ) (held held' : List ℕ) (r : ℕ) : Type 0 where
+pub record HeldAlias (k : ℕ) (alias : Option ℕ) (held held' : List ℕ) (r : ℕ) : Type 0 where
   pub kept : length held' ≡ length held
   pub more : r ≤ k + 1
-  pub same : aliases_in r held' ≡ aliases_in k held ++ alias_in (alias_of a)
-  pub named : (slots : ℕ) → AllNamed slots k held → a ≤ slots → AllNamed slots r held'
+  pub same : aliases_in r held' ≡ aliases_in k held ++ alias_in alias
+  pub named : (names : ℕ) → AllNamed names k held → ((x : ℕ) → alias ≡ Some x → x < names) → AllNamed names r held'
 
--- whether the word i of tab is the mark of one of the first k
-unfoldable pub is_mark : ℕ → ℕ → List ℕ → Bool
-is_mark i zero held = false
-is_mark i (suc k) held = eqb i (16 + get_or held k 0) || is_mark i k held
+-- whether x is one of the first k
+unfoldable pub is_marked : ℕ → ℕ → List ℕ → Bool
+is_marked x zero held = false
+is_marked x (suc k) held = eqb x (get_or held k 0) || is_marked x k held
 
 -- the marks of the first k are `to`, and all else is as before
-pub record Marked (to k : ℕ) (held tab tab' : List ℕ) : Type 0 where
-  pub kept : length tab' ≡ length tab
-  pub at : (i : ℕ) → get_or tab' i 0 ≡ cond (is_mark i k held) to (get_or tab i 0)
+pub record Marked (to k : ℕ) (held marks marks' : List ℕ) : Type 0 where
+  pub kept : length marks' ≡ length marks
+  pub at : (x : ℕ) → get_or marks' x 0 ≡ cond (is_marked x k held) to (get_or marks x 0)
 
 -- What is walked, in a mode.
-module _ (ws tab : List ℕ) (mode : ℕ) where
+module _ (c : Context) (mode : Mode) where
   -- projections of which nothing is held
   abbrev pub output_at : Goer
-  output_at id s r = bind (word_in 0 (suc (names_in tab)) r) (λ a r1. within (world_at ws tab id) (tables_in tab) (mode_of mode) general s r1)
+  output_at id s r = bind (word_in 0 (suc (names_in c)) r) (λ a r1. within (world_at c id) (tables_in c) mode general s r1)
 
   abbrev pub outputs_at : ℕ → Goer
   outputs_at n id = rounds n (output_at id)
@@ -49,11 +49,11 @@ module _ (ws tab : List ℕ) (mode : ℕ) where
 
   -- sort keys, in which these names are no use
   abbrev pub hushed_at : List ℕ → Goer
-  hushed_at xs id = hushed_row (world_at ws tab id) (tables_in tab) xs (mode_of mode)
+  hushed_at xs id = hushed_row (world_at c id) (tables_in c) xs mode
 
   -- n projections and sort keys; a count, and as many
   abbrev pub keyed_at : ℕ → Goer
-  keyed_at n id s r = bind (projections_go (world_at ws tab id) (tables_in tab) aliased (mode_of mode) n [] s r) (λ x r2. hushed_at x.1 id x.0 r2)
+  keyed_at n id s r = bind (projections_go (world_at c id) (tables_in c) aliased mode n [] s r) (λ x r2. hushed_at x.1 id x.0 r2)
 
   abbrev pub sorted_at : Goer
   sorted_at id s r = bind (any_word r) (λ n r1. keyed_at n id s r1)
@@ -65,4 +65,4 @@ module _ (ws tab : List ℕ) (mode : ℕ) where
 
   -- a RETURN with its span from a to b, sorted or not
   abbrev pub return_at : Bool → (a b : ℕ) → Goer
-  return_at sorts a b id = return_go (world_at ws tab id) (tables_in tab) (mode_of mode) a b sorts
+  return_at sorts a b id = return_go (world_at c id) (tables_in c) mode a b sorts

@@ -1,4 +1,5 @@
--- The turns of `restack`: an entry that is not the newest of its name is passed (`pass`), and one that is goes to the kept ones (`take`).
+-- The turns of `restack`: an entry that is not the newest of its name is passed (`pass`), and one that is goes to the kept ones (`take`);
+-- the loop's begin (`begin`) and end (`once-seens`, `once-tabled`).
 use Prim.Native.Nat.{ℕ, suc, ◌+◌, ◌*◌, ◌<◌, ◌≤◌}
 use native.Mathlib.Omega.{arith}
 use native.Mathlib.Numerals.{add-one}
@@ -10,8 +11,8 @@ use lib.Dec.{eqb, ltb}
 use lib.ListN.{length, get_or, set, length-set}
 use lib.Seq.{get_or-set_same, get_or-set_other}
 use borrow.Author.Tests.{ne_eqb, eq-eqb, eqb-true, eqb-false, ltb-true, ltb-false}
-use Rattle.semantics.specs.Resolve.{seen, pair}
-use Rattle.visible.specs.Visible.{place, name_at, seens, seen_once, newest, Tabled, Halfway, Turned, Restacked}
+use Rattle.semantics.specs.Resolve.{seen, pair, once}
+use Rattle.visible.specs.Visible.{place, name_at, seens, seen_once, newest, Tabled, Halfway, Turned}
 use Rattle.visible.proofs.Places.{Written, length-seens, place-le, seens-alike}
 use Rattle.visible.proofs.Once.{place-name, once-newest}
 
@@ -183,7 +184,7 @@ pub turn-stay : {n c i j : ℕ} {m : List ℕ} → i ≡ j → name_at n m i < n
     Turned n c m (set (set m (n + i * 4 + 2) c) (n + i * 4 + 3) 0) i j (j + 1)
 turn-stay {n} {c} {i} {j} {m} z h r e = rw (← z) (turn-take e (stay n i c m h r e))
 
--- the loop begins and ends
+-- the loop begins
 pub begin : {n top c : ℕ} {m : List ℕ} → Tabled n top m → Halfway n top c m m 0 0
 unfolding seens seen_once newest place
 begin {n} {top} {c} {m} w = record {
@@ -198,17 +199,14 @@ begin {n} {top} {c} {m} w = record {
   named = λ a h. absurd (omega arith);
 }
 
-pub restacked : {n top c i j : ℕ} {old m : List ℕ} → Tabled n top old → i ≡ top → Halfway n top c old m i j → Restacked n top c old m j
-restacked {n} {top} {c} {i} {j} {old} {m} w e g =
-    let f : Halfway n top c old m top j = rw e at g in
-    record {
-      same = f.same ∙ ap (seen_once c) (sym (once-newest n top old));
-      kept = f.kept;
-      tabled = record {
-        room = omega (arith, f.few, f.kept, w.room);
-        heads = λ x h. f.passed x h (place-le x n top old);
-        prevs = f.prevs;
-        named = f.named;
-      };
-      few = f.few;
-    }
+-- the kept entries are each name once, and the words hold them
+pub once-seens : {n top c j : ℕ} {old m : List ℕ} → Halfway n top c old m top j → seens n j m ≡ seen_once c (once (seens n top old))
+once-seens {n} {top} {c} {j} {old} f = f.same ∙ ap (seen_once c) (sym (once-newest n top old))
+
+pub once-tabled : {n top c j : ℕ} {old m : List ℕ} → Tabled n top old → Halfway n top c old m top j → Tabled n j m
+once-tabled {n} {top} {c} {j} {old} w f = record {
+  room = omega (arith, f.few, f.kept, w.room);
+  heads = λ x h. f.passed x h (place-le x n top old);
+  prevs = f.prevs;
+  named = f.named;
+}

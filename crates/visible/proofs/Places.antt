@@ -1,7 +1,7 @@
 -- Laws of the stack of visible names: where the newest entry of a name stands and what it tells (`told`), an entry as it is written
--- (`write`), one entry more (`bind-new`), and one less (`fall`).
+-- (`write`), one entry more (`more-seens`, `more-tabled`), and one less (`less-seens`, `less-tabled`).
 use Rattle.std.specs.Prelude.{Option, Some, None}
-use Prim.Native.Nat.{ℕ, zero, suc, ◌+◌, ◌-◌, ◌*◌, ◌<◌, ◌≤◌}
+use Prim.Native.Nat.{ℕ, zero, suc, ◌+◌, ◌*◌, ◌<◌, ◌≤◌}
 use native.Mathlib.Omega.{arith}
 use native.Mathlib.Numerals.{add-one}
 use mathlib.Core.Path.{◌≡◌, refl, ap, ◌∙◌}
@@ -13,7 +13,7 @@ use lib.ListN.{length, get_or, set, length-set}
 use lib.Seq.{get_or-set_same, get_or-set_other}
 use borrow.Author.Tests.{ne_eqb, eqb-true, eqb-false, ltb-true, ltb-false}
 use Rattle.semantics.specs.Resolve.{seen, lookup}
-use Rattle.visible.specs.Visible.{scope_of, answer, place, name_at, seens, Tabled, Bound, Cut}
+use Rattle.visible.specs.Visible.{scope_of, answer, place, name_at, seens, Tabled}
 
 pub length-seens : (n t : ℕ) (m : List ℕ) → length (seens n t m) ≡ t
 unfolding seens
@@ -139,13 +139,11 @@ module _ (n top x v c : ℕ) (old new : List ℕ) (w : Tabled n top old) (xn : x
           let z : i ≡ top = omega arith in
           rw (z, q.at0) xn
 
-  pub bound : Bound n top x v c old new (top + 1)
-  bound = record {
-    height = add-one top;
-    same = rw (add-one top) all;
-    kept = q.len;
-    tabled = rw (add-one top) (record { room = omega (arith, q.len); heads = heads; prevs = prevs; named = named });
-  }
+  pub more-seens : seens n (top + 1) new ≡ seen x v c ∷ seens n top old
+  more-seens = rw (add-one top) all
+
+  pub more-tabled : Tabled n (top + 1) new
+  more-tabled = rw (add-one top) (record { room = omega (arith, q.len); heads = heads; prevs = prevs; named = named })
 
 -- one entry less
 module _ (n t : ℕ) (old : List ℕ) (w : Tabled n (suc t) old) where
@@ -175,35 +173,6 @@ module _ (n t : ℕ) (old : List ℕ) (w : Tabled n (suc t) old) where
     prevs = λ i h. same_from _ (omega arith) ∙ w.prevs i (omega arith) ∙ rw (same_from (n + i * 4) (omega arith), less-seens i);
     named = λ i h. rw (same_from (n + i * 4) (omega arith)) (w.named i (omega arith));
   }
-
--- what the loop of `cut` keeps, and its turn
-pub record Falls (n height : ℕ) (old m : List ℕ) (t : ℕ) : Type 0 where
-  pub le : height ≤ t
-  pub same : seens n height m ≡ seens n height old
-  pub kept : length m ≡ length old
-  pub tabled : Tabled n t m
-
-pub fall : {n height t : ℕ} {old m : List ℕ} → Falls n height old m t → height < t →
-    Falls n height old (set m (name_at n m (t - 1)) (get_or m (n + (t - 1) * 4 + 3) 0)) (t - 1)
-fall {n} {height} {t} {old} {m} f h =
-    let z : t ≡ suc (t - 1) = omega arith in
-    let w : Tabled n (suc (t - 1)) m = rw (← z) f.tabled in
-    record {
-      le = omega arith;
-      same = less-seens n (t - 1) m w height ∙ f.same;
-      kept = length-set m _ _ ∙ f.kept;
-      tabled = less-tabled n (t - 1) m w;
-    }
-
--- what the code of `bind` writes
-pub bind-new : (n top x v c : ℕ) (m : List ℕ) → Tabled n top m → x < n → n + (top + 1) * 4 ≤ length m →
-    Bound n top x v c m (set (set (set (set (set m (n + top * 4) x) (n + top * 4 + 1) v) (n + top * 4 + 2) c) (n + top * 4 + 3) (get_or m x 0)) x (top + 1)) (top + 1)
-bind-new n top x v c m w h r = bound n top x v c m _ w h r (write n top x v c (get_or m x 0) m h r)
-
-pub fallen : {n height t : ℕ} {old m : List ℕ} → Falls n height old m t → t ≤ height → Cut n height old m t
-fallen {n} {height} {t} f h =
-    let z : t ≡ height = omega arith in
-    record { back = z; same = f.same; kept = f.kept; tabled = rw z at f.tabled }
 
 -- a head lies within the words
 pub near-head : {n top x : ℕ} {m : List ℕ} → Tabled n top m → x < n → n + get_or m x 0 * 4 ≤ length m

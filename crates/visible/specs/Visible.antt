@@ -1,6 +1,6 @@
 -- The list of visible names of the resolve walk, and how it stands in words.
 use Rattle.std.specs.Prelude.{ℕ, zero, suc, ◌+◌, ◌*◌, ◌<◌, ◌≤◌, ◌≡◌, Bool, false, cond, List, [], ◌∷◌, eqb, length, get_or, Option, None, Some}
-use Rattle.semantics.specs.Resolve.{Seen, seen, Pair, pair, once}
+use Rattle.semantics.specs.Resolve.{Seen, seen, Pair, pair}
 
 -- the scope of the newest binding of a name, whose variable is `lookup`'s
 unfoldable pub scope_of : ℕ → List Seen → ℕ
@@ -45,13 +45,10 @@ pub record Tabled (n top : ℕ) (m : List ℕ) : Type 0 where
   pub prevs : (i : ℕ) → i < top → get_or m (n + i * 4 + 3) 0 ≡ place (name_at n m i) (seens n i m)
   pub named : (i : ℕ) → i < top → name_at n m i < n
 
-
-
 -- pairs as entries of one scope
 unfoldable pub seen_once : ℕ → List Pair → List Seen
 seen_once c [] = []
 seen_once c (pair x v ∷ ps) = seen x v c ∷ seen_once c ps
-
 
 -- of the entries below i, those that are the newest of their name below the height top
 unfoldable pub newest : ℕ → ℕ → List ℕ → ℕ → List Pair

@@ -1,19 +1,23 @@
 -- What the walk over a WITH asks and leaves: what it has taken is carried by a barrier, and bound in a new Root.
-use Rattle.std.specs.Prelude.{ℕ, ◌+◌, ◌*◌, ◌<◌, ◌≤◌, ◌≡◌, Bool, cond, List, [], ◌∷◌, eqb, length, set}
+use Rattle.std.specs.Prelude.{ℕ, ◌+◌, ◌*◌, ◌<◌, ◌≤◌, ◌≡◌, Bool, true, false, cond, List, [], ◌∷◌, length}
 use Rattle.scope.specs.Graph.{root_scope}
+use Rattle.semantics.specs.World.{World}
 use Rattle.semantics.specs.Resolve.{Seen, seen, binds, State, Pair, pair, enter, standing, bind_all, barrier}
-use Rattle.fused.specs.Fused.{Both}
+use Rattle.fused.specs.Fused.{Both, Mode}
 use Rattle.fused.specs.Clauses.{all_of, with_go}
-use Rattle.visible.specs.Visible.{seens, Tabled, Restacked}
-use Rattle.steps.specs.Memory.{at_of, top_of, cur_of, held_of, made_of, taken_of, slots_in, tables_in, world_at, mode_of}
-use Rattle.steps.specs.Hold.{Binding, Fits, Fit, Holds, Left, on_names}
+use Rattle.visible.specs.Visible.{seens}
+use Rattle.visible.specs.Stack.{entries, Sound, Restacked}
+use Rattle.steps.specs.Memory.{tables_in, world_at}
+use Rattle.steps.specs.Hold.{Binding, Fits, Fit, Holds, Still, Left, on_names}
 use Rattle.walk.specs.Goes.{Goer}
-use Rattle.projection_walk.specs.Carries.{pairs_in, InNames, star_of, kept_of, taken_by}
+use Rattle.projection_walk.specs.Pairs.{pairs_in, pairs_of, InNames, kept_of, taken_by}
+use Rattle.steps.specs.declared.Walk.{Walk}
+use Rattle.steps.specs.declared.context.Context.{Context}
+use Rattle.projection_walk.specs.declared.pairs.Pairs.{Pairs}
 
 -- a new Root under the barrier, where the pairs are bound above what is seen of the names before
-abbrev pub rooted_on : (List Seen) → (ℕ → ℕ) → (ws tab : List ℕ) → (a b : ℕ) → List Pair → State → State
-rooted_on below id ws tab a b ps y =
-    let w = world_at ws tab id in
+abbrev pub rooted_on : (List Seen) → World → (a b : ℕ) → List Pair → State → State
+rooted_on below w a b ps y =
     let t = barrier w a b ps y in
     bind_all w ps (enter root_scope b b (standing below t.cur t))
 
@@ -21,17 +25,17 @@ rooted_on below id ws tab a b ps y =
 abbrev pub under_star : Bool → List Seen → List Seen
 under_star star l = cond star [] l
 
+-- the first `top` names that are visible
+abbrev pub first_seen : ℕ → Walk → List Seen
+first_seen top w = seens w.visible.names top w.visible.words.now
+
 -- What a WITH leaves: of the names before it the first `top` are seen below the pairs, or each of them is carried by a star.
-pub record Rebinds (ws tab m vis found held m' vis' found' : List ℕ) (a b top : ℕ) : Type 0 where
-  pub at : at_of m' ≡ at_of m
-  pub sized : length m' ≡ length m
-  pub seen : length vis' ≡ length vis
-  pub wrote : length found' ≡ length found
-  pub pairs : held_of m' ≡ held_of m
-  pub star : star_of m' ≡ star_of m
-  pub fit : (k : ℕ) → Fit (2 + k + kept_of m) ws tab m vis found → slots_in tab + (top + held_of m) + k ≤ at_of m → Fit k ws tab m' vis' found'
-  pub goes : (id : ℕ → ℕ) (s : Both) → Holds id tab m vis found s →
-      Holds id tab m' vis' found' (on_names (rooted_on (under_star (eqb (star_of m) 1) (seens (slots_in tab) top vis)) id ws tab a b (all_of (taken_by m held) (seens (slots_in tab) top vis))) s)
+pub record Rebinds (c : Context) (p : Pairs) (w w' : Walk) (a b top : ℕ) : Type 0 where
+  pub at : w'.at ≡ w.at
+  pub still : Still w w'
+  pub fit : (k : ℕ) → Fit (2 + k + kept_of p) c w → w.visible.names + (top + p.count) + k ≤ w.at → Fit k c w'
+  pub goes : (id : ℕ → ℕ) (s : Both) → Holds id c w s →
+      Holds id c w' (on_names (rooted_on (under_star p.star (first_seen top w)) (world_at c id) a b (all_of (taken_by p) (first_seen top w))) s)
 
 -- pairs are seen in the current scope, without an event
 abbrev pub seen_by : List Pair → State → State
@@ -43,71 +47,72 @@ unfoldable pub firsts : ℕ → List Pair → List Seen → ℕ
 firsts c [] l = 0
 firsts c (pair x v ∷ ps) l = cond (binds c x l) 0 1 + firsts c ps (seen x v c ∷ l)
 
-pub record SeesAll (n : ℕ) (ws tab m vis found held m' vis' : List ℕ) : Type 0 where
-  pub at : at_of m' ≡ at_of m
-  pub sized : length m' ≡ length m
-  pub seen : length vis' ≡ length vis
-  pub pairs : held_of m' ≡ held_of m
-  pub star : star_of m' ≡ star_of m
-  pub made : made_of m' ≡ made_of m
-  pub taken : taken_of m' ≡ taken_of m
-  pub fit : (i k : ℕ) → Fits i k ws tab m vis found → slots_in tab + (top_of m + n) + k ≤ at_of m + 1 → Fits i k ws tab m' vis' found
-  pub goes : (id : ℕ → ℕ) (s : Both) → Holds id tab m vis found s → Holds id tab m' vis' found (on_names (seen_by (pairs_in n held)) s)
+-- the first n pairs are seen
+pub record SeesAll (n : ℕ) (p : Pairs) (c : Context) (w w' : Walk) : Type 0 where
+  pub fit : (i k : ℕ) → Fits i k c w → w.visible.names + (w.visible.top + n) + k ≤ w.at + 1 → Fits i k c w'
+  pub goes : (id : ℕ → ℕ) (s : Both) → Holds id c w s → Holds id c w' (on_names (seen_by (pairs_in n p.words.now)) s)
 
--- the same, and r of them are first
-pub record Sees (n : ℕ) (tab m vis held m' vis' : List ℕ) (r : ℕ) : Type 0 where
-  pub first : r ≡ firsts (cur_of m) (pairs_in n held) (seens (slots_in tab) (top_of m) vis)
+-- they are, beside which nothing changes but what is visible, and r of them are first
+pub record SeesFirst (n : ℕ) (p : Pairs) (w w' : Walk) (r : ℕ) : Type 0 where
+  pub still : Still w w'
+  pub same : w' ≡ record w { visible = w'.visible }
+  pub first : r ≡ firsts w.cur (pairs_in n p.words.now) (entries w.visible)
   pub few : r ≤ n
-  pub all : (ws found : List ℕ) → SeesAll n ws tab m vis found held m' vis'
+  pub all : (c : Context) → SeesAll n p c w w'
+
+abbrev pub Sees : Pairs → (w w' : Walk) → ℕ → Type 0
+Sees p = SeesFirst p.count p
 
 -- what seeing them asks: their names have places, and the stack has room
-pub record SeesIn (tab m vis held : List ℕ) : Type 0 where
-  pub binding : Binding tab m vis
-  pub wide : held_of m * 2 ≤ length held
-  pub named : InNames (slots_in tab) (pairs_in (held_of m) held)
-  pub few : top_of m + held_of m < 4294967296
-  pub room : slots_in tab + (top_of m + held_of m) * 4 ≤ length vis
+pub record SeesIn (w : Walk) (p : Pairs) : Type 0 where
+  pub binding : Binding w
+  pub wide : p.count * 2 ≤ length p.words.now
+  pub named : InNames w.visible.names (pairs_of p)
+  pub few : w.visible.top + p.count < 4294967296
+  pub room : w.visible.names + (w.visible.top + p.count) * 4 ≤ length w.visible.words.now
 
 -- where there is a star, each name that is seen is seen once, in the current scope: r of them
-pub record Spreads (tab m vis m' vis' : List ℕ) (r : ℕ) : Type 0 where
-  pub yes : star_of m ≡ 1 → (m' ≡ set m 1 r) × Restacked (slots_in tab) (top_of m) (cur_of m) vis vis' r
-  pub no : (star_of m ≡ 1 → ⊥) → (m' ≡ m) × ((vis' ≡ vis) × (r ≡ 0))
+pub record Spreads (star : Bool) (w w' : Walk) (r : ℕ) : Type 0 where
+  pub same : w' ≡ record w { visible = w'.visible }
+  pub yes : star ≡ true → (r ≡ w'.visible.top) × Restacked w.cur w.visible w'.visible
+  pub no : star ≡ false → (w' ≡ w) × (r ≡ 0)
 
--- how many of the names before are still seen: all, where a star carries them, or `top`
-pub record SeenOf (m : List ℕ) (before top r : ℕ) : Type 0 where
-  pub is : r ≡ cond (eqb (star_of m) 1) before top
+-- what was carried and bound is counted: the counts have room for it
+pub record Countable (held star first : ℕ) (w : Walk) : Type 0 where
+  pub taken : w.taken + (star + held) < 4294967296
+  pub made : w.made + (star + first) < 4294967296
+
+pub record CountsPairs (held star first : ℕ) (w w' : Walk) : Type 0 where
+  pub same : w' ≡ record w { taken = w.taken + (star + held); made = w.made + (star + first) }
 
 -- what binding above the first `top` names asks
-pub record BindsIn (top : ℕ) (tab m held : List ℕ) : Type 0 where
-  pub wide : held_of m * 2 ≤ length held
-  pub named : InNames (slots_in tab) (pairs_in (held_of m) held)
-  pub low : top ≤ top_of m
-  pub room : slots_in tab + (top + held_of m) ≤ at_of m
+pub record BindsIn (top : ℕ) (w : Walk) (p : Pairs) : Type 0 where
+  pub wide : p.count * 2 ≤ length p.words.now
+  pub named : InNames w.visible.names (pairs_of p)
+  pub low : top ≤ w.visible.top
+  pub room : w.visible.names + (top + p.count) ≤ w.at
 
 -- what seeing the pairs alone again asks: the stack is above a height, and there is room for the pairs
-pub record SeesAgainIn (height : ℕ) (tab m vis held : List ℕ) : Type 0 where
-  pub long : 10 ≤ length tab
-  pub size : length m ≡ 64
-  pub tabled : Tabled (slots_in tab) (top_of m) vis
-  pub low : height ≤ top_of m
-  pub wide : held_of m * 2 ≤ length held
-  pub named : InNames (slots_in tab) (pairs_in (held_of m) held)
-  pub few : held_of m < 4294967296
-  pub room : slots_in tab + held_of m * 4 ≤ length vis
+pub record SeesAgainIn (height : ℕ) (w : Walk) (p : Pairs) : Type 0 where
+  pub sound : Sound w.visible
+  pub low : height ≤ w.visible.top
+  pub wide : p.count * 2 ≤ length p.words.now
+  pub named : InNames w.visible.names (pairs_of p)
+  pub few : p.count < 4294967296
+  pub room : w.visible.names + p.count * 4 ≤ length w.visible.words.now
 
 -- with a star what is seen up to the height is all of it; else the pairs are seen above nothing
-pub record Again (root : ℕ) (tab m vis held m' vis' : List ℕ) : Type 0 where
-  pub numbers : List ℕ
-  pub names : List ℕ
+pub record Again (p : Pairs) (root : ℕ) (w w' : Walk) : Type 0 where
+  pub between : Walk
   pub count : ℕ
-  pub left : Left tab m vis numbers names 0 root
-  pub sees : Sees (held_of numbers) tab numbers names held m' vis' count
+  pub left : Left w between 0 root
+  pub sees : Sees p between w' count
 
-pub record SeesAgain (height root : ℕ) (tab m vis held m' vis' : List ℕ) : Type 0 where
-  pub yes : star_of m ≡ 1 → Left tab m vis m' vis' height root
-  pub no : (star_of m ≡ 1 → ⊥) → Again root tab m vis held m' vis'
+pub record SeesAgain (p : Pairs) (height root : ℕ) (w w' : Walk) : Type 0 where
+  pub yes : p.star ≡ true → Left w w' height root
+  pub no : p.star ≡ false → Again p root w w'
 
 -- a WITH from a to b in a mode, sorted or not
-module _ (ws tab : List ℕ) (mode : ℕ) where
+module _ (c : Context) (mode : Mode) where
   abbrev pub with_at : Bool → (a b : ℕ) → Goer
-  with_at sorts a b id = with_go (world_at ws tab id) (tables_in tab) (mode_of mode) a b sorts
+  with_at sorts a b id = with_go (world_at c id) (tables_in c) mode a b sorts

@@ -3,177 +3,142 @@
 // is carried and bound: it is counted.
 #![tactic(auto)]
 
-ghost use Rattle.std.specs.Prelude.{◌≡◌, true, false, cond, ℕ, ◌+◌, ◌<◌, ◌≤◌, length, set};
-ghost use Rattle.words.specs.Words.{words};
+ghost use Rattle.std.specs.Prelude.{◌≡◌, true, false, cond, ℕ, ◌+◌, ◌<◌, ◌≤◌, length};
 ghost use Rattle.semantics.specs.Resolve.{binds};
-ghost use Rattle.visible.specs.Visible.{seens};
-ghost use Rattle.steps.specs.Memory.{top_of, cur_of, held_of, made_of, taken_of, slots_in};
+ghost use Rattle.visible.specs.Stack.{entries};
+ghost use Rattle.steps.specs.Modes.{mode_of};
 ghost use Rattle.steps.specs.Hold.{Binding, Ready};
 ghost use Rattle.clause_parts.specs.Passes.{Held, Passes};
-ghost use Rattle.projection_walk.specs.Carries.{kept_of};
-ghost use Rattle.with_walk.specs.Binds.{Rebinds, Sees, SeesIn, Spreads, SeenOf, BindsIn, SeesAgainIn, SeesAgain, with_at};
+ghost use Rattle.projection_walk.specs.Pairs.{kept_of};
+ghost use Rattle.with_walk.specs.Binds.{Rebinds, Sees, SeesIn, Spreads, CountsPairs, Countable, BindsIn, SeesAgainIn, SeesAgain, with_at};
 
 use clause_parts::{Head, walk_counted};
-use projection_walk::{STARRED, walk_filtered};
-use steps::{CUR, HELD, MADE, SLOTS, TAKEN, TOP, enter, is_again, leave};
-use visible::{bind, restack};
+use projection_walk::{Pairs, walk_filtered};
+use refusal::Refusal;
+use steps::{Context, Mode, Walk};
 
 // 1 where the current scope doesn't bind x yet, else 0.
-fn first_of(tab: &[u32], m: &[u32], vis: &[u32], x: u32) -> u32
-    requires { Binding tab.now m.now vis.now }
-    ensures { (result ≤ 1) × (result ≡ cond (binds (cur_of m.now) x (seens (slots_in tab.now) (top_of m.now) vis.now)) 0 1) }
+fn first_of(walk: &Walk, x: u32) -> u32
+    requires { Binding walk.now }
+    ensures { (result ≤ 1) × (result ≡ cond (binds walk.now.cur x (entries walk.now.visible)) 0 1) }
 {
-    if is_again(tab, m, vis, x) {
+    if walk.is_again(x) {
         return 0;
     }
     1
 }
 
 // The pairs that are held are seen in the current scope, without an event; how many of them are the first of their name there.
-fn see_pairs(tab: &[u32], m: &mut [u32], vis: &mut [u32], held: &[u32]) -> u32
-    requires { SeesIn tab.now m.old vis.old held.now }
-    ensures { Sees (held_of m.old) tab.now m.old vis.old held.now m.new vis.new result }
+fn see_pairs(walk: &mut Walk, pairs: &Pairs) -> u32
+    requires { SeesIn walk.old pairs.now }
+    ensures { Sees pairs.now walk.old walk.new result }
 {
-    let n = m[HELD] as usize;
-    let cur = m[CUR];
-    let mut i = 0;
     let mut made = 0;
-    while i < n {
-        let k = i * 2;
-        let x = held[k];
-        made += first_of(tab, m, vis, x);
-        let t = bind(vis, tab[SLOTS], m[TOP], x, held[k + 1], cur);
-        m[TOP] = t;
-        i += 1;
+    for i in 0..pairs.count as usize {
+        let x = pairs.words[i * 2];
+        made += first_of(walk, x);
+        let cur = walk.cur;
+        walk.visible.bind(x, pairs.words[i * 2 + 1], cur);
     }
     made
 }
 
 // Where there is a star, each name that is seen is seen once, in the current scope; how many.
-fn spread(tab: &[u32], m: &mut [u32], vis: &mut [u32]) -> u32
-    requires { Binding tab.now m.old vis.old }
-    ensures { Spreads tab.now m.old vis.old m.new vis.new result }
+fn spread(walk: &mut Walk, star: bool) -> u32
+    requires { Binding walk.old }
+    ensures { Spreads star walk.old walk.new result }
 {
-    if m[STARRED] == 1 {
-        let k = restack(vis, tab[SLOTS], m[TOP], m[CUR]);
-        m[TOP] = k;
-        return k;
+    if star {
+        let cur = walk.cur;
+        walk.visible.restack(cur);
+        return walk.visible.top;
     }
     0
 }
 
 // As many names more are carried as a star has and are held, and as many bindings made as a star has and are first.
-fn count_pairs(m: &mut [u32], star: u32, first: u32)
-    requires { (length m.old ≡ 64) × ((taken_of m.old + (star + held_of m.old) < 4294967296) × (made_of m.old + (star + first) < 4294967296)) }
-    ensures { m.new ≡ set (set m.old 9 (taken_of m.old + (star + held_of m.old))) 8 (made_of m.old + (star + first)) }
+fn count_pairs(walk: &mut Walk, held: u32, star: u32, first: u32)
+    requires { Countable held star first walk.old }
+    ensures { CountsPairs held star first walk.old walk.new }
 {
-    let n = m[TAKEN] + (star + m[HELD]);
-    let k = m[MADE] + (star + first);
-    m[TAKEN] = n;
-    m[MADE] = k;
+    walk.taken += star + held;
+    walk.made += star + first;
 }
 
 // What was taken is carried by a barrier, and bound in a new Root above the first `top` names that are visible, or with a star in their place.
-fn bind_with(
-    s: &[u8],
-    tab: &[u32],
-    m: &mut [u32],
-    vis: &mut [u32],
-    found: &mut [u32],
-    held: &[u32],
-    head: Head,
-    top: u32,
-)
-    requires { BindsIn top tab.now m.old held.now × Ready (2 + kept_of m.old) (words s.now) tab.now m.old vis.old found.old }
-    ensures { Rebinds (words s.now) tab.now m.old vis.old found.old held.now m.new vis.new found.new head.start head.end top }
+fn bind_with(walk: &mut Walk, context: &Context, pairs: &Pairs, head: Head, top: u32)
+    requires { BindsIn top walk.old pairs.now × Ready (2 + kept_of pairs.now) context.now walk.old }
+    ensures { Rebinds context.now pairs.now walk.old walk.new head.start head.end top }
 {
-    enter(s, tab, m, vis, found, 7, head.start, head.end);
-    enter(s, tab, m, vis, found, 1, head.end, head.end);
-    let root = m[CUR];
-    leave(tab, m, vis, top, root);
-    let star = spread(tab, m, vis);
-    let first = see_pairs(tab, m, vis, held);
-    count_pairs(m, star, first);
-}
-
-// How many of the names before are still seen: those a star carries, or the first `top`.
-fn seen_of(m: &[u32], before: u32, top: u32) -> u32
-    requires { length m.now ≡ 64 }
-    ensures { SeenOf m.now before top result }
-{
-    if m[STARRED] == 1 {
-        return before;
-    }
-    top
+    walk.enter(context, 7, head.start, head.end);
+    walk.enter(context, 1, head.end, head.end);
+    let root = walk.cur;
+    walk.leave(top, root);
+    let star = spread(walk, pairs.star);
+    let first = see_pairs(walk, pairs);
+    count_pairs(walk, pairs.count, star, first);
 }
 
 // WITH.
 pub fn walk_with(
-    s: &[u8],
-    tab: &[u32],
-    m: &mut [u32],
-    vis: &mut [u32],
-    found: &mut [u32],
+    walk: &mut Walk,
+    context: &Context,
     held: &mut [u32],
     head: Head,
-    mode: u32,
-) -> u32
-    requires { Held (words s.now) tab.now held.old mode × (Ready 3 (words s.now) tab.now m.old vis.old found.old) }
-    ensures { Passes 3 (words s.now) tab.now m.old vis.old found.old held.old m.new vis.new found.new held.new (with_at (words s.now) tab.now mode false head.start head.end) result }
+    mode: Mode,
+) -> Result<(), Refusal>
+    requires { Held context.now held.old (mode_of mode) × Ready 3 context.now walk.old }
+    ensures kept { length held.new ≡ length held.old }
+    ensures passes { Passes 3 context.now walk.old walk.new (with_at context.now (mode_of mode) false head.start head.end) result }
 {
-    let before = m[TOP];
-    m[HELD] = 0;
-    m[STARRED] = 0;
-    let r = walk_filtered(s, tab, m, vis, found, held, mode);
-    if r != 0 {
-        return r;
-    }
-    let top = seen_of(m, before, 0);
-    bind_with(s, tab, m, vis, found, held, head, top);
-    0
+    let before = walk.visible.top;
+    let mut pairs = Pairs {
+        words: held,
+        count: 0,
+        star: false,
+    };
+    walk_filtered(walk, context, &mut pairs, mode)?;
+    let top = if pairs.star { before } else { 0 };
+    bind_with(walk, context, &pairs, head, top);
+    Ok(())
 }
 
 // After the keys the pairs alone are seen: those of a star are still there, and the others too.
-fn see_again(tab: &[u32], m: &mut [u32], vis: &mut [u32], held: &[u32], height: u32, root: u32)
-    requires { SeesAgainIn height tab.now m.old vis.old held.now }
-    ensures { SeesAgain height root tab.now m.old vis.old held.now m.new vis.new }
+fn see_again(walk: &mut Walk, pairs: &Pairs, height: u32, root: u32)
+    requires { SeesAgainIn height walk.old pairs.now }
+    ensures { SeesAgain pairs.now height root walk.old walk.new }
 {
-    if m[STARRED] == 1 {
-        leave(tab, m, vis, height, root);
+    if pairs.star {
+        walk.leave(height, root);
         return;
     }
-    leave(tab, m, vis, 0, root);
-    see_pairs(tab, m, vis, held);
+    walk.leave(0, root);
+    see_pairs(walk, pairs);
 }
 
 // WITH and sort keys, which see the pairs in the new Root, and below them the names before, unless a star carries these.
 pub fn walk_sorted_with(
-    s: &[u8],
-    tab: &[u32],
-    m: &mut [u32],
-    vis: &mut [u32],
-    found: &mut [u32],
+    walk: &mut Walk,
+    context: &Context,
     held: &mut [u32],
     head: Head,
-    mode: u32,
-) -> u32
-    requires { Held (words s.now) tab.now held.old mode × (Ready 3 (words s.now) tab.now m.old vis.old found.old) }
-    ensures { Passes 3 (words s.now) tab.now m.old vis.old found.old held.old m.new vis.new found.new held.new (with_at (words s.now) tab.now mode true head.start head.end) result }
+    mode: Mode,
+) -> Result<(), Refusal>
+    requires { Held context.now held.old (mode_of mode) × Ready 3 context.now walk.old }
+    ensures kept { length held.new ≡ length held.old }
+    ensures passes { Passes 3 context.now walk.old walk.new (with_at context.now (mode_of mode) true head.start head.end) result }
 {
-    let top = m[TOP];
-    m[HELD] = 0;
-    m[STARRED] = 0;
-    let r = walk_filtered(s, tab, m, vis, found, held, mode);
-    if r != 0 {
-        return r;
-    }
-    bind_with(s, tab, m, vis, found, held, head, top);
-    let root = m[CUR];
-    let height = m[TOP];
-    let q = walk_counted(s, tab, m, vis, found, mode);
-    if q != 0 {
-        return q;
-    }
-    see_again(tab, m, vis, held, height, root);
-    0
+    let top = walk.visible.top;
+    let mut pairs = Pairs {
+        words: held,
+        count: 0,
+        star: false,
+    };
+    walk_filtered(walk, context, &mut pairs, mode)?;
+    bind_with(walk, context, &pairs, head, top);
+    let root = walk.cur;
+    let height = walk.visible.top;
+    walk_counted(walk, context, mode)?;
+    see_again(walk, &pairs, height, root);
+    Ok(())
 }

@@ -20,7 +20,7 @@ loop-i-init c =
 pub returns-then-is_some : goal.returns-then-is_some
 returns-then-is_some c =
     let repeated = rw (← c.is_some.ensures, c.if-is_some.true) at (turn _ _ _ _ _ _ c.requires.0 c.loop-i-test.true c.variable-variable.ensures c.find.ensures) in
-    record { same = sym (c.loop-i.invariant.same ∙ repeated); kept = c.loop-i.auto.tab; hung = λ q. absurd (false≢true q) }
+    record { same = sym (c.loop-i.invariant.same ∙ repeated); kept = c.loop-i.auto.chains; hung = λ q. absurd (false≢true q) }
 
 pub loop-i-preserved : goal.loop-i-preserved
 loop-i-preserved c =
@@ -29,5 +29,5 @@ loop-i-preserved c =
 
 pub returns : goal.returns
 returns c =
-    let all : c.loop-i.i ≡ c.args.n = omega arith in
-    record { same = sym (c.loop-i.invariant.same ∙ fresh-none _ _ _ c.requires.0 _ c.loop-i-test.false); kept = c.loop-i.auto.tab; hung = λ q. rw all at c.loop-i.invariant.hung }
+    let all : c.loop-i.i ≡ c.args.self.now.count = omega arith in
+    record { same = sym (c.loop-i.invariant.same ∙ fresh-none _ _ _ c.requires.0 _ c.loop-i-test.false); kept = c.loop-i.auto.chains; hung = λ q. rw all at c.loop-i.invariant.hung }
