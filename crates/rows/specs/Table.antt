@@ -12,14 +12,20 @@ use Rattle.rows.specs.declared.Rows.{Rows}
 abbrev pub HungBy : Index → (ws chains : List ℕ) → Type 0
 HungBy x ws chains = Hung x.mult x.shift x.count (id_at ws x.first) chains
 
--- the row of a variable
-abbrev pub row_in : Rows → ℕ → Option Row
-row_in r v = row_told (words r.bytes.now) r.index.first (seek (id_at (words r.bytes.now) r.index.first) v r.index.count)
+-- the row of a variable among the rows of an index, in these words
+abbrev pub row_by : Index → List ℕ → ℕ → Option Row
+row_by x ws v = row_told ws x.first (seek (id_at ws x.first) v x.count)
 
--- the rows stand in the words, and hang in the chains
-pub record Standing (r : Rows) : Type 0 where
-  pub within : r.index.first + r.index.count * 5 ≤ length (words r.bytes.now)
-  pub hung : HungBy r.index (words r.bytes.now) r.chains.now
+abbrev pub row_in : Rows → ℕ → Option Row
+row_in r v = row_by r.index (words r.bytes.now) v
+
+-- the rows of an index stand in the words, and hang in the chains
+pub record Stands (x : Index) (ws chains : List ℕ) : Type 0 where
+  pub within : x.first + x.count * 5 ≤ length ws
+  pub hung : HungBy x ws chains
+
+abbrev pub Standing : Rows → Type 0
+Standing r = Stands r.index (words r.bytes.now) r.chains.now
 
 -- all rows are looked at: whether their variables are distinct, and if so they are all hung up
 pub record Indexed (x : Index) (ws old new : List ℕ) (r : Bool) : Type 0 where

@@ -4,91 +4,56 @@
 mod reading;
 mod walking;
 
-ghost use Rattle.std.specs.Prelude.{◌≡◌, ◌≤◌, length};
+ghost use Rattle.std.specs.Prelude.{◌≡◌, length};
 ghost use Rattle.words.specs.Words.{words};
-ghost use Rattle.refusal.specs.Number.{number_of};
-ghost use Rattle.sheet_walk.specs.Runs.{Scratch, Sized, Runs};
-ghost use Rattle.sheet_walk.specs.Parts.{Lent, Unseen, RanBoth};
+ghost use Rattle.sheet_walk.specs.Runs.{Clean, Still, Runs};
 
-use reading::read_tables;
+use reading::{context_of, read_tables};
 use refusal::Refusal;
-use sheet::{Places, find_places};
-use steps::{MADE, SAID, TAKEN, TOLD};
-use walking::walk_both;
+use rows::Index;
+use sheet::find_places;
+use steps::Walk;
+use walking::walk_all;
 
-// How many events and findings of the name walk, how many findings of the kind walk, how many bindings were made and how many names carried.
+// What is asked for: warnings, and every event and not findings alone.
 #[derive(Clone, Copy, Debug, PartialEq, Eq)]
-pub struct Totals {
-    pub said: u32,
-    pub told: u32,
-    pub made: u32,
-    pub taken: u32,
+pub struct Choice {
+    pub warns: bool,
+    pub wants: bool,
 }
 
-// The refusal with the number that the walks answer.
-fn refusal_with(cause: u32) -> Refusal
-    requires { (1 ≤ cause) × (cause ≤ 7) }
-    ensures { number_of result ≡ cause }
-{
-    match cause {
-        1 => Refusal::Size,
-        2 => Refusal::Places,
-        3 => Refusal::Names,
-        4 => Refusal::Bindings,
-        5 => Refusal::Word,
-        6 => Refusal::Depth,
-        _ => Refusal::Unbound,
-    }
+// The words that a run works in. After it `places` and `ids` have where each name stands and its use id, `chains` the rows of the bindings, and
+// the walk what was found, and how many bindings were made and names carried.
+#[derive(Drop)]
+pub struct Scratch<'a> {
+    pub places: &'a mut [u32],
+    pub ids: &'a mut [u32],
+    pub chains: &'a mut [u32],
+    pub marks: &'a mut [u32],
+    pub held: &'a mut [u32],
+    pub walk: Walk<'a>,
 }
 
-// The head and the arms, with the walks' own numbers; a refusal is the number that the walks answer.
-fn walk_all(
-    s: &[u8],
-    p: Places,
-    tab: &mut [u32],
-    vis: &mut [u32],
-    found: &mut [u32],
-    held: &mut [u32],
-    carried: &mut [u32],
-) -> Result<Totals, u32>
-    requires { Lent s.now p tab.old vis.old found.old held.old × Unseen vis.old }
-    ensures { (tab.new ≡ tab.old) × RanBoth s.now p tab.old vis.old found.old held.old carried.old vis.new found.new held.new carried.new result }
-{
-    let mut numbers = [0u32; 64];
-    let m: &mut [u32] = &mut numbers;
-    let r = walk_both(s, p, tab, m, vis, found, held, carried);
-    if r != 0 {
-        return Err(r);
-    }
-    Ok(Totals {
-        said: m[SAID],
-        told: m[TOLD],
-        made: m[MADE],
-        taken: m[TAKEN],
-    })
-}
-
-// The whole sheet. The lent words are scratch, but for the places of the names, their use ids, what was found, and the carried list, which has
-// what is carried where it has room for it.
+// The whole sheet: where its bindings stand, and how they hang. The carried list has what is carried where it has room for it.
 pub fn run(
     s: &[u8],
-    choice: u32,
-    places: &mut [u32],
-    ids: &mut [u32],
-    tab: &mut [u32],
-    vis: &mut [u32],
-    found: &mut [u32],
-    held: &mut [u32],
+    choice: Choice,
+    scratch: &mut Scratch,
     carried: &mut [u32],
-) -> Result<Totals, Refusal>
-    requires { Scratch (length (words s.now)) places.old ids.old tab.old vis.old found.old held.old }
-    ensures sized { Sized places.old ids.old tab.old vis.old found.old held.old places.new ids.new tab.new vis.new found.new held.new }
-    ensures runs { Runs choice s.now places.new ids.new tab.new found.new carried.old carried.new result }
+) -> Result<Index, Refusal>
+    requires { Clean (length (words s.now)) scratch.old }
+    ensures still { Still scratch.old scratch.new }
+    ensures lent { length carried.new ≡ length carried.old }
+    ensures runs { Runs choice s.now scratch.new carried.old carried.new result }
 {
     let p = find_places(s)?;
-    read_tables(s, p, choice, places, ids, tab, held)?;
-    match walk_all(s, p, tab, vis, found, held, carried) {
-        Ok(run) => Ok(run),
-        Err(cause) => Err(refusal_with(cause)),
-    }
+    let places = &mut *scratch.places;
+    let ids = &mut *scratch.ids;
+    let chains = &mut *scratch.chains;
+    let marks = &mut *scratch.marks;
+    let held = &mut *scratch.held;
+    let index = read_tables(s, p, places, ids, chains, held)?;
+    let context = context_of(s, p, choice, index, places, ids, chains);
+    walk_all(&mut scratch.walk, &context, p, held, marks, carried)?;
+    Ok(index)
 }

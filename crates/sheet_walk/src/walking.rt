@@ -1,113 +1,113 @@
 // The head and the arms of a sheet, each walked to its end. Causes 5 to 7.
-ghost use Rattle.std.specs.Prelude.{◌≡◌, length};
+ghost use Rattle.std.specs.Prelude.{◌≡◌, ◌*◌, ◌≤◌, length};
 ghost use Rattle.words.specs.Words.{words};
-ghost use Rattle.sheet_walk.specs.Parts.{Set, Wide, Lent, Fresh, Stands, Begins, Walks, head_in, arms_in, WalksBoth};
+ghost use Rattle.sheet_walk.specs.Parts.{CutTo, Lent, Begins, Beginning, Standing, Walks, head_in, arms_in, WalksAll};
 
 use arm_walk::{walk_arms, walk_clauses};
+use heads::Section;
+use refusal::Refusal;
 use sheet::Places;
-use steps::{AT, LOST, say_wanted};
+use steps::{Context, Mode, Walk};
+
+// The same over the words before `to`.
+fn cut<'a>(context: &Context<'a>, to: usize) -> Context<'a>
+    requires { to * 4 ≤ length context.now.section.bytes.now }
+    ensures { CutTo to context.now result }
+{
+    Context {
+        section: Section {
+            bytes: &context.section.bytes[..to * 4],
+            ..context.section
+        },
+        ..*context
+    }
+}
 
 // The walks begin at the head, with the Root where every event is wanted.
-fn begin(s: &[u8], p: Places, tab: &[u32], m: &mut [u32], vis: &[u32], found: &mut [u32])
-    requires { (Set s.now p tab.now × Wide (length (words s.now)) vis.now found.old) × Fresh m.old vis.now }
-    ensures { Begins s.now p tab.now vis.now found.old m.new found.new }
+fn begin(walk: &mut Walk, context: &Context, p: Places)
+    requires { Beginning p context.now walk.old }
+    ensures { Begins p context.now walk.old walk.new }
 {
-    m[AT] = p.head as u32;
-    say_wanted(tab, m, found, 1, 1, 0, p.start, p.end);
+    walk.at = p.head;
+    walk.visible.names = p.names.max(1);
+    walk.visible.top = 0;
+    walk.cur = 0;
+    walk.last = 0;
+    walk.log.said = 0;
+    walk.log.told = 0;
+    walk.known = true;
+    walk.made = 0;
+    walk.taken = 0;
+    walk.say_wanted(context, [1, 1, 0, p.start, p.end, 0]);
 }
 
-// The head: 0, or the refusal's number. `tab` is then as it was.
+// The head.
 fn walk_head(
-    s: &[u8],
+    walk: &mut Walk,
+    context: &Context,
     p: Places,
-    tab: &mut [u32],
-    m: &mut [u32],
-    vis: &mut [u32],
-    found: &mut [u32],
     held: &mut [u32],
+    marks: &mut [u32],
     carried: &mut [u32],
-) -> u32
-    requires { Lent s.now p tab.old vis.old found.old held.old × Stands (words s.now) tab.old m.old vis.old found.old p.head p.tail }
-    ensures { (tab.new ≡ tab.old) × Walks (words s.now) tab.old m.old vis.old found.old held.old carried.old m.new vis.new found.new held.new carried.new p.tail (head_in (words s.now) p tab.old) result }
+) -> Result<(), Refusal>
+    requires { Lent p context.now held.old marks.old × Standing p.head p.tail context.now walk.old }
+    ensures same { marks.new ≡ marks.old }
+    ensures kept { length held.new ≡ length held.old }
+    ensures walks { Walks context.now p.tail walk.old carried.old walk.new carried.new (head_in p context.now) result }
 {
-    let r = walk_clauses(
-        &s[..p.tail * 4],
-        tab,
-        m,
-        vis,
-        found,
-        held,
-        carried,
-        p.clauses,
-        192,
-    );
-    if r != 0 {
-        return r;
+    let section = cut(context, p.tail);
+    let mode = Mode {
+        resolves: true,
+        checks: true,
+    };
+    walk_clauses(walk, &section, held, marks, carried, p.clauses, mode)?;
+    if walk.at < p.tail {
+        return Err(Refusal::Word);
     }
-    if (m[AT] as usize) < p.tail {
-        return 5;
-    }
-    0
+    Ok(())
 }
 
-// The arms: 0, or the refusal's number. `tab` is then as it was.
+// The arms.
 fn walk_tail(
-    s: &[u8],
+    walk: &mut Walk,
+    context: &Context,
     p: Places,
-    tab: &mut [u32],
-    m: &mut [u32],
-    vis: &mut [u32],
-    found: &mut [u32],
     held: &mut [u32],
+    marks: &mut [u32],
     carried: &mut [u32],
-) -> u32
-    requires { Lent s.now p tab.old vis.old found.old held.old × Stands (words s.now) tab.old m.old vis.old found.old p.tail p.trailer }
-    ensures { (tab.new ≡ tab.old) × Walks (words s.now) tab.old m.old vis.old found.old held.old carried.old m.new vis.new found.new held.new carried.new p.trailer (arms_in (words s.now) p tab.old) result }
+) -> Result<(), Refusal>
+    requires { Lent p context.now held.old marks.old × Standing p.tail p.trailer context.now walk.old }
+    ensures same { marks.new ≡ marks.old }
+    ensures kept { length held.new ≡ length held.old }
+    ensures walks { Walks context.now p.trailer walk.old carried.old walk.new carried.new (arms_in p context.now) result }
 {
-    let r = walk_arms(
-        &s[..p.trailer * 4],
-        tab,
-        m,
-        vis,
-        found,
-        held,
-        carried,
-        p.arms,
-    );
-    if r != 0 {
-        return r;
+    let section = cut(context, p.trailer);
+    walk_arms(walk, &section, held, marks, carried, p.arms)?;
+    if walk.at < p.trailer {
+        return Err(Refusal::Word);
     }
-    if (m[AT] as usize) < p.trailer {
-        return 5;
-    }
-    0
+    Ok(())
 }
 
-// The head and the arms; then whether every binder had a row. 0, or the refusal's number.
-pub fn walk_both(
-    s: &[u8],
+// The head and the arms; then whether every binder had a row.
+pub fn walk_all(
+    walk: &mut Walk,
+    context: &Context,
     p: Places,
-    tab: &mut [u32],
-    m: &mut [u32],
-    vis: &mut [u32],
-    found: &mut [u32],
     held: &mut [u32],
+    marks: &mut [u32],
     carried: &mut [u32],
-) -> u32
-    requires { Lent s.now p tab.old vis.old found.old held.old × Fresh m.old vis.old }
-    ensures { (tab.new ≡ tab.old) × WalksBoth s.now p tab.old vis.old found.old held.old carried.old m.new vis.new found.new held.new carried.new result }
+) -> Result<(), Refusal>
+    requires { Lent p context.now held.old marks.old × Beginning p context.now walk.old }
+    ensures same { marks.new ≡ marks.old }
+    ensures kept { length held.new ≡ length held.old }
+    ensures walks { WalksAll p context.now walk.old carried.old walk.new carried.new result }
 {
-    begin(s, p, tab, m, vis, found);
-    let r = walk_head(s, p, tab, m, vis, found, held, carried);
-    if r != 0 {
-        return r;
+    begin(walk, context, p);
+    walk_head(walk, context, p, held, marks, carried)?;
+    walk_tail(walk, context, p, held, marks, carried)?;
+    if walk.known {
+        return Ok(());
     }
-    let q = walk_tail(s, p, tab, m, vis, found, held, carried);
-    if q != 0 {
-        return q;
-    }
-    if m[LOST] == 0 {
-        return 0;
-    }
-    7
+    Err(Refusal::Unbound)
 }

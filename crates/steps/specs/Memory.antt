@@ -1,6 +1,5 @@
 -- What both walks go by, in the definition's words.
-use Rattle.std.specs.Prelude.{ℕ, Bool, false, ◌&&◌, List, eqb, get_or, Option, None, Some}
-use Rattle.words.specs.Words.{words}
+use Rattle.std.specs.Prelude.{ℕ, Bool, false, List, eqb, get_or, Option, None, Some}
 use Rattle.heads.specs.Head.{Tables}
 use Rattle.heads.specs.Answer.{words_of}
 use Rattle.sheet.specs.Read.{any_binder}

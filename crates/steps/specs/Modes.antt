@@ -1,5 +1,5 @@
 -- Modes and settings of the code in the definition's words.
-use Rattle.std.specs.Prelude.{Bool, true, false, cond, ◌&&◌, ◌||◌}
+use Rattle.std.specs.Prelude.{Bool, true, false, cond, ◌&&◌}
 use Rattle.semantics.specs.Log.{e5010, e5011}
 use Rattle.semantics.specs.Kinds as kinds
 use Rattle.semantics.specs.Kinds.{general, arithmetic, property, boolean, listed, both}

@@ -76,9 +76,9 @@ pub record Roomy (l : Log) : Type 0 where
   pub room : (l.said + l.told + 1) * 6 ≤ length l.words.now
 
 -- six words were stored
-pub record Put (k : ℕ) (six old new : List ℕ) : Type 0 where
+pub record Put (k : ℕ) (entry old new : List ℕ) : Type 0 where
   pub length : length new ≡ length old
-  pub entry : (i : ℕ) → i < 6 → get_or new (k + i) 0 ≡ get_or six i 0
+  pub stored : (i : ℕ) → i < 6 → get_or new (k + i) 0 ≡ get_or entry i 0
   pub before : (i : ℕ) → i < k → get_or new i 0 ≡ get_or old i 0
   pub after : (i : ℕ) → k + 6 ≤ i → get_or new i 0 ≡ get_or old i 0
 

@@ -12,7 +12,6 @@ mod mode;
 pub use context::Context;
 pub use log::Log;
 pub use mode::{Mode, Setting, Settings};
-
 use visible::Visible;
 
 // What is left of a row of expressions at a level, and the setting of those.

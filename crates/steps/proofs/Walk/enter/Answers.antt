@@ -1,0 +1,7 @@
+-- The event is said where it is wanted, and then the numbers of the scopes move on (`enters`).
+use Rattle.steps.proofs.Moved.{enters}
+use Rattle.steps.proofs.Walk.enter.Goals as goal
+
+pub returns : goal.returns
+returns c =
+    enters c.say_wanted.ensures
