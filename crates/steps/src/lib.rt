@@ -9,6 +9,8 @@ mod kinds;
 mod log;
 mod mode;
 
+ghost use Rattle.std.specs.Prelude.{◌≡◌};
+
 pub use context::Context;
 pub use log::Log;
 pub use mode::{Mode, Setting, Settings};
@@ -34,4 +36,35 @@ pub struct Walk<'a> {
     pub made: u32,
     pub taken: u32,
     pub levels: [Level; 49],
+}
+
+impl<'a> Walk<'a> {
+    // A walk in lent words: what is visible and what is said go there.
+    pub fn new(visible: &'a mut [u32], said: &'a mut [u32]) -> Walk<'a>
+        ensures visible { result.visible.words.now ≡ visible.old }
+        ensures said { result.log.words.now ≡ said.old }
+    {
+        Walk {
+            at: 0,
+            visible: Visible {
+                words: visible,
+                names: 0,
+                top: 0,
+            },
+            cur: 0,
+            last: 0,
+            log: Log {
+                words: said,
+                said: 0,
+                told: 0,
+            },
+            known: true,
+            made: 0,
+            taken: 0,
+            levels: [Level {
+                left: 0,
+                later: Setting::General,
+            }; 49],
+        }
+    }
 }
