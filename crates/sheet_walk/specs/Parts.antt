@@ -109,8 +109,8 @@ pub record Settles (s : List ℕ) (p : Places) (choice : Choice) (x : Index) (pl
   pub bytes : c.section.bytes.now ≡ s
   pub names : memory.names_in c ≡ p.names
   pub rows : c.rows.bytes.now ≡ s
-  pub chains : c.rows.chains.now ≡ chains
-  pub index : c.rows.index ≡ x
+  pub hung : c.rows.chains.now ≡ chains
+  pub indexed : c.rows.index ≡ x
   pub uses : c.uses.now ≡ ids
   pub hushed : c.hushed.now ≡ []
   pub star : c.star ≡ numbered (index_of (42 ∷ []) (names_by s p places))
