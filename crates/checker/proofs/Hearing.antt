@@ -19,7 +19,7 @@ use Rattle.semantics.specs.Resolve.{run, log}
 use Rattle.semantics.specs.Lists.{carried_list}
 use Rattle.theorems.proofs.Woven.{written-reverse}
 use Rattle.theorems.proofs.Needs.{needs}
-use Rattle.steps.specs.Memory.{kept, events}
+use Rattle.steps.specs.Said.{kept, events}
 use Rattle.sheet_walk.specs.Runs.{warns_by, wants_by, id_of, RanTo, RanAs, Runs}
 use Rattle.std.specs.Prelude.{Result, Ok, Err}
 use Rattle.refusal.specs.Number.{number_of}

@@ -8,15 +8,17 @@ ghost use Rattle.std.specs.Prelude.{◌≡◌, true, ◌+◌, ◌*◌, ◌≤◌
 ghost use Rattle.words.specs.Words.{words};
 ghost use Rattle.refusal.specs.Number.{number_of};
 ghost use Rattle.sheet.specs.Read.{read_sheet, refused};
-ghost use Rattle.sheet_walk.specs.Runs.{warns_by, wants_by};
+ghost use Rattle.sheet_walk.specs.Runs.{Clean, Still};
 ghost use Rattle.entries.specs.Filled.{filled};
 ghost use Rattle.checker.specs.Room.{enough};
-ghost use Rattle.checker.specs.Filling.{fitting, Clean, IsSized, Heard, Bindable, Bound, Fitting, Filling, Again};
+ghost use Rattle.checker.specs.Filling.{fitting, Heard, Bindable, Bound, Fitting, Filling, Again};
 ghost use Rattle.checker.specs.Checked.{lent, IsStill, roomy, each, Answers, answered, answer_in, left_in, findings_in};
 
 use lists_fill::{Carried, fill_all_findings, fill_bindings, fill_recorded, fill_scopes};
 use refusal::Refusal;
-use sheet_walk::run;
+use rows::{Index, Rows};
+use sheet_walk::{Choice, Scratch, run};
+use steps::{Log, Walk};
 use words::{count, word};
 
 // How many entries the lists have.
@@ -39,26 +41,6 @@ pub struct Lists<'a, F> {
     pub findings: &'a mut [F],
 }
 
-// The words that a walk works in.
-#[derive(Drop)]
-struct Scratch<'a> {
-    places: &'a mut [u32],
-    ids: &'a mut [u32],
-    tab: &'a mut [u32],
-    vis: &'a mut [u32],
-    found: &'a mut [u32],
-    held: &'a mut [u32],
-}
-
-// How much a run left: events, findings of the kind walk, bindings, carried names.
-#[derive(Clone, Copy)]
-struct Tally {
-    said: usize,
-    told: usize,
-    made: usize,
-    taken: usize,
-}
-
 // Whether a list of so many flat words has room for n entries of a width; cause 8 where one has not.
 pub fn has_room(n: usize, len: usize, width: usize) -> bool
     ensures { result ≡ enough n len width }
@@ -77,26 +59,24 @@ fn copy(from: &[u32], n: usize, to: &mut [u32])
     to[..n].copy_from_slice(&from[..n]);
 }
 
-// The bindings of a run. Its words are apart here: what a struct borrows from another's fields is not known afterwards.
+// The bindings of a log and a carried list. They are apart here, since the language has one lifetime for all that a struct lends.
 fn bind(
-    s: &[u8],
-    tab: &[u32],
+    rows: Rows,
     list: &[u32],
-    t: Tally,
-    found: &[u32],
+    taken: u32,
+    log: &Log,
     stamps: &mut [u32],
     out: &mut [u32],
 ) -> usize
-    requires { Bindable (words s.now) tab.now list.now t found.now stamps.old }
-    ensures { Bound (words s.now) tab.now list.now t found.now out.old out.new result }
+    requires { Bindable rows list.now taken log.now stamps.old }
+    ensures { Bound rows.entry list.now taken log.now out.old out.new result }
 {
     let carried = Carried {
-        sheet: s,
-        tab,
+        rows,
         list,
-        taken: t.taken,
+        taken: taken as usize,
     };
-    fill_bindings(carried, found, t.said, stamps, out)
+    fill_bindings(carried, log, stamps, out)
 }
 
 impl Lists<'_, u32> {
@@ -113,36 +93,42 @@ impl Lists<'_, u32> {
     }
 
     // Whether they have room for the answer on a sheet of n words. Scopes, recorded uses and findings never need more than an entry a word.
-    fn fit(&self, n: usize, t: Tally, room: usize) -> bool
-        ensures { result ≡ fitting n t.made t.taken (lent self.now) room }
+    fn fit(&self, n: usize, made: u32, taken: u32, room: usize) -> bool
+        ensures { result ≡ fitting n made taken (lent self.now) room }
     {
         let a = self.have_room(n);
         let b = n <= room;
-        let c = has_room(t.made, self.bindings.len(), 6);
-        let d = has_room(t.taken, self.carried.len(), 3);
+        let c = has_room(made as usize, self.bindings.len(), 6);
+        let d = has_room(taken as usize, self.carried.len(), 3);
         (a & b) & (c & d)
     }
 
-    // All but the carried list, from what a run left and that list; ids begins with the names' use ids, and vis is for stamps.
-    fn fill(&mut self, s: &[u8], t: Tally, scratch: &mut Scratch) -> Counts
-        requires { Fitting (words s.now) t scratch.old (lent self.old) }
+    // All but the carried list, from what a run left and that list; the names' use ids stand in `ids`, and `held` is for stamps.
+    fn fill(&mut self, s: &[u8], index: Index, scratch: &mut Scratch) -> Counts
+        requires { Fitting (words s.now) index scratch.old (lent self.old) }
         ensures still { IsStill self.old self.new }
-        ensures fills { Filling (words s.now) t scratch.old (lent self.old) result (lent self.new) }
+        ensures fills { Filling (words s.now) index scratch.old (lent self.old) result (lent self.new) }
     {
-        let found = &mut *scratch.found;
-        let tab = &mut *scratch.tab;
+        let taken = scratch.walk.taken;
+        let stamps = &mut *scratch.held;
+        let chains = &mut *scratch.chains;
         let ids = &mut *scratch.ids;
-        let carried = &mut *self.carried;
-        let n = t.said;
-        let scopes = fill_scopes(found, n, self.scopes);
-        let bindings = bind(s, tab, carried, t, found, scratch.vis, self.bindings);
+        let list = &mut *self.carried;
+        let log = &mut scratch.walk.log;
+        let scopes = fill_scopes(log, self.scopes);
+        let rows = Rows {
+            bytes: s,
+            chains,
+            index,
+        };
+        let bindings = bind(rows, list, taken, log, stamps, self.bindings);
         let names = word(s, count(s) - 9) as usize;
-        let recorded = fill_recorded(found, n, &ids[0..names], self.recorded);
-        let findings = fill_all_findings(found, n, t.told, self.findings);
+        let recorded = fill_recorded(log, &ids[0..names], self.recorded);
+        let findings = fill_all_findings(log, self.findings);
         Counts {
             scopes,
             bindings,
-            carried: t.taken,
+            carried: taken as usize,
             recorded,
             findings,
         }
@@ -159,46 +145,20 @@ pub fn findings_in(answer: Result<Counts, Refusal>) -> usize
     }
 }
 
-// Every event is wanted, with warnings or without.
-fn choice_of(warns: bool) -> u32
-    ensures { (warns_by result ≡ warns) × (wants_by result ≡ true) }
-{
-    if warns {
-        return 3;
-    }
-    2
-}
-
-// What both walks say of a sheet, and what they carry into a list.
+// What both walks say of a sheet, every event, and what they carry into a list.
 fn listen(
     s: &[u8],
     warns: bool,
     scratch: &mut Scratch,
     carried: &mut [u32],
-) -> Result<Tally, Refusal>
+) -> Result<Index, Refusal>
     requires { Clean (length (words s.now)) scratch.old }
-    ensures sized { IsSized scratch.old scratch.new }
+    ensures sized { Still scratch.old scratch.new }
     ensures kept { length carried.new ≡ length carried.old }
-    ensures heard { IfOk result (λ t. Heard warns s.now t scratch.new carried.old carried.new) }
+    ensures heard { IfOk result (λ x. Heard warns s.now scratch.new carried.old carried.new x) }
     ensures refused { IfErr result (λ refusal. read_sheet s.now ≡ refused (number_of refusal)) }
 {
-    let totals = run(
-        s,
-        choice_of(warns),
-        scratch.places,
-        scratch.ids,
-        scratch.tab,
-        scratch.vis,
-        scratch.found,
-        scratch.held,
-        carried,
-    )?;
-    Ok(Tally {
-        said: totals.said as usize,
-        told: totals.told as usize,
-        made: totals.made as usize,
-        taken: totals.taken as usize,
-    })
+    run(s, Choice { warns, wants: true }, scratch, carried)
 }
 
 // The lists, which have room, of a sheet that was run and is accepted: it is run again, into the carried list that is lent.
@@ -213,10 +173,10 @@ fn check_again(
     ensures still { IsStill lists.old lists.new }
     ensures answers { Answers warns s.now (lent lists.old) room result (lent lists.new) }
 {
-    scratch.tab.fill(0);
-    scratch.vis.fill(0);
-    let tally = listen(s, warns, scratch, lists.carried)?;
-    Ok(lists.fill(s, tally, scratch))
+    scratch.chains.fill(0);
+    scratch.walk.visible.words.fill(0);
+    let index = listen(s, warns, scratch, lists.carried)?;
+    Ok(lists.fill(s, index, scratch))
 }
 
 // The answer and the lists, with scratch for the sheet's words: its refusal; 8 where one of the lists is short; or they are filled. What is
@@ -233,27 +193,26 @@ fn check_in(
     ensures still { IsStill lists.old lists.new }
     ensures answers { Answers warns s.now (lent lists.old) room result (lent lists.new) }
 {
-    let tally = listen(s, warns, scratch, kept)?;
-    if !lists.fit(count(s), tally, room) {
+    let index = listen(s, warns, scratch, kept)?;
+    if !lists.fit(count(s), scratch.walk.made, scratch.walk.taken, room) {
         return Err(Refusal::Entries);
     }
-    let n = tally.taken * 3;
+    let n = scratch.walk.taken as usize * 3;
     if kept.len() < n {
         return check_again(s, warns, scratch, lists, room);
     }
     copy(kept, n, lists.carried);
-    Ok(lists.fill(s, tally, scratch))
+    Ok(lists.fill(s, index, scratch))
 }
 
-// With scratch for sheets of up to N words: T, V, F and H are the lengths that follow from N.
-fn check_sized<const N: usize, const T: usize, const V: usize, const F: usize, const H: usize>(
+// With scratch for sheets of up to N words: V, F and H are the lengths that follow from N.
+fn check_sized<const N: usize, const V: usize, const F: usize, const H: usize>(
     s: &[u8],
     warns: bool,
     lists: &mut Lists<u32>,
     room: usize,
 ) -> Result<Counts, Refusal>
     requires few { (length (words s.now) ≤ N) × (N ≤ 2048) }
-    requires tab { T ≡ 16 + N * 2 }
     requires vis { V ≡ 4 * (N + 2) }
     requires found { F ≡ N * 6 }
     requires held { H ≡ 2 * N }
@@ -262,18 +221,19 @@ fn check_sized<const N: usize, const T: usize, const V: usize, const F: usize, c
 {
     let mut places = [0u32; N];
     let mut ids = [0u32; N];
-    let mut tab = [0u32; T];
-    let mut vis = [0u32; V];
-    let mut found = [0u32; F];
+    let mut chains = [0u32; N];
+    let mut marks = [0u32; N];
     let mut held = [0u32; H];
+    let mut visible = [0u32; V];
+    let mut said = [0u32; F];
     let mut kept = [0u32; N];
     let mut scratch = Scratch {
         places: &mut places,
         ids: &mut ids,
-        tab: &mut tab,
-        vis: &mut vis,
-        found: &mut found,
+        chains: &mut chains,
+        marks: &mut marks,
         held: &mut held,
+        walk: Walk::new(&mut visible, &mut said),
     };
     check_in(s, warns, &mut scratch, &mut kept, lists, room)
 }
@@ -289,10 +249,10 @@ fn check_large(
     ensures answers { Answers warns s.now (lent lists.old) room result (lent lists.new) }
 {
     if s.len() <= 4096 {
-        return check_sized::<1024, 2064, 4104, 6144, 2048>(s, warns, lists, room);
+        return check_sized::<1024, 4104, 6144, 2048>(s, warns, lists, room);
     }
     if s.len() <= 8192 {
-        return check_sized::<2048, 4112, 8200, 12288, 4096>(s, warns, lists, room);
+        return check_sized::<2048, 8200, 12288, 4096>(s, warns, lists, room);
     }
     Err(Refusal::Size)
 }
@@ -311,10 +271,10 @@ pub fn check_words(
     ensures leaves { lent lists.new ≡ left_in warns s.now (lent lists.old) room }
 {
     if s.len() <= 256 {
-        return check_sized::<64, 144, 264, 384, 128>(s, warns, lists, room);
+        return check_sized::<64, 264, 384, 128>(s, warns, lists, room);
     }
     if s.len() <= 1024 {
-        return check_sized::<256, 528, 1032, 1536, 512>(s, warns, lists, room);
+        return check_sized::<256, 1032, 1536, 512>(s, warns, lists, room);
     }
     if warns {
         return check_large(s, true, lists, room);

@@ -13,7 +13,7 @@ use Rattle.expr.proofs.Inverse.{never}
 use Rattle.scope.specs.Graph.{scope}
 use Rattle.scope.specs.Flat.{parent_of}
 use Rattle.semantics.specs.Log.{Finding, finding, found, bound, write, Event, open', bind, carry, answer, find, finds_in, logs}
-use Rattle.steps.specs.Memory.{answered, event_of, event_at, events, findings, kept}
+use Rattle.steps.specs.Said.{answered, event_of, event_at, events, findings, kept}
 use Rattle.lines.specs.Given.{finding_at, findings_in}
 
 -- a log of which findings alone are kept

@@ -6,43 +6,42 @@ ghost use Rattle.std.specs.Prelude.{◌≡◌, not, ◌+◌, ◌*◌, ◌<◌, �
 ghost use Rattle.words.specs.Words.{words};
 ghost use Rattle.texts.specs.Page.{answered, written_as, page_as, Writes, number};
 ghost use Rattle.listing.specs.Listing.{listing};
-ghost use Rattle.listing.specs.Found.{FoundIn, choice_of, AllZero};
+ghost use Rattle.listing.specs.Found.{FoundIn, AllZero};
 
 use lines::{Found, Names, write_listing};
 use refusal::Refusal;
 use sheet::find_places;
-use sheet_walk::run;
+use sheet_walk::{Choice, Scratch, run};
+use steps::{Log, Walk};
 use words::count;
 
 // How many entries a list may need.
 const ENTRIES: u32 = 2048;
 
-// Scratch for so many words: sixteen for each of them, and 24 besides.
-const FOR_32: usize = 32 * 16 + 24;
+// Scratch for so many words: sixteen for each of them, and 8 besides.
+const FOR_32: usize = 32 * 16 + 8;
 
-const FOR_64: usize = 64 * 16 + 24;
+const FOR_64: usize = 64 * 16 + 8;
 
-const FOR_128: usize = 128 * 16 + 24;
+const FOR_128: usize = 128 * 16 + 8;
 
-const FOR_256: usize = 256 * 16 + 24;
+const FOR_256: usize = 256 * 16 + 8;
 
-const FOR_512: usize = 512 * 16 + 24;
+const FOR_512: usize = 512 * 16 + 8;
 
-const FOR_1024: usize = 1024 * 16 + 24;
+const FOR_1024: usize = 1024 * 16 + 8;
 
-const FOR_2048: usize = 2048 * 16 + 24;
+const FOR_2048: usize = 2048 * 16 + 8;
 
 // The lines of what was found in a sheet, or 10.
 fn write(
     s: &[u8],
     warns: bool,
     places: &[u32],
-    found: &[u32],
-    said: u32,
-    told: u32,
+    log: &Log,
     page: &mut [u8],
 ) -> Result<usize, Refusal>
-    requires { FoundIn warns s.now places.now found.now said told }
+    requires { FoundIn warns s.now places.now log.now }
     ensures { Writes (listing warns s.now) page.old page.new result × (number (answered result) < 4294967296) }
 {
     let p = find_places(s)?;
@@ -51,48 +50,52 @@ fn write(
         places: &places[..p.names as usize],
     };
     let found = Found {
-        words: found,
-        front: said as usize,
-        count: said as usize + told as usize,
+        words: log.words,
+        front: log.said as usize,
+        count: log.said as usize + log.told as usize,
     };
     write_listing(&names, &found, page)
 }
 
-// With scratch for a sheet's words, all zeros: sixteen for each, and 24 besides. Bindings and carried names are counted, not stored.
+// With scratch for a sheet's words, all zeros: sixteen for each, and 8 besides. Bindings and carried names are counted, not stored.
 fn list(s: &[u8], warns: bool, scratch: &mut [u32], page: &mut [u8]) -> Result<usize, Refusal>
-    requires { (length (words s.now) * 16 + 24 ≤ length scratch.old) × AllZero scratch.old }
+    requires { (length (words s.now) * 16 + 8 ≤ length scratch.old) × AllZero scratch.old }
     ensures { Writes (listing warns s.now) page.old page.new result × (number (answered result) < 4294967296) }
 {
     let n = count(s);
     let (places, rest) = scratch.split_at_mut(n);
     let (ids, rest) = rest.split_at_mut(n);
-    let (tab, rest) = rest.split_at_mut(n * 2 + 16);
-    let (vis, rest) = rest.split_at_mut(n * 4 + 8);
-    let (found, held) = rest.split_at_mut(n * 6);
-    let mut nowhere = [0u32; 1];
-    let totals = run(
-        s,
-        u32::from(warns),
+    let (chains, rest) = rest.split_at_mut(n);
+    let (marks, rest) = rest.split_at_mut(n);
+    let (held, rest) = rest.split_at_mut(n * 2);
+    let (visible, said) = rest.split_at_mut(n * 4 + 8);
+    let mut scratch = Scratch {
         places,
         ids,
-        tab,
-        vis,
-        found,
+        chains,
+        marks,
         held,
-        &mut nowhere,
-    )?;
-    if ENTRIES < totals.made {
+        walk: Walk::new(visible, said),
+    };
+    let mut nowhere = [0u32; 1];
+    let choice = Choice {
+        warns,
+        wants: false,
+    };
+    run(s, choice, &mut scratch, &mut nowhere)?;
+    let walk = &scratch.walk;
+    if ENTRIES < walk.made {
         return Err(Refusal::Entries);
     }
-    if ENTRIES < totals.taken {
+    if ENTRIES < walk.taken {
         return Err(Refusal::Entries);
     }
-    write(s, warns, places, found, totals.said, totals.told, page)
+    write(s, warns, scratch.places, &walk.log, page)
 }
 
 // With scratch of N words.
 fn list_with<const N: usize>(s: &[u8], warns: bool, page: &mut [u8]) -> Result<usize, Refusal>
-    requires { (length (words s.now) * 16 + 24 ≤ N) × (N ≤ 65536) }
+    requires { (length (words s.now) * 16 + 8 ≤ N) × (N ≤ 65536) }
     ensures { Writes (listing warns s.now) page.old page.new result × (number (answered result) < 4294967296) }
 {
     let mut scratch = [0u32; N];

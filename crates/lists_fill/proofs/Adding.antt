@@ -10,7 +10,7 @@ use lib.ListN.{length}
 use Rattle.semantics.specs.Log.{Event, Finding, Write, answer_of, answers_in}
 use Rattle.semantics.specs.Lists.{note, notes}
 use Rattle.theorems.proofs.Views.{pick-append}
-use Rattle.steps.specs.Memory.{events, event_at, findings, finding_at}
+use Rattle.steps.specs.Said.{events, event_at, findings, finding_at}
 use Rattle.entries.specs.Adding.{Holds, Becomes}
 use Rattle.lists_fill.specs.Said.{events_in, told_in}
 

@@ -12,7 +12,7 @@ use Rattle.scope.specs.Flat.{parent_of}
 use Rattle.scope.specs.Graph.{scope}
 use Rattle.semantics.specs.Log.{scope_of, bind_of, answer_of, find_of}
 use Rattle.theorems.specs.Woven.{barrier_of}
-use Rattle.steps.specs.Memory.{finding_at}
+use Rattle.steps.specs.Said.{finding_at}
 use Rattle.finding.specs.Flat.{finding_words}
 use Rattle.finding.specs.Records.{words_of}
 use Rattle.finding.specs.declared.Finding as records

@@ -18,7 +18,7 @@ use Rattle.scope.proofs.Climbing.{parent-of}
 use Rattle.semantics.specs.Log.{Bound, bound, Event, open', bind, carry, answer, find, bind_of}
 use Rattle.semantics.specs.Lists.{puts}
 use Rattle.theorems.specs.Woven.{barrier_of, adopted, beyond, adopted_by, beyond_by, woven}
-use Rattle.steps.specs.Memory.{events, event_at}
+use Rattle.steps.specs.Said.{events, event_at}
 use Rattle.entries.specs.Filled.{binding_words}
 use Rattle.entries.specs.Adding.{Holds}
 use Rattle.entries.specs.Stamps.{Kept, Fits, Stamped, Makes, bound_of}

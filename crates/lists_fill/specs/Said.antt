@@ -2,7 +2,8 @@
 use Rattle.std.specs.Prelude.{ℕ, List, [], reverse, get_or}
 use Rattle.words.specs.Fnv.{use_id}
 use Rattle.semantics.specs.Log.{Event, Finding}
-use Rattle.steps.specs.Memory.{events, findings}
+use Rattle.steps.specs.Said.{events, findings}
+use Rattle.steps.specs.declared.log.Log.{Log}
 
 -- the use id of a name, of those of all names; past the last there are no bytes
 abbrev pub id_in : List ℕ → ℕ → ℕ
@@ -14,3 +15,10 @@ events_in id n found = reverse (events id n found)
 
 unfoldable pub told_in : ℕ → List ℕ → List Finding
 told_in n found = reverse (findings n found)
+
+-- all events of a log, and all findings of the kind walk
+abbrev pub all_in : (ℕ → ℕ) → Log → List Event
+all_in id l = events_in id l.said l.words.now
+
+abbrev pub all_told : Log → List Finding
+all_told l = told_in l.told l.words.now

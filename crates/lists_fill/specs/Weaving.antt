@@ -5,22 +5,23 @@ use Rattle.scope.specs.Graph.{Entry}
 use Rattle.scope.specs.Graph as graph
 use Rattle.semantics.specs.Log.{Bound, Event, open', bind, carry, answer, find, bind_of}
 use Rattle.semantics.specs.Lists.{puts}
-use Rattle.semantics.specs.World.{kind_of}
+use Rattle.semantics.specs.World.{row_kind}
 use Rattle.theorems.specs.Woven.{barrier_of, adopted_by, beyond_by, woven}
-use Rattle.steps.specs.Memory.{world_at}
-use Rattle.steps.specs.Hold as holds
+use Rattle.rows.specs.Table.{row_by, Standing}
+use Rattle.rows.specs.declared.Index.{Index}
 use Rattle.words.specs.Words.{words}
 use Rattle.entries.specs.Filled.{binding_words}
 use Rattle.entries.specs.Adding.{Holds}
 use Rattle.entries.specs.Stamps.{Kept, Fits, Makes}
-use Rattle.lists_fill.specs.Said.{events_in}
+use Rattle.lists_fill.specs.Said.{events_in, all_in}
+use Rattle.steps.specs.declared.log.Log.{Log}
 use Rattle.lists_fill.specs.Adding.{said}
 use Rattle.lists_fill.specs.declared.Logged.{Logged}
 use Rattle.lists_fill.specs.declared.Carried.{Carried}
 
--- the kind of a variable, whatever the use ids of names
-abbrev pub kind_in : (ws tab : List ℕ) → ℕ → ℕ
-kind_in ws tab = kind_of (world_at ws tab (λ x. x))
+-- the kind of a variable, by the rows of a sheet
+abbrev pub kind_in : Index → List ℕ → ℕ → ℕ
+kind_in x ws v = row_kind (row_by x ws v)
 
 -- of `taken` entries of a carried list, those from the number c on
 abbrev pub carried_from : ℕ → List ℕ → ℕ → List graph.Carried
@@ -34,9 +35,9 @@ barrier_in (carry c) = None
 barrier_in (answer a) = None
 barrier_in (find f) = None
 
--- what is asked of a carried list and its sheet's tables
+-- what is asked of a carried list and its sheet's rows
 pub record Fine (w : Carried) : Type 0 where
-  pub fine : holds.Fine (words w.sheet.now) w.tab.now
+  pub standing : Standing w.rows
   pub lent : w.taken * 3 ≤ length w.list.now
 
 -- what is asked before an event, where c carried entries are met
@@ -47,7 +48,7 @@ pub record Ready (w : Carried) (c : ℕ) (a : Kept) : Type 0 where
 
 -- the kinds of a sheet's variables, and the carried entries from the number c on
 abbrev pub kinds : Carried → ℕ → ℕ
-kinds w = kind_in (words w.sheet.now) w.tab.now
+kinds w = kind_in w.rows.index (words w.rows.bytes.now)
 
 abbrev pub rest : Carried → ℕ → List graph.Carried
 rest w = carried_from w.taken w.list.now
@@ -74,17 +75,17 @@ abbrev pub bound_in : (w : Carried) (n : ℕ) (found : List ℕ) → (ℕ → �
 bound_in w n found id = woven (kinds w) (events_in id n found) (carrieds_of w.taken w.list.now)
 
 -- what is asked of the lent words
-pub record Weavable (w : Carried) (found : List ℕ) (n : ℕ) (stamps : List ℕ) : Type 0 where
+pub record Weavable (w : Carried) (l : Log) (stamps : List ℕ) : Type 0 where
   pub fine : Fine w
-  pub told : n * 6 ≤ length found
+  pub told : l.said * 6 ≤ length l.words.now
   pub stamped : 1 ≤ length stamps
 
--- the bindings of n events and `taken` carried entries, whatever the use ids of names
-abbrev pub woven_in : (ws tab : List ℕ) (n : ℕ) (found : List ℕ) (taken : ℕ) (carried : List ℕ) → (ℕ → ℕ) → List Entry
-woven_in ws tab n found taken carried id = puts (woven (kind_in ws tab) (events_in id n found) (carrieds_of taken carried)) []
+-- the bindings of all events and `taken` carried entries, whatever the use ids of names
+abbrev pub woven_in : (x : Index) (ws : List ℕ) (l : Log) (taken : ℕ) (carried : List ℕ) → (ℕ → ℕ) → List Entry
+woven_in x ws l taken carried id = puts (woven (kind_in x ws) (all_in id l) (carrieds_of taken carried)) []
 
 -- a list has them, if it has room
-abbrev pub Makings : (w : Carried) (n : ℕ) (found old out : List ℕ) (r : ℕ) → Type 0
-Makings w n found old out r =
-    let all = woven_in (words w.sheet.now) w.tab.now n found w.taken w.list.now in
+abbrev pub Makings : (w : Carried) (l : Log) (old out : List ℕ) (r : ℕ) → Type 0
+Makings w l old out r =
+    let all = woven_in w.rows.index (words w.rows.bytes.now) l w.taken w.list.now in
     (id : ℕ → ℕ) → length (all id) * 6 ≤ length old → Holds binding_words old out r (all id)

@@ -6,18 +6,19 @@ ghost use Rattle.std.specs.Prelude.{◌≡◌, [], ◌++◌, ℕ, ◌+◌, ◌*�
 ghost use Rattle.scope.specs.Flat.{parent_of};
 ghost use Rattle.semantics.specs.Log.{scope_of, bind_of, answer_of, find_of, scopes_in, answers_in, finds_in};
 ghost use Rattle.semantics.specs.Lists.{notes};
-ghost use Rattle.steps.specs.Memory.{answered, event_at};
+ghost use Rattle.steps.specs.Said.{answered, event_at};
 ghost use Rattle.finding.specs.Flat.{finding_words};
 ghost use Rattle.entries.specs.Filled.{scope_words, recorded_words};
 ghost use Rattle.entries.specs.Adding.{Holds, Becomes, after, answer};
 ghost use Rattle.entries.specs.Stamps.{Makes, Fits, IsStill, kept};
-ghost use Rattle.lists_fill.specs.Said.{id_in, events_in, told_in};
+ghost use Rattle.lists_fill.specs.Said.{id_in, events_in, told_in, all_in, all_told};
 ghost use Rattle.lists_fill.specs.Adding.{six_at, said};
 ghost use Rattle.lists_fill.specs.Weaving.{barrier_in, Ready, Adopts, Weaves, bound_in, Weavable, Makings};
 
 use entries::{Binding, Bindings, Found, put_answer, set_entry};
 use finding::{Finding, words_at};
-use steps::kind_of;
+use rows::Rows;
+use steps::Log;
 
 // The use id of no bytes.
 const NO_NAME: u32 = 4276314682;
@@ -107,14 +108,14 @@ fn add_scope(out: &mut [u32], m: usize, e: Logged) -> usize
     }
 }
 
-// The scopes of n events; how many there are.
-pub fn fill_scopes(found: &[u32], n: usize, out: &mut [u32]) -> usize
-    requires { (n * 6 ≤ length found.now) × (n * 4 ≤ length out.old) }
-    ensures { (id : ℕ → ℕ) → Holds scope_words out.old out.new result (scopes_in (events_in id n found.now)) }
+// The scopes of all events; how many there are.
+pub fn fill_scopes(log: &Log, out: &mut [u32]) -> usize
+    requires { (log.now.said * 6 ≤ length log.now.words.now) × (log.now.said * 4 ≤ length out.old) }
+    ensures { (id : ℕ → ℕ) → Holds scope_words out.old out.new result (scopes_in (all_in id log.now)) }
 {
     let mut m = 0;
-    for i in 0..n {
-        m = add_scope(out, m, logged_at(found, i));
+    for i in 0..log.said as usize {
+        m = add_scope(out, m, logged_at(log.words, i));
     }
     m
 }
@@ -160,11 +161,10 @@ fn root_of(e: Logged) -> u32
     }
 }
 
-// The carried list of a sheet with its tables, and how many entries it has.
+// The carried list of a sheet with its rows, and how many entries it has.
 #[derive(Clone, Copy)]
 pub struct Carried<'a> {
-    pub sheet: &'a [u8],
-    pub tab: &'a [u32],
+    pub rows: Rows<'a>,
     pub list: &'a [u32],
     pub taken: usize,
 }
@@ -189,7 +189,7 @@ impl Carried<'_> {
                 scope: root,
                 name: self.list[q + 1],
                 variable,
-                kind: kind_of(self.sheet, self.tab, variable),
+                kind: self.rows.kind(variable),
             });
         }
         self.taken
@@ -232,16 +232,10 @@ fn add_binding(e: Logged, bindings: &mut Bindings)
     }
 }
 
-// The bindings of n events, with what WITHs carry, where the list has room for them.
-pub fn fill_bindings(
-    carried: Carried,
-    found: &[u32],
-    n: usize,
-    stamps: &mut [u32],
-    out: &mut [u32],
-) -> usize
-    requires { Weavable carried found.now n stamps.old }
-    ensures { Makings carried.entry n found.now out.old out.new result }
+// The bindings of all events, with what WITHs carry, where the list has room for them.
+pub fn fill_bindings(carried: Carried, log: &Log, stamps: &mut [u32], out: &mut [u32]) -> usize
+    requires { Weavable carried log.now stamps.old }
+    ensures { Makings carried.entry log.now out.old out.new result }
 {
     stamps[0] = 0;
     let mut bindings = Bindings {
@@ -249,7 +243,7 @@ pub fn fill_bindings(
         made: 0,
         stamps,
     };
-    carried.weave_all(found, n, &mut bindings);
+    carried.weave_all(log.words, log.said as usize, &mut bindings);
     bindings.made
 }
 
@@ -272,14 +266,14 @@ fn add_answer(out: &mut [u32], m: usize, uses: &[u32], e: Logged) -> usize
     }
 }
 
-// The recorded uses of n events.
-pub fn fill_recorded(found: &[u32], n: usize, uses: &[u32], out: &mut [u32]) -> usize
-    requires { (n * 6 ≤ length found.now) × (n * 5 ≤ length out.old) }
-    ensures { Holds recorded_words out.old out.new result (notes (answers_in (events_in (id_in uses.now) n found.now)) []) }
+// The recorded uses of all events.
+pub fn fill_recorded(log: &Log, uses: &[u32], out: &mut [u32]) -> usize
+    requires { (log.now.said * 6 ≤ length log.now.words.now) × (log.now.said * 5 ≤ length out.old) }
+    ensures { Holds recorded_words out.old out.new result (notes (answers_in (all_in (id_in uses.now) log.now)) []) }
 {
     let mut m = 0;
-    for i in 0..n {
-        m = add_answer(out, m, uses, logged_at(found, i));
+    for i in 0..log.said as usize {
+        m = add_answer(out, m, uses, logged_at(log.words, i));
     }
     m
 }
@@ -297,11 +291,11 @@ fn append_findings(found: &[u32], k: usize, out: &mut [u32], m: usize) -> usize
     n
 }
 
-// The findings of n events, and after them k of the kind walk.
-pub fn fill_all_findings(found: &[u32], n: usize, k: usize, out: &mut [u32]) -> usize
-    requires { ((n + k) * 6 ≤ length found.now) × ((n + k) * 6 ≤ length out.old) }
-    ensures { (id : ℕ → ℕ) → Holds finding_words out.old out.new result (finds_in (events_in id n found.now) ++ told_in k found.now) }
+// The findings of all events, and after them those of the kind walk.
+pub fn fill_all_findings(log: &Log, out: &mut [u32]) -> usize
+    requires { ((log.now.said + log.now.told) * 6 ≤ length log.now.words.now) × ((log.now.said + log.now.told) * 6 ≤ length out.old) }
+    ensures { (id : ℕ → ℕ) → Holds finding_words out.old out.new result (finds_in (all_in id log.now) ++ all_told log.now) }
 {
-    let m = fill_findings(found, n, out);
-    append_findings(found, k, out, m)
+    let m = fill_findings(log.words, log.said as usize, out);
+    append_findings(log.words, log.told as usize, out, m)
 }

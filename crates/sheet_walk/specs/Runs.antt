@@ -41,6 +41,7 @@ pub record RanTo (choice : Choice) (s : List ℕ) (a : Scratch) (old carried : L
   pub kinded : (v : ℕ) → row_kind (row_by x (words s) v) ≡ kind_of (world_of choice.warns statement) v
   pub few : a.walk.log.said + a.walk.log.told ≤ length (words s)
   pub many : (places_of (words s)).names ≤ length a.places.now
+  pub wide : (a.walk.log.said + a.walk.log.told) * 6 ≤ length a.walk.log.words.now
 
 abbrev pub Runs : Choice → (s : List ℕ) → Scratch → (old carried : List ℕ) → Result Index Refusal → Type 0
 Runs choice s a old carried (Ok x) = RanTo choice s a old carried x

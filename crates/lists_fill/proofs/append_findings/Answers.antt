@@ -1,6 +1,6 @@
 -- The oldest finding stands at the end, and each later one before it.
 use Rattle.std.proofs.Common.{suc, ◌+◌, ◌-◌, ◌*◌, ◌≤◌, [], ◌∷◌, length, append-nil, add-one, arith}
-use Rattle.steps.specs.Memory.{findings, finding_at}
+use Rattle.steps.specs.Said.{findings, finding_at}
 use Rattle.entries.specs.Adding.{after}
 use Rattle.lists_fill.specs.Said.{told_in}
 use Rattle.lists_fill.proofs.Adding.{begin, turn, finish, told-after}

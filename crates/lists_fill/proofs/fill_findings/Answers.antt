@@ -2,7 +2,7 @@
 use native.Mathlib.Omega.{arith}
 use mathlib.Core.List.{flat_map, append-nil}
 use Rattle.semantics.specs.Log.{find_of, finds_in}
-use Rattle.steps.specs.Memory.{events}
+use Rattle.steps.specs.Said.{events}
 use Rattle.lists_fill.specs.Said.{events_in}
 use Rattle.entries.proofs.Adding.{from-none}
 use Rattle.lists_fill.proofs.Adding.{begin, turn, finish, next-after}

@@ -1,7 +1,7 @@
 -- The loop's invariant: the list has the scopes of the events passed.
 use mathlib.Core.List.{flat_map, append-nil}
 use Rattle.semantics.specs.Log.{scope_of, scopes_in}
-use Rattle.steps.specs.Memory.{events}
+use Rattle.steps.specs.Said.{events}
 use Rattle.lists_fill.specs.Said.{events_in}
 use Rattle.entries.proofs.Adding.{from-none}
 use Rattle.lists_fill.proofs.Adding.{begin, turn, finish, next-after}

@@ -17,13 +17,12 @@ pub put-requires : goal.put-requires
 put-requires c = fits-still c.requires.fits c.loop-p.invariant.adopting.makes
 
 pub loop-p-preserved : goal.loop-p-preserved
-unfolding kind_of
 loop-p-preserved c =
     let l = c.loop-p.invariant in
     let s = c.put.ensures.still in
     record {
       still = record { list = s.list ∙ l.still.list; stamps = s.stamps ∙ l.still.stamps };
-      adopting = adopt-turn _ _ _ l.adopting (omega (arith, c.if-root-eq0.false)) c.loop-p-test.true c.if-self-q.false (rw c.kind_of.ensures) c.put.ensures.makes;
+      adopting = adopt-turn _ _ _ l.adopting (omega (arith, c.if-root-eq0.false)) c.loop-p-test.true c.if-self-q.false (rw c.kind.ensures) c.put.ensures.makes;
     }
 
 pub returns-then-self-q-clause-adopts : goal.returns-then-self-q-clause-adopts
