@@ -75,20 +75,20 @@ pub record Fitting (ws : List ℕ) (x : Index) (a : Scratch) (l : Lent ℕ) : Ty
   pub findings : (a.walk.log.said + a.walk.log.told) * 6 ≤ length l.findings
 
 -- the lists have what the events, the carried list and the kind walk's findings give
-module _ (ws : List ℕ) (x : Index) (a : Scratch) where
-  abbrev pub all_events : List Event
-  all_events = all_in (id_in (uses_in ws a.ids.now)) a.walk.log
+abbrev pub all_events : List ℕ → Scratch → List Event
+all_events ws a = all_in (id_in (uses_in ws a.ids.now)) a.walk.log
 
+module _ (ws : List ℕ) (x : Index) (a : Scratch) where
   abbrev pub all_bound : List ℕ → List Entry
   all_bound carried = woven_in x ws a.walk.log a.walk.taken carried (id_in (uses_in ws a.ids.now))
 
   pub record Filling (old : Lent ℕ) (n : Counts) (new : Lent ℕ) : Type 0 where
-    pub scopes : Holds scope_words old.scopes new.scopes n.scopes (scopes_in all_events)
+    pub scopes : Holds scope_words old.scopes new.scopes n.scopes (scopes_in (all_events ws a))
     pub bindings : length (all_bound old.carried) * 6 ≤ length old.bindings → Holds binding_words old.bindings new.bindings n.bindings (all_bound old.carried)
     pub carried : n.carried ≡ a.walk.taken
     pub kept : new.carried ≡ old.carried
-    pub recorded : Holds recorded_words old.recorded new.recorded n.recorded (notes (answers_in all_events) [])
-    pub findings : Holds finding_words old.findings new.findings n.findings (finds_in all_events ++ all_told a.walk.log)
+    pub recorded : Holds recorded_words old.recorded new.recorded n.recorded (notes (answers_in (all_events ws a)) [])
+    pub findings : Holds finding_words old.findings new.findings n.findings (finds_in (all_events ws a) ++ all_told a.walk.log)
 
 -- a sheet that is accepted, lists that have room, and scratch for its words, which need not be clear
 pub record Again (warns : Bool) (s : List ℕ) (a : Scratch) (l : Lent ℕ) (room : ℕ) : Type 0 where

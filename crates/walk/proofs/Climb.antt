@@ -1,373 +1,316 @@
 -- A row of expressions with what is left at each level: `climb` walks the k rows that wait above the level d. The loop of `walk_row` keeps
 -- `Rowing`: begun (`row-begin`), ended (`row_done`), back to the row that waits (`row-pop`), an expression walked (`row_one`) or refused
 -- (`row-fall`). A plain head is read (`Heading`), and does nothing (`head-calm`) or its act (`head-acted`; what it asks is `act-asks`); without
--- parts the row goes on (`row-leaf`; `head_at_lem` where the two meet), else it waits a level higher while the parts are walked (`row-down`).
+-- parts the row goes on (`row-leaf`), else it waits a level higher while the parts are walked (`row-down`).
 -- The loop of `walk_many` keeps `Counting` (`count-begin`, `count-one`, `count-fall`, `count-done`).
-use Rattle.std.specs.Prelude.{Some}
-use Prim.Native.Nat.{ℕ, zero, suc, ◌+◌, ◌-◌, ◌*◌, ◌/◌, ◌%◌, ◌^◌, ◌<◌, ◌≤◌}
+use Rattle.std.specs.Prelude.{Some, Result, Ok, Err}
+use Rattle.std.specs.Result.{IsErr, IsErrAnd}
+use Prim.Native.Nat.{ℕ, zero, suc, ◌+◌, ◌-◌, ◌/◌, ◌%◌, ◌^◌, ◌<◌, ◌≤◌}
 use native.Mathlib.Omega.{arith}
 use native.Mathlib.Numerals.{add-one}
 use mathlib.Core.Path.{◌≡◌, refl, ap, sym, ◌∙◌}
-use mathlib.Core.Bool.{Bool, true, false}
+use mathlib.Core.Bool.{false}
 use mathlib.Core.List.{List}
-use lib.Dec.{eqb, ltb}
-use borrow.Author.Tests.{ltb-true, ltb-false}
-use lib.ListN.{length, get_or, set, drop, length-set}
-use lib.Seq.{get_or-set_same, get_or-set_other, set-get_or, set-set, set_comm}
+use lib.Dec.{eqb}
+use lib.ListN.{length, get_or, set, drop}
+use lib.Seq.{get_or-set_same, get_or-set_other}
+use Rattle.refusal.specs.declared.Refusal.{Refusal}
 use Rattle.heads.specs.Got.{Got, ok, no, bind}
 use Rattle.heads.proofs.Chain.{Chain, step, last}
 use Rattle.heads.proofs.Shapes.{bind-each, bind-bind}
-use Rattle.semantics.specs.Kinds.{Setting, both, settings}
-use Rattle.fused.specs.Fused.{Both, Go, row_go, expr_go, head_of}
-use Rattle.steps.specs.Memory.{at_of, level_of, names_in, slots_in, ident_in, tables_in, world_at, mode_of, setting_of}
-use Rattle.steps.specs.Hold.{Steps, Ready, pair_of, cost_of}
+use Rattle.semantics.specs.Kinds.{both, settings}
+use Rattle.semantics.specs.Kinds as kinds
+use Rattle.fused.specs.Fused.{Both, Go, row_go, expr_go}
+use Rattle.steps.specs.Modes.{mode_of, setting_of, pair_of}
+use Rattle.steps.specs.Memory.{words_in, names_in, tables_in, world_at}
+use Rattle.steps.specs.Hold.{Steps, Ready, cost_of, idle, level_of}
+use Rattle.steps.specs.declared.Level.{Level}
+use Rattle.steps.specs.declared.Walk.{Walk}
+use Rattle.steps.specs.declared.context.Context.{Context}
+use Rattle.steps.specs.declared.mode.Mode.{Mode}
+use Rattle.steps.specs.declared.mode.Setting.{Setting}
+use Rattle.steps.specs.declared.mode.Settings.{Settings}
 use Rattle.steps.proofs.Held.{framed}
-use Rattle.walk.specs.Goes.{Goer, Walked, expr_in, row_at}
-use Rattle.walk.specs.Plain.{shape, limit, headed, parts_of, Plain}
-use Rattle.walk.proofs.Plains.{law, plain-expr, plain-calm}
+use Rattle.walk.specs.Goes.{Goer, Walked, expr_at, row_at}
+use Rattle.walk.specs.Plain.{shape, limit, headed, parts_of, number_of, Plain, Plainly}
+use Rattle.walk.proofs.Acts.{Does}
+use Rattle.walk.proofs.Plains.{law, plain-some, plain-expr, plain-calm}
 use Rattle.walk.proofs.Stage.{Rest, Stage, placed, start, ready, recast, jump, fewer, did, go, fell, done}
 
 -- ---- rows that wait
-unfoldable pub climb : (ℕ → Setting → Go) → (ℕ → ℕ) → ℕ → ℕ → Go
+-- n in a later setting
+abbrev pub later_row : (kinds.Setting → Go) → ℕ → Setting → Go
+later_row E n later = row_go E n (both (setting_of later) (setting_of later))
+
+unfoldable pub climb : (ℕ → kinds.Setting → Go) → (ℕ → Level) → ℕ → ℕ → Go
 climb E level d zero s r = ok s r
-climb E level d (suc k) s r =
-    bind (row_go (E (suc d)) (level (suc d) / 8) (both (setting_of (level (suc d) % 8)) (setting_of (level (suc d) % 8))) s r) (λ t r2. climb E level (suc d) k t r2)
+climb E level d (suc k) s r = bind (later_row (E (suc d)) (level (suc d)).left (level (suc d)).later s r) (λ t r2. climb E level (suc d) k t r2)
 
 -- what waits above d goes by the levels above d
-climb-same : (E : ℕ → Setting → Go) (l m : ℕ → ℕ) (d k : ℕ) (s : Both) (r : List ℕ) → ((i : ℕ) → d < i → l i ≡ m i) → climb E l d k s r ≡ climb E m d k s r
+climb-same : (E : ℕ → kinds.Setting → Go) (l m : ℕ → Level) (d k : ℕ) (s : Both) (r : List ℕ) → ((i : ℕ) → d < i → l i ≡ m i) → climb E l d k s r ≡ climb E m d k s r
 unfolding climb
 climb-same E l m d zero s r h = refl
 climb-same E l m d (suc k) s r h =
     rw (h (suc d) (omega arith))
-    (bind-each (row_go (E (suc d)) (m (suc d) / 8) (both (setting_of (m (suc d) % 8)) (setting_of (m (suc d) % 8))) s r) _ _ (λ t r2. climb-same E l m (suc d) k t r2 (λ i j. h i (omega arith))))
+    (bind-each (later_row (E (suc d)) (m (suc d)).left (m (suc d)).later s r) _ _ (λ t r2. climb-same E l m (suc d) k t r2 (λ i j. h i (omega arith))))
 
 -- one row more waits
-climb-more : (E : ℕ → Setting → Go) (l m : ℕ → ℕ) (d k more left later : ℕ) (s : Both) (r : List ℕ) → more ≡ suc k → later < 8 → 0 < d → m d ≡ left * 8 + later → ((i : ℕ) → d < i → l i ≡ m i) →
-    bind (row_go (E d) left (both (setting_of later) (setting_of later)) s r) (λ t r2. climb E l d k t r2) ≡ climb E m (d - 1) more s r
+climb-more : (E : ℕ → kinds.Setting → Go) (l m : ℕ → Level) (d k more : ℕ) (x : Level) (s : Both) (r : List ℕ) → more ≡ suc k → 0 < d → m d ≡ x → ((i : ℕ) → d < i → l i ≡ m i) →
+    bind (later_row (E d) x.left x.later s r) (λ t r2. climb E l d k t r2) ≡ climb E m (d - 1) more s r
 unfolding climb
-climb-more E l m d k more left later s r z b g e h =
+climb-more E l m d k more x s r z g e h =
     let one : suc (d - 1) ≡ d = omega arith in
-    let x : m d / 8 ≡ left = omega (arith, e) in
-    let y : m d % 8 ≡ later = omega (arith, e) in
-    rw (z, one, x, y) (bind-each (row_go (E d) left (both (setting_of later) (setting_of later)) s r) _ _ (λ t r2. climb-same E l m d k t r2 h))
+    rw (z, one, e) (bind-each (later_row (E d) x.left x.later s r) _ _ (λ t r2. climb-same E l m d k t r2 h))
 
 bind_ok : (g : Got Both) → bind g (λ u r. ok u r) ≡ g
 bind_ok (ok u r) = refl
 bind_ok (no e) = refl
 
 -- where some are left, the next one decides
-ahead : (E : Setting → Go) (left : ℕ) (c e : Setting) (s : Both) (r : List ℕ) (F : Both → List ℕ → Got Both) → 0 < left → bind (row_go E left (both c e) s r) F ≡ bind (E c s r) (λ u r2. bind (row_go E (left - 1) (both e e) u r2) F)
+ahead : (E : kinds.Setting → Go) (left : ℕ) (c e : kinds.Setting) (s : Both) (r : List ℕ) (F : Both → List ℕ → Got Both) → 0 < left → bind (row_go E left (both c e) s r) F ≡ bind (E c s r) (λ u r2. bind (row_go E (left - 1) (both e e) u r2) F)
 unfolding row_go
 ahead E left c e s r F h =
     let l : left ≡ suc (left - 1) = omega arith in
     ap (λ (k : ℕ). bind (row_go E k (both c e) s r) F) l ∙ bind-bind (E c s r) _ F
 
 -- ---- where the loop stands: left expressions at the level d, and those that wait above it
-abbrev pub within : (ws tab : List ℕ) → (mode : ℕ) → (ℕ → ℕ) → ℕ → Setting → Go
-within ws tab mode id d c = expr_go (world_at ws tab id) (tables_in tab) d (mode_of mode) c
+abbrev pub within : Context → Mode → (ℕ → ℕ) → ℕ → kinds.Setting → Go
+within c mode id d = expr_go (world_at c id) (tables_in c) d (mode_of mode)
 
-abbrev pub waits : (ws tab : List ℕ) → (room mode : ℕ) → (level : ℕ → ℕ) → (d : ℕ) → (ℕ → ℕ) → Both → Chain Both
-waits ws tab room mode level d id u = last (climb (within ws tab mode id) level d (room - d) u)
+abbrev pub waits : Context → (room : ℕ) → Mode → (level : ℕ → Level) → (d : ℕ) → (ℕ → ℕ) → Both → Chain Both
+waits c room mode level d id u = last (climb (within c mode id) level d (room - d) u)
 
--- what is left after a plain head: its parts, the row, and what waits
-abbrev pub after_head : (ws tab : List ℕ) → (room mode left now later d code a : ℕ) → (level : ℕ → ℕ) → Rest
-after_head ws tab room mode left now later d code a level id s t =
-    step (row_go (within ws tab mode id (d - 1)) (parts_of (shape code) a) (settings (λ x. eqb (suc x) (ident_in tab)) (headed code a) (setting_of now)) t)
-    (λ x. step (row_go (within ws tab mode id d) (left - 1) (both (setting_of later) (setting_of later)) x) (waits ws tab room mode level d id))
+-- what is left after a plain head with the shape t: its parts, the row, and what waits
+abbrev pub after_head : Context → (room : ℕ) → Mode → (left : ℕ) → (now later : Setting) → (d t code a : ℕ) → (level : ℕ → Level) → Rest
+after_head c room mode left now later d t code a level id s u =
+    step (row_go (within c mode id (d - 1)) (parts_of t a) (settings (world_at c id).is_id (headed code a) (setting_of now)) u)
+    (λ x. step (later_row (within c mode id d) (left - 1) later x) (waits c room mode level d id))
 
-pub record Levels (room d : ℕ) (m : List ℕ) : Type 0 where
+pub record Rowing (c : Context) (w₀ : Walk) (room : ℕ) (mode : Mode) (n : ℕ) (settings : Settings) (w : Walk) (left : ℕ) (now later : Setting) (d : ℕ) : Type 0 where
   pub le : d ≤ room
   pub low : room ≤ 48
-  pub few : (i : ℕ) → d < i → i ≤ room → level_of m i < 4194304
-
-pub record Rowing (ws tab m₀ vis₀ found₀ : List ℕ) (room mode n : ℕ) (m vis found : List ℕ) (at left now later d : ℕ) : Type 0 where
-  pub levels : Levels room d m
-  pub first : now < 8
-  pub others : later < 8
-  pub count : left ≤ 524287
-  pub size : length m ≡ 64
-  pub stage : Stage (Some room) 0 ws tab m₀ vis₀ found₀ (row_at ws tab room mode n) 0 (set m 0 at) vis found
-      (λ id s t. step (row_go (within ws tab mode id d) left (both (setting_of now) (setting_of later)) t) (waits ws tab room mode (level_of m) d id))
+  pub count : left < 4294967296
+  pub stage : Stage (Some room) 0 c w₀ (row_at c room (mode_of mode) n (pair_of settings)) 0 w
+      (λ id s t. step (row_go (within c mode id d) left (both (setting_of now) (setting_of later)) t) (waits c room mode (level_of w) d id))
 
 -- a plain head was read, and did what it does
-pub record Heading (ws tab m₀ vis₀ found₀ : List ℕ) (room mode n : ℕ) (m vis found : List ℕ) (at left now later d code a : ℕ) : Type 0 where
-  pub levels : Levels room d m
-  pub others : later < 8
-  pub count : left ≤ 524287
+pub record Heading (c : Context) (w₀ : Walk) (room : ℕ) (mode : Mode) (n : ℕ) (settings : Settings) (w : Walk) (left : ℕ) (now later : Setting) (d t code a : ℕ) : Type 0 where
+  pub le : d ≤ room
+  pub low : room ≤ 48
+  pub count : left < 4294967296
   pub more : 0 < left
   pub deep : 0 < d
-  pub size : length m ≡ 64
-  pub stage : Stage (Some room) 0 ws tab m₀ vis₀ found₀ (row_at ws tab room mode n) 0 (set m 0 at) vis found (after_head ws tab room mode left now later d code a (level_of m))
+  pub few : parts_of t a ≤ 524287
+  pub stage : Stage (Some room) 0 c w₀ (row_at c room (mode_of mode) n (pair_of settings)) 0 w (after_head c room mode left now later d t code a (level_of w))
 
-pub row-begin : {ws tab m vis found : List ℕ} (room mode n : ℕ) → room ≤ 48 → n ≤ 524287 → Ready 0 ws tab m vis found → Rowing ws tab m vis found room mode n m vis found (at_of m) n (mode % 8) (mode / 8 % 8) room
+pub row-begin : {c : Context} {w : Walk} (room : ℕ) (mode : Mode) (n : ℕ) (settings : Settings) → room ≤ 48 → n ≤ 524287 → Ready 0 c w → Rowing c w room mode n settings w n settings.first settings.later room
 unfolding climb
-row-begin {ws} {tab} {m} room mode n b l h =
+row-begin {c} {w} room mode n settings b l h =
     let z : room - room ≡ 0 = omega arith in
     record {
-      levels = record { le = omega arith; low = b; few = λ i x y. absurd (omega arith) };
-      first = omega arith;
-      others = omega arith;
-      count = l;
-      size = h.fit.size;
-      stage = rw (set-get_or m 0 0) (start {G = row_at ws tab room mode n} _ h (λ id s r. rw z (sym (bind_ok (row_at ws tab room mode n id s r)))));
+      le = omega arith;
+      low = b;
+      count = omega arith;
+      stage = start {G = row_at c room (mode_of mode) n (pair_of settings)} _ h (λ id s r. rw z (sym (bind_ok (row_at c room (mode_of mode) n (pair_of settings) id s r))));
     }
 
-module _ {ws tab m₀ vis₀ found₀ : List ℕ} {room mode n : ℕ} {m vis found : List ℕ} {at left now later d : ℕ} (o : Rowing ws tab m₀ vis₀ found₀ room mode n m vis found at left now later d) where
-  here : at_of (set m 0 at) ≡ at
-  here = (placed m at o.size).at
-
+module _ {c : Context} {w₀ : Walk} {room : ℕ} {mode : Mode} {n : ℕ} {first : Settings} {w : Walk} {left : ℕ} {now later : Setting} {d : ℕ} (o : Rowing c w₀ room mode n first w left now later d) where
   -- an expression may be walked here
-  pub row-ready : Ready 0 ws tab m₀ vis₀ found₀ → Ready 0 ws tab (set m 0 at) vis found
+  pub row-ready : Ready 0 c w₀ → Ready 0 c w
   row-ready h = ready (omega arith) h o.stage
 
-  pub row_within : Ready 0 ws tab m₀ vis₀ found₀ → (at_of m₀ ≤ at) × (at ≤ length ws)
-  row_within h = let f = (row-ready h).fit.within in let g = o.stage.from in (rw here at g, rw here at f)
-
-  pub row_done : left ≡ 0 → d ≡ room → Walked room ws tab m₀ vis₀ found₀ (set m 0 at) vis found (row_at ws tab room mode n) 0
+  pub row_done : {u : Unit {0}} → left ≡ 0 → d ≡ room → Walked room c w₀ w (row_at c room (mode_of mode) n (pair_of first)) (Ok u)
   unfolding climb row_go
   row_done l h =
       let z : room - d ≡ 0 = omega arith in
       done (recast (λ id s t. last (ok t)) o.stage (λ id s t r. rw (l, z)))
 
-  pub row-pop : left ≡ 0 → d < room → Rowing ws tab m₀ vis₀ found₀ room mode n m vis found at (level_of m (d + 1) / 8) (level_of m (d + 1) % 8) (level_of m (d + 1) % 8) (d + 1)
+  pub row-pop : left ≡ 0 → d < room → (level_of w (d + 1)).left < 4294967296 → Rowing c w₀ room mode n first w (level_of w (d + 1)).left (level_of w (d + 1)).later (level_of w (d + 1)).later (d + 1)
   unfolding climb row_go
-  row-pop l h =
+  row-pop l h b =
       let z : room - d ≡ suc (room - suc d) = omega arith in
-      let b = o.levels.few (suc d) (omega arith) (omega arith) in
-      rw (add-one d) (record {
-        levels = record { le = omega arith; low = o.levels.low; few = λ i x y. o.levels.few i (omega arith) y };
-        first = omega arith;
-        others = omega arith;
-        count = omega (arith, b);
-        size = o.size;
-        stage = recast _ o.stage (λ id s t r. rw (l, z));
-      })
+      rw (add-one d) (record { le = omega arith; low = o.low; count = rw (add-one d) at b; stage = recast _ o.stage (λ id s t r. rw (l, z)) })
 
-  next : 0 < left → Stage (Some room) 0 ws tab m₀ vis₀ found₀ (row_at ws tab room mode n) 0 (set m 0 at) vis found
-      (λ id s t. step (within ws tab mode id d (setting_of now) t) (λ x. step (row_go (within ws tab mode id d) (left - 1) (both (setting_of later) (setting_of later)) x) (waits ws tab room mode (level_of m) d id)))
-  next h = recast _ o.stage (λ id s t r. ahead (within ws tab mode id d) left (setting_of now) (setting_of later) t r _ h)
+  next : 0 < left → Stage (Some room) 0 c w₀ (row_at c room (mode_of mode) n (pair_of first)) 0 w
+      (λ id s t. step (within c mode id d (setting_of now) t) (λ x. step (later_row (within c mode id d) (left - 1) later x) (waits c room mode (level_of w) d id)))
+  next h = recast _ o.stage (λ id s t r. ahead (within c mode id d) left (setting_of now) (setting_of later) t r _ h)
 
-  pub row_one : {m' vis' found' : List ℕ} {a : ℕ} → 0 < left → a ≡ 0 → Walked d ws tab (set m 0 at) vis found m' vis' found' (expr_in ws tab d mode (setting_of now)) a → Rowing ws tab m₀ vis₀ found₀ room mode n m' vis' found' (at_of m') (left - 1) later later d
-  row_one {m'} h q x =
-      let y = rw q at x.goes in
-      let p = placed m at o.size in
-      let same : (i : ℕ) → d < i → level_of m' i ≡ level_of m i = λ i j. y.frame.levels i j ∙ p.levels i in
+  pub row_one : {w' : Walk} {u : Unit {0}} → 0 < left → Walked d c w w' (expr_at c d (mode_of mode) (setting_of now)) (Ok u) → Rowing c w₀ room mode n first w' (left - 1) later later d
+  row_one {w'} h x =
+      let same : (i : ℕ) → d < i → level_of w' i ≡ level_of w i = x.goes.frame.levels in
       record {
-        levels = record { le = o.levels.le; low = o.levels.low; few = λ i j k. rw (same i j) (o.levels.few i j k) };
-        first = o.others;
-        others = o.others;
+        le = o.le;
+        low = o.low;
         count = omega (arith, o.count);
-        size = x.sized ∙ p.size ∙ o.size;
-        stage = rw (set-get_or m' 0 0) (recast _ (go (next h) x o.levels.le q)
-            (λ id s t r. bind-each (row_go (within ws tab mode id d) (left - 1) (both (setting_of later) (setting_of later)) t r) _ _ (λ u r2. climb-same (within ws tab mode id) (level_of m) (level_of m') d (room - d) u r2 (λ i j. sym (same i j)))));
+        stage = recast _ (go (next h) x o.le)
+            (λ id s t r. bind-each (later_row (within c mode id d) (left - 1) later t r) _ _ (λ u r2. climb-same (within c mode id) (level_of w) (level_of w') d (room - d) u r2 (λ i j. sym (same i j))));
       }
 
-  pub row-fall : {m' vis' found' : List ℕ} (a : ℕ) → 0 < left → (a ≡ 0 → ⊥) → Walked d ws tab (set m 0 at) vis found m' vis' found' (expr_in ws tab d mode (setting_of now)) a → Walked room ws tab m₀ vis₀ found₀ m' vis' found' (row_at ws tab room mode n) a
-  row-fall a h q x = fell a q (next h) x
+  pub row-fall : {w' : Walk} {e : Refusal} (r : Result (Unit {0}) Refusal) → 0 < left → Walked d c w w' (expr_at c d (mode_of mode) (setting_of now)) (Err e) → IsErr r × IsErrAnd r (λ y. y ≡ e) → Walked room c w₀ w' (row_at c room (mode_of mode) n (pair_of first)) r
+  row-fall r h x q = fell r (next h) x q
 
   -- ---- a plain head is read
-  module _ {t : ℕ} (h : 0 < left) (g : 0 < t) (f : Plain ws (names_in tab) d at t) where
-    abbrev code : ℕ
-    code = get_or ws at 0
+  module _ {t code word : ℕ} (i : code ≡ get_or (words_in c) w.at 0) (j : word ≡ get_or (words_in c) (w.at + 1) 0) (h : left ≡ 0 → ⊥) (g : t ≡ 0 → ⊥) (p : Plainly (words_in c) (names_in c) d w.at t) where
+    some : 0 < left
+    some = omega (arith, h)
 
-    abbrev word : ℕ
-    word = get_or ws (at + 1) 0
+    f : Plain (words_in c) (names_in c) d w.at t
+    f = plain-some t g p
 
     abbrev end : ℕ
-    end = at + 1 + t % 2
+    end = w.at + (1 + t % 2)
+
+    abbrev read : Walk
+    read = placed w end
+
+    as-shaped : t ≡ shape code
+    as-shaped = rw (← i) at f.shaped
 
     shaped : 0 < shape code
-    shaped = omega (arith, f.shaped)
+    shaped = omega (arith, as-shaped, g)
 
-    head : Stage (Some room) 0 ws tab m₀ vis₀ found₀ (row_at ws tab room mode n) (1 + t % 2) (set m 0 end) vis found
-        (λ id s u. after_head ws tab room mode left now later d code word (level_of m) id s (head_of (world_at ws tab id) (mode_of mode) (headed code word) (setting_of now) u))
+    limited : word ≤ limit code
+    limited = rw (← i, ← j) at f.limited
+
+    named : shape code / 64 % 2 ≡ 1 → word < names_in c
+    named q = let n = f.named (rw as-shaped q) in rw j n
+
+    head : Stage (Some room) 0 c w₀ (row_at c room (mode_of mode) n (pair_of first)) (1 + t % 2) read
+        (λ id s u. after_head c room mode left now later d t code word (level_of w) id s (Does c mode now code word id u))
     head =
         let one : d ≡ suc (d - 1) = omega (arith, f.level) in
-        let w = f.within in
-        let z = here in
-        rw (← (set-set m 0 at end)) (jump _ (1 + t % 2) end (next h) (omega arith) (omega arith) (omega arith)
-        (λ id s u. rw z (ap (λ (g : Got Both). bind g (λ x r2. bind (row_go (within ws tab mode id d) (left - 1) (both (setting_of later) (setting_of later)) x r2) (λ y r3. climb (within ws tab mode id) (level_of m) d (room - d) y r3)))
-        (ap (λ (k : ℕ). within ws tab mode id k (setting_of now) u (drop at ws)) one
-        ∙ plain-expr (world_at ws tab id) (tables_in tab) (d - 1) (mode_of mode) code word (setting_of now) u (drop at ws) (drop end ws) shaped f.limited f.same))))
+        let e : w.at + 1 + t % 2 ≡ end = omega arith in
+        let l = f.within in
+        jump _ (1 + t % 2) end (next some) (omega arith) (omega arith) (omega arith)
+        (λ id s u. ap (λ (g : Got Both). bind g (λ x r2. bind (later_row (within c mode id d) (left - 1) later x r2) (λ y r3. climb (within c mode id) (level_of w) d (room - d) y r3)))
+        (ap (λ (k : ℕ). within c mode id k (setting_of now) u (drop w.at (words_in c))) one
+        ∙ plain-expr (world_at c id) (tables_in c) (d - 1) (mode_of mode) code word (setting_of now) u (drop w.at (words_in c)) (drop end (words_in c)) shaped limited (rw (← i, ← j, e) at f.same)
+        ∙ ap (λ (k : ℕ). row_go (within c mode id (d - 1)) (parts_of k word) (settings (world_at c id).is_id (headed code word) (setting_of now)) (Does c mode now code word id u) (drop end (words_in c))) (sym as-shaped)))
 
-    pub head-ready : Ready 0 ws tab m₀ vis₀ found₀ → Ready (cost_of (headed code word)) ws tab (set m 0 end) vis found
-    head-ready r = let l = (law code word shaped f.limited).cost in ready (omega (arith, l, f.shaped)) r head
+    head-ready : Ready 0 c w₀ → Ready (cost_of (headed code word)) c read
+    head-ready r = let l = (law code word shaped limited).cost in ready (omega (arith, l, as-shaped)) r head
 
-    -- what `act`, `parts_of` and `pair` ask
-    pub act-asks : Ready 0 ws tab m₀ vis₀ found₀ → (0 < shape code) × ((word ≤ limit code) × ((shape code / 64 % 2 ≡ 1 → word < slots_in tab) × Ready (cost_of (headed code word)) ws tab (set m 0 end) vis found))
-    act-asks r =
-        let named : shape code / 64 % 2 ≡ 1 → word < names_in tab = λ q. f.named (rw f.shaped q) in
-        (shaped, (f.limited, ((λ q. let n = named q in omega (arith, n, r.fine.places)), head-ready r)))
+    -- what `act` and `parts_of` ask
+    pub act-asks : Ready 0 c w₀ → (0 < shape code) × ((word ≤ limit code) × ((shape code / 64 % 2 ≡ 1 → word < names_in c) × Ready (cost_of (headed code word)) c read))
+    act-asks r = (shaped, (limited, (named, head-ready r)))
 
     pub parts-ask : (t < 16777216) × (t / 32 % 2 ≤ t / 16 % 2)
-    parts-ask = let k = law code word shaped f.limited in rw f.shaped (k.small, k.halved)
+    parts-ask = let k = law code word shaped limited in rw as-shaped (k.small, k.halved)
 
-    pub pair-asks : (t ≡ shape code) × ((0 < t) × ((now < 8) × (word ≤ limit code)))
-    pair-asks = (f.shaped, (g, (o.first, f.limited)))
-
-    pub head_few : parts_of (shape code) word ≤ 524287
-    head_few = (law code word shaped f.limited).few
-
-    pub head-end : (at < end) × (end ≤ length ws)
-    head-end = let w = f.within in (omega arith, omega arith)
+    few : parts_of t word ≤ 524287
+    few = rw as-shaped (law code word shaped limited).few
 
     -- where the head does nothing
-    pub head-calm : (t / 2 ^ (16 + now) % 2 ≡ 1 → ⊥) → Heading ws tab m₀ vis₀ found₀ room mode n m vis found end left now later d code word
+    pub head-calm : eqb (t / 2 ^ (16 + number_of now) % 2) 1 ≡ false → Heading c w₀ room mode n first read left now later d t code word
     head-calm z =
-        let q : shape code / 2 ^ (16 + now) % 2 ≡ 1 → ⊥ = λ e. z (rw f.shaped e) in
         record {
-          levels = o.levels;
-          others = o.others;
+          le = o.le;
+          low = o.low;
           count = o.count;
-          more = h;
+          more = some;
           deep = f.level;
-          size = o.size;
-          stage = fewer 0 (omega arith) (recast _ head (λ id s u r. rw (plain-calm code word now shaped f.limited o.first q (world_at ws tab id) (mode_of mode) u)));
+          few = few;
+          stage = fewer 0 (omega arith) (recast _ head (λ id s u r. rw (plain-calm code word now shaped limited (rw as-shaped at z) (world_at c id) (mode_of mode) u)));
         }
 
     -- where it did what it does
-    pub head-acted : {m' found' : List ℕ} → Steps (cost_of (headed code word)) ws tab (set m 0 end) vis found m' vis found' (λ id. head_of (world_at ws tab id) (mode_of mode) (headed code word) (setting_of now)) → Heading ws tab m₀ vis₀ found₀ room mode n m' vis found' end left now later d code word
-    head-acted {m'} x =
-        let l = (law code word shaped f.limited).cost in
-        let p = placed m end o.size in
-        let same : (i : ℕ) → d < i → level_of m' i ≡ level_of m i = λ i j. x.frame.levels i (omega arith) ∙ p.levels i in
-        let back : set m' 0 end ≡ m' = ap (λ (k : ℕ). set m' 0 k) (sym (x.at ∙ p.at)) ∙ set-get_or m' 0 0 in
+    pub head-acted : {w' : Walk} → Steps (cost_of (headed code word)) c read w' (Does c mode now code word) → Heading c w₀ room mode n first w' left now later d t code word
+    head-acted {w'} x =
+        let l = (law code word shaped limited).cost in
+        let same : (i : ℕ) → d < i → level_of w' i ≡ level_of w i = λ i j. x.frame.levels i (omega arith) in
         record {
-          levels = record { le = o.levels.le; low = o.levels.low; few = λ i j k. rw (same i j) (o.levels.few i j k) };
-          others = o.others;
+          le = o.le;
+          low = o.low;
           count = o.count;
-          more = h;
+          more = some;
           deep = f.level;
-          size = x.sized ∙ p.size ∙ o.size;
-          stage = rw back (recast _ (did (after_head ws tab room mode left now later d code word (level_of m)) 0 (omega (arith, l, f.shaped)) (omega (arith, l, f.shaped)) head x)
-              (λ id s u r. bind-each (row_go (within ws tab mode id (d - 1)) (parts_of (shape code) word) (settings (λ x. eqb (suc x) (ident_in tab)) (headed code word) (setting_of now)) u r) _ _
-              (λ v r1. bind-each (row_go (within ws tab mode id d) (left - 1) (both (setting_of later) (setting_of later)) v r1) _ _
-              (λ y r2. climb-same (within ws tab mode id) (level_of m) (level_of m') d (room - d) y r2 (λ i j. sym (same i j))))));
+          few = few;
+          stage = recast _ (did (after_head c room mode left now later d t code word (level_of w)) 0 (omega (arith, l, as-shaped)) (omega (arith, l, as-shaped)) head x)
+              (λ id s u r. bind-each (row_go (within c mode id (d - 1)) (parts_of t word) (settings (world_at c id).is_id (headed code word) (setting_of now)) u r) _ _
+              (λ v r1. bind-each (later_row (within c mode id d) (left - 1) later v r1) _ _
+              (λ y r2. climb-same (within c mode id) (level_of w) (level_of w') d (room - d) y r2 (λ i j. sym (same i j)))));
         }
 
--- ---- a level's word
-leveled : {room c : ℕ} {ws tab m₀ vis₀ found₀ : List ℕ} {G : Goer} {m vis found : List ℕ} {K : Rest} (d x : ℕ) → d ≤ room → Stage (Some room) 0 ws tab m₀ vis₀ found₀ G c m vis found K → Stage (Some room) 0 ws tab m₀ vis₀ found₀ G c (set m (10 + d) x) vis found K
-leveled {m = m} d x b o =
-    let e : (j : ℕ) → j < 10 → get_or (set m (10 + d) x) j 0 ≡ get_or m j 0 = λ j h. get_or-set_other m (10 + d) j x 0 (λ q. omega arith) in
-    let at = e 0 (omega arith) in
-    let top = e 1 (omega arith) in
-    let cur = e 2 (omega arith) in
-    let last = e 3 (omega arith) in
-    let said = e 4 (omega arith) in
-    let told = e 5 (omega arith) in
-    let lost = e 6 (omega arith) in
-    let made = e 8 (omega arith) in
-    let taken = e 9 (omega arith) in
-    let size = length-set m (10 + d) x in
+-- ---- a level is written
+abbrev pub leveled : Walk → ℕ → Level → Walk
+leveled w d x = record w { levels = set w.levels d x }
+
+written : {room free : ℕ} {c : Context} {w₀ : Walk} {G : Goer} {w : Walk} {K : Rest} (d : ℕ) (x : Level) → d ≤ room → Stage (Some room) 0 c w₀ G free w K → Stage (Some room) 0 c w₀ G free (leveled w d x) K
+written {w = w} d x b o =
     record {
-      from = omega (arith, o.from, at);
-      size = size ∙ o.size;
-      sized = size ∙ o.sized;
-      seen = o.seen;
-      wrote = o.wrote;
+      from = o.from;
+      still = record { visible = o.still.visible; log = o.still.log };
       fit = λ k y. let f = o.fit k y in
           record {
-            size = size ∙ f.size;
-            tabled = rw top f.tabled;
-            descends = rw (cur, top) f.descends;
-            cur = rw (cur, last) f.cur;
-            last = rw (last, at) f.last;
-            count = rw (said, told, at) f.count;
-            stack = rw (top, at) f.stack;
-            needs = rw (made, taken, at) f.needs;
-            within = rw at f.within;
+            some = f.some;
+            places = f.places;
+            sound = f.sound;
+            descends = f.descends;
+            cur = f.cur;
+            last = f.last;
+            count = f.count;
+            stack = f.stack;
+            needs = f.needs;
+            within = f.within;
             names = f.names;
             room = f.room;
           };
-      keeps = record { kept = framed o.keeps.kept (record { top = omega (arith, top); last = omega (arith, last); below = refl; held = e 7 (omega arith); levels = λ i h. get_or-set_other m (10 + d) (10 + i) x 0 (λ q. omega arith) }) };
+      keeps = record { kept = framed o.still o.keeps.kept (record { top = omega arith; last = omega arith; below = refl; levels = λ i h. get_or-set_other w.levels d i x idle (λ q. omega arith) }) };
       on = λ id s h. let n = o.on id s h in let k = n.holds in
           record {
             state = n.state;
-            holds = record { visible = rw top k.visible; cur = cur ∙ k.cur; last = last ∙ k.last; log = rw said k.log; kinds = rw told k.kinds; known = rw lost k.known; counts = record { made = made ∙ k.counts.made; taken = taken ∙ k.counts.taken }; uses = k.uses };
-            same = rw at n.same;
+            holds = record { visible = k.visible; cur = k.cur; last = k.last; log = k.log; kinds = k.kinds; known = k.known; counts = record { made = k.counts.made; taken = k.counts.taken }; uses = k.uses };
+            same = n.same;
           };
     }
 
-module _ {ws tab m₀ vis₀ found₀ : List ℕ} {room mode n : ℕ} {m vis found : List ℕ} {at left now later d code a : ℕ} (o : Heading ws tab m₀ vis₀ found₀ room mode n m vis found at left now later d code a) where
-  pub row-leaf : parts_of (shape code) a ≡ 0 → Rowing ws tab m₀ vis₀ found₀ room mode n m vis found at (left - 1) later later d
+module _ {c : Context} {w₀ : Walk} {room : ℕ} {mode : Mode} {n : ℕ} {first : Settings} {w : Walk} {left : ℕ} {now later : Setting} {d t code a : ℕ} (o : Heading c w₀ room mode n first w left now later d t code a) where
+  pub row-leaf : {k : ℕ} → k ≡ parts_of t a → k ≡ 0 → Rowing c w₀ room mode n first w (left - 1) later later d
   unfolding row_go
-  row-leaf z =
-      record {
-        levels = o.levels;
-        first = o.others;
-        others = o.others;
-        count = omega (arith, o.count);
-        size = o.size;
-        stage = recast _ o.stage (λ id s t r. rw z);
-      }
+  row-leaf e z = record { le = o.le; low = o.low; count = omega (arith, o.count); stage = recast _ o.stage (λ id s t r. rw (← e, z)) }
 
-  pub row-down : (k q : ℕ) → k ≡ parts_of (shape code) a → k ≤ 524287 → q < 64 → pair_of q ≡ settings (λ x. eqb (suc x) (ident_in tab)) (headed code a) (setting_of now) → Rowing ws tab m₀ vis₀ found₀ room mode n (set m (10 + d) ((left - 1) * 8 + later)) vis found at k (q % 8) (q / 8) (d - 1)
-  row-down k q e l b p =
-      let w = o.levels.le in
-      let v = o.levels.low in
+  pub row-down : {k : ℕ} {p : Settings} → k ≡ parts_of t a → ((id : ℕ → ℕ) → pair_of p ≡ settings (world_at c id).is_id (headed code a) (setting_of now)) → d < length w.levels → Rowing c w₀ room mode n first (leveled w d (record { left = left - 1; later = later })) k p.first p.later (d - 1)
+  row-down {k} {p} e q l =
+      let b = o.le in
       let g = o.deep in
-      let i = o.more in
-      let u = o.others in
-      let c = o.count in
-      let x = (left - 1) * 8 + later in
+      let x : Level = record { left = left - 1; later = later } in
       let z : room - (d - 1) ≡ suc (room - d) = omega arith in
-      let mine : level_of (set m (10 + d) x) d ≡ x = get_or-set_same m (10 + d) x 0 (omega (arith, o.size)) in
-      let other : (j : ℕ) → d < j → level_of (set m (10 + d) x) j ≡ level_of m j = λ j h. get_or-set_other m (10 + d) (10 + j) x 0 (λ q. omega arith) in
+      let mine : level_of (leveled w d x) d ≡ x = get_or-set_same w.levels d x idle l in
+      let other : (j : ℕ) → d < j → level_of (leveled w d x) j ≡ level_of w j = λ j h. get_or-set_other w.levels d j x idle (λ q. omega arith) in
       record {
-        levels = record { le = omega arith; low = v; few = few mine other };
-        first = omega arith;
-        others = omega arith;
-        count = l;
-        size = length-set m (10 + d) x ∙ o.size;
-        stage = rw (set_comm m (10 + d) 0 x at (λ q. omega arith)) (recast _ (leveled d x w o.stage)
-            (λ id s t r. rw (← e, ← p) (bind-each (row_go (within ws tab mode id (d - 1)) k (pair_of q) t r) _ _
-            (λ y r2. climb-more (within ws tab mode id) (level_of m) (level_of (set m (10 + d) x)) d (room - d) (room - (d - 1)) (left - 1) later y r2 z u g mine (λ j h. sym (other j h))))));
+        le = omega arith;
+        low = o.low;
+        count = omega (arith, e, o.few);
+        stage = recast _ (written d x b o.stage)
+            (λ id s t r. rw (← e, ← (q id)) (bind-each (row_go (within c mode id (d - 1)) k (pair_of p) t r) _ _
+            (λ y r2. climb-more (within c mode id) (level_of w) (level_of (leveled w d x)) d (room - d) (room - (d - 1)) x y r2 z g mine (λ j h. sym (other j h)))));
       }
-    where
-      few : level_of (set m (10 + d) ((left - 1) * 8 + later)) d ≡ (left - 1) * 8 + later → ((j : ℕ) → d < j → level_of (set m (10 + d) ((left - 1) * 8 + later)) j ≡ level_of m j) → (i : ℕ) → d - 1 < i → i ≤ room → level_of (set m (10 + d) ((left - 1) * 8 + later)) i < 4194304
-      few mine other i h r = go (ltb d i) refl
-        where
-          go : (b : Bool) → ltb d i ≡ b → level_of (set m (10 + d) ((left - 1) * 8 + later)) i < 4194304
-          go true q = rw (other i (ltb-true d i q)) (o.levels.few i (ltb-true d i q) r)
-          go false q =
-              let e : i ≡ d = omega (arith, ltb-false d i q) in
-              rw (e, mine) (omega (arith, o.count, o.others))
 
--- where two ways meet
-pub head_at_lem : {ws tab m₀ vis₀ found₀ : List ℕ} {room mode n : ℕ} {m vis found m' found' : List ℕ} {at left now later d code a : ℕ} → m' ≡ m → found' ≡ found → Heading ws tab m₀ vis₀ found₀ room mode n m vis found at left now later d code a → Heading ws tab m₀ vis₀ found₀ room mode n m' vis found' at left now later d code a
-head_at_lem p q h = rw (p, q) h
+-- ---- any number of expressions, one after the other: k were walked
+pub record Counting (c : Context) (w₀ : Walk) (room : ℕ) (mode : Mode) (n : ℕ) (settings : Settings) (w : Walk) (k : ℕ) (now : Setting) : Type 0 where
+  pub stage : Stage (Some room) 0 c w₀ (row_at c room (mode_of mode) n (pair_of settings)) 0 w (λ id s t. last (row_go (within c mode id room) (n - k) (both (setting_of now) (setting_of settings.later)) t))
 
--- a head takes a word at least, which outweighs a level and what is left there
-pub lighter : (n at p room d left k : ℕ) → at < p → p ≤ n → 0 < d → d ≤ room → k ≤ 524287 → (64 * (n - p) + (room - (d - 1))) * 524288 + k < (64 * (n - at) + (room - d)) * 524288 + left
-lighter n at p room d left k h l g b m =
-    let z : 64 * (n - p) + (room - (d - 1)) < 64 * (n - at) + (room - d) = omega arith in
-    omega (arith, z, m)
+pub count-begin : {c : Context} {w : Walk} (room : ℕ) (mode : Mode) (n : ℕ) (settings : Settings) → Ready 0 c w → Counting c w room mode n settings w 0 settings.first
+count-begin {c} room mode n settings h =
+    let z : n ≡ n - 0 = omega arith in
+    record { stage = start _ h (λ id s r. ap (λ (k : ℕ). row_go (within c mode id room) k (pair_of settings) s r) z) }
 
--- ---- any number of expressions, one after the other
-pub record Counting (ws tab m₀ vis₀ found₀ : List ℕ) (room mode n : ℕ) (m vis found : List ℕ) (left now later : ℕ) : Type 0 where
-  pub first : now < 8
-  pub others : later < 8
-  pub stage : Stage (Some room) 0 ws tab m₀ vis₀ found₀ (row_at ws tab room mode n) 0 m vis found (λ id s t. last (row_go (within ws tab mode id room) left (both (setting_of now) (setting_of later)) t))
-
-pub count-begin : {ws tab m vis found : List ℕ} (room mode n : ℕ) → Ready 0 ws tab m vis found → Counting ws tab m vis found room mode n m vis found n (mode % 8) (mode / 8 % 8)
-count-begin room mode n h = record { first = omega arith; others = omega arith; stage = start _ h (λ id s r. refl) }
-
-module _ {ws tab m₀ vis₀ found₀ : List ℕ} {room mode n : ℕ} {m vis found : List ℕ} {left now later : ℕ} (o : Counting ws tab m₀ vis₀ found₀ room mode n m vis found left now later) where
-  count_next : 0 < left → Stage (Some room) 0 ws tab m₀ vis₀ found₀ (row_at ws tab room mode n) 0 m vis found
-      (λ id s t. step (within ws tab mode id room (setting_of now) t) (λ x. last (row_go (within ws tab mode id room) (left - 1) (both (setting_of later) (setting_of later)) x)))
+module _ {c : Context} {w₀ : Walk} {room : ℕ} {mode : Mode} {n : ℕ} {first : Settings} {w : Walk} {k : ℕ} {now : Setting} (o : Counting c w₀ room mode n first w k now) where
+  count_next : k < n → Stage (Some room) 0 c w₀ (row_at c room (mode_of mode) n (pair_of first)) 0 w
+      (λ id s t. step (within c mode id room (setting_of now) t) (λ x. last (later_row (within c mode id room) (n - (k + 1)) first.later x)))
   unfolding row_go
   count_next h =
-      let l : left ≡ suc (left - 1) = omega arith in
-      recast _ o.stage (λ id s t r. ap (λ (k : ℕ). row_go (within ws tab mode id room) k (both (setting_of now) (setting_of later)) t r) l)
+      let l : n - k ≡ suc (n - (k + 1)) = omega arith in
+      recast _ o.stage (λ id s t r. ap (λ (j : ℕ). row_go (within c mode id room) j (both (setting_of now) (setting_of first.later)) t r) l)
 
-  pub count-one : {m' vis' found' : List ℕ} {a : ℕ} → 0 < left → a ≡ 0 → Walked room ws tab m vis found m' vis' found' (expr_in ws tab room mode (setting_of now)) a → Counting ws tab m₀ vis₀ found₀ room mode n m' vis' found' (left - 1) later later
-  count-one h q x = record { first = o.others; others = o.others; stage = go (count_next h) x (omega arith) q }
+  pub count-one : {w' : Walk} {u : Unit {0}} → k < n → Walked room c w w' (expr_at c room (mode_of mode) (setting_of now)) (Ok u) → Counting c w₀ room mode n first w' (k + 1) first.later
+  count-one h x = record { stage = go (count_next h) x (omega arith) }
 
-  pub count-fall : {m' vis' found' : List ℕ} (a : ℕ) → 0 < left → (a ≡ 0 → ⊥) → Walked room ws tab m vis found m' vis' found' (expr_in ws tab room mode (setting_of now)) a → Walked room ws tab m₀ vis₀ found₀ m' vis' found' (row_at ws tab room mode n) a
-  count-fall a h q x = fell a q (count_next h) x
+  pub count-fall : {w' : Walk} {e : Refusal} (r : Result (Unit {0}) Refusal) → k < n → Walked room c w w' (expr_at c room (mode_of mode) (setting_of now)) (Err e) → IsErr r × IsErrAnd r (λ y. y ≡ e) → Walked room c w₀ w' (row_at c room (mode_of mode) n (pair_of first)) r
+  count-fall r h x q = fell r (count_next h) x q
 
-  pub count-done : left ≤ 0 → Walked room ws tab m₀ vis₀ found₀ m vis found (row_at ws tab room mode n) 0
+  pub count-done : {u : Unit {0}} → n ≤ k → Walked room c w₀ w (row_at c room (mode_of mode) n (pair_of first)) (Ok u)
   unfolding row_go
   count-done h =
-      let z : left ≡ 0 = omega arith in
+      let z : n - k ≡ 0 = omega arith in
       done (recast (λ id s t. last (ok t)) o.stage (λ id s t r. rw z))

@@ -1,7 +1,7 @@
 pub mod Codes
 pub mod Plains
 pub mod Stage
-pub mod Modes
 pub mod Paid
-pub mod Climb
 pub mod Acts
+pub mod Climb
+pub mod Readings

@@ -1,5 +1,5 @@
 -- What is read pays for what is done: a head has as many words as its act costs and its name is in range (`form-paid`), a part as
--- many as its path costs (`part-paid`), an element three (`elem-paid`); a mark counts few expressions (`mark-few`). A refusal for depth has a number (`deep-some`).
+-- many as its path costs (`part-paid`), an element three (`elem-paid`); a mark counts few expressions (`mark-few`).
 use Rattle.std.specs.Prelude.{Option, None, Some}
 use Prim.Native.Nat.{ℕ, ◌+◌, ◌<◌, ◌≤◌}
 use native.Mathlib.Omega.{arith}
@@ -11,7 +11,7 @@ use lib.ListN.{length, drop, length-append, length-drop}
 use Rattle.heads.specs.Got.{ok, word_in}
 use Rattle.heads.specs.Answer.{Ans}
 use Rattle.heads.specs.Form.{read_form, form_words}
-use Rattle.heads.specs.Head.{read_part, read_elem, mark_low, mark_high, mark_kids, deep_cause}
+use Rattle.heads.specs.Head.{read_part, read_elem, mark_low, mark_high, mark_kids}
 use Rattle.heads.specs.declared.Form.{Form}
 use Rattle.heads.specs.declared.Form.TheVariants.{Leaf, Var, Unresolved, Prop, Two, Slice, Many, BinOp, UnaryOp, Case, IsNull, PatternPredicate, ListComprehension, PatternComprehension, ListPredicate, MapProjection}
 use Rattle.heads.specs.declared.Part.{Part}
@@ -48,29 +48,29 @@ worth (PatternComprehension a b g) = omega arith
 worth (ListPredicate g) = omega arith
 worth (MapProjection n) = omega arith
 
-named : (names slots : ℕ) (f : Form) → names ≤ slots → WellForm names f → Named slots f
-named names slots (Leaf k) l h = tt
-named names slots (Var v) l h = tt
-named names slots (Unresolved x) l h = omega arith
-named names slots (Prop x) l h = tt
-named names slots (Two k) l h = tt
-named names slots (Slice b) l h = tt
-named names slots (Many k n) l h = tt
-named names slots (BinOp o) l h = tt
-named names slots (UnaryOp o) l h = tt
-named names slots (Case b n) l h = tt
-named names slots IsNull l h = tt
-named names slots PatternPredicate l h = tt
-named names slots (ListComprehension g) l h = tt
-named names slots (PatternComprehension a b g) l h = tt
-named names slots (ListPredicate g) l h = tt
-named names slots (MapProjection n) l h = tt
+named : (names : ℕ) (f : Form) → WellForm names f → Named names f
+named names (Leaf k) h = tt
+named names (Var v) h = tt
+named names (Unresolved x) h = h
+named names (Prop x) h = tt
+named names (Two k) h = tt
+named names (Slice b) h = tt
+named names (Many k n) h = tt
+named names (BinOp o) h = tt
+named names (UnaryOp o) h = tt
+named names (Case b n) h = tt
+named names IsNull h = tt
+named names PatternPredicate h = tt
+named names (ListComprehension g) h = tt
+named names (PatternComprehension a b g) h = tt
+named names (ListPredicate g) h = tt
+named names (MapProjection n) h = tt
 
 module _ (ws : List ℕ) (at p : ℕ) where
-  pub form-paid : (names slots : ℕ) (f : Form) → names ≤ slots → Ans ws at (read_form names (drop at ws)) (ok f (drop p ws)) p → (cost_of f + at ≤ p) × Named slots f
-  form-paid names slots f l a =
+  pub form-paid : (names : ℕ) (f : Form) → Ans ws at (read_form names (drop at ws)) (ok f (drop p ws)) p → (cost_of f + at ≤ p) × Named names f
+  form-paid names f a =
       let g = (form-gives names (drop at ws)).given f (drop p ws) a.same in
-      (omega (arith, worth f, passed ws (form_words f) at p g.0 a.from a.within), named names slots f l g.1)
+      (omega (arith, worth f, passed ws (form_words f) at p g.0 a.from a.within), named names f g.1)
 
   pub part-paid : (h : Part) → Ans ws at (read_part (drop at ws)) (ok h (drop p ws)) p → (path_cost h.path + at ≤ p) × (at < p)
   unfolding maybe_words
@@ -102,8 +102,3 @@ module _ (ws : List ℕ) (at p : ℕ) where
 
       few : (kind w : ℕ) → w < mark_high kind → mark_kids kind w ≤ 2
       few kind w h = bound w (eqb kind 0) (eqb kind 1) (eqb w 1) (eqb w 2) h
-
-pub deep-some : (l : List ℕ) → deep_cause l ≡ 0 → ⊥
-unfolding deep_cause
-deep-some [] e = omega arith
-deep-some (w ∷ l) e = omega arith

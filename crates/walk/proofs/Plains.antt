@@ -1,32 +1,59 @@
 -- What a plain head is by its code (`laws`, one line for each code): how it is read, its parts, their settings, and what it does itself.
 -- `plain-read`: it is read there. `plain-expr`: an expression with such a head is what the head does, and then its parts in a row, a level
 -- lower. `plain-calm`: where the shape has no bit for a setting, the head does nothing there.
+use Rattle.std.specs.Prelude.{Option, None, Some}
+use Rattle.std.specs.Option.{option_eq}
 use Prim.Native.Nat.{ℕ, zero, suc, ◌+◌, ◌/◌, ◌%◌, ◌^◌, ◌≤◌, ◌<◌}
 use native.Mathlib.Omega.{arith}
-use mathlib.Core.Path.{◌≡◌, refl, ap, ◌∙◌}
+use mathlib.Core.Path.{◌≡◌, refl, ap, sym, ◌∙◌}
 use mathlib.Core.Bool.{Bool, true, false, cond, ◌&&◌}
 use mathlib.Core.List.{List, [], ◌∷◌}
 use lib.Dec.{eqb}
 use lib.ListN.{length, get_or, drop}
-use borrow.Author.Tests.{lt-ltb, le-leb, eqb-true, eqb-false}
+use borrow.Author.Tests.{lt-ltb, le-leb, eqb-true, eqb-false, ne_eqb}
 use Rattle.words.proofs.Words.{drop-word}
 use Rattle.heads.specs.Got.{Got, ok, no, bind, word_in}
 use Rattle.heads.specs.Form.{shape_of, limit_of, form_none, form_one, rest_of, read_form, kids_of, items_of}
 use Rattle.heads.specs.Head.{Tables}
 use Rattle.heads.specs.declared.Form.{Form}
-use Rattle.semantics.specs.Log.{Finding}
+use Rattle.semantics.specs.Log.{Finding, e5010, e5011}
 use Rattle.semantics.specs.World.{World}
 use Rattle.semantics.specs.Resolve.{State}
-use Rattle.semantics.specs.Kinds.{Setting, is_arithmetic, settings, type_of, at_type}
+use Rattle.semantics.specs.Kinds.{Setting, Pair, general, arithmetic, property, boolean, listed, both, passes, is_arithmetic, settings, type_of, at_type}
 use Rattle.fused.specs.Fused.{Both, Mode, Go, when, told, step, same, tail_of, head_of, inner_go, rounds, row_go, rest_go, expr_go}
 use Rattle.expr.proofs.Inverse.{never}
 use Rattle.flat.proofs.Codes.{Each, ◌▹◌}
-use Rattle.steps.specs.Memory.{setting_of}
-use Rattle.steps.specs.Hold.{pair_of, cost_of}
-use Rattle.steps.proofs.Heads.{passed-low, passed-high}
+use Rattle.steps.specs.Modes.{setting_of, pair_of}
+use Rattle.steps.specs.Memory.{is_the}
+use Rattle.steps.specs.Hold.{cost_of}
+use Rattle.steps.specs.declared.mode.Setting.{Setting as Setting'}
+use Rattle.steps.specs.declared.mode.Setting.TheVariants.{General, Arithmetic, Property, Boolean, Indexed, Sliced, Iterated, Quantified}
+use Rattle.steps.specs.declared.mode.Settings.{Settings}
 use Rattle.walk.proofs.Codes.{both_true}
-use Rattle.walk.specs.Plain.{shape, limit, headed, parts_of, type_by, Plain, Plainly}
+use Rattle.walk.specs.Plain.{shape, limit, headed, parts_of, type_by, number_of, Plain, Plainly}
 
+-- ---- settings by their numbers in the shapes
+abbrev setting_by : ℕ → Setting
+setting_by n = get_or (general ∷ arithmetic ∷ property ∷ boolean ∷ listed e5010 1 ∷ listed e5010 2 ∷ listed e5010 3 ∷ listed e5011 0 ∷ []) n general
+
+numbered : (s : Setting') → (number_of s < 8) × (setting_by (number_of s) ≡ setting_of s)
+numbered General = (omega arith, refl)
+numbered Arithmetic = (omega arith, refl)
+numbered Property = (omega arith, refl)
+numbered Boolean = (omega arith, refl)
+numbered Indexed = (omega arith, refl)
+numbered Sliced = (omega arith, refl)
+numbered Iterated = (omega arith, refl)
+numbered Quantified = (omega arith, refl)
+
+-- the two that a shape has
+abbrev pub pair_by : ℕ → Pair
+pair_by t = both (setting_by (t / 256 % 8)) (setting_by (t / 2048 % 8))
+
+pub paired : (p : Settings) (t : ℕ) → number_of p.first ≡ t / 256 % 8 → number_of p.later ≡ t / 2048 % 8 → pair_of p ≡ pair_by t
+paired p t e f = rw (← e, ← f, (numbered p.first).1, (numbered p.later).1)
+
+-- ---- each code
 -- a head of one word and one of two, whose second word is in range
 pub data Sort (code a : ℕ) : Type 0 where
   bare : shape_of code ≡ 1 → shape code % 2 ≡ 0 → Sort code a
@@ -45,12 +72,12 @@ pub record Law (code a : ℕ) : Type 0 where
   pub cost : cost_of (headed code a) ≤ 1 + shape code % 2
   pub small : shape code < 16777216
   pub halved : shape code / 32 % 2 ≤ shape code / 16 % 2
-  pub pair : (code ≡ 9 → ⊥) → (code ≡ 15 → ⊥) → (code ≡ 16 → ⊥) → (i : ℕ → Bool) (c : Setting) → pair_of (shape code / 256 % 64) ≡ settings i (headed code a) c
+  pub pair : (code ≡ 9 → ⊥) → (code ≡ 15 → ⊥) → (code ≡ 16 → ⊥) → (i : ℕ → Bool) (c : Setting) → pair_by (shape code) ≡ settings i (headed code a) c
   pub type : (code ≡ 7 → ⊥) → (code ≡ 8 → ⊥) → (w : World) (m : Mode) (c : Setting) (s : Both) → head_of w m (headed code a) c s ≡ step m same (at_type c (type_by code)) s
   pub simple : Simple (headed code a)
 
 module _ {code a : ℕ} where
-  of : Sort code a → kids_of (headed code a) ≡ parts_of (shape code) a → parts_of (shape code) a ≤ 524287 → cost_of (headed code a) ≤ 1 + shape code % 2 → shape code < 16777216 → shape code / 32 % 2 ≤ shape code / 16 % 2 → ((code ≡ 9 → ⊥) → (code ≡ 15 → ⊥) → (code ≡ 16 → ⊥) → (i : ℕ → Bool) (c : Setting) → pair_of (shape code / 256 % 64) ≡ settings i (headed code a) c) → ((code ≡ 7 → ⊥) → (code ≡ 8 → ⊥) → (w : World) (m : Mode) (c : Setting) (s : Both) → head_of w m (headed code a) c s ≡ step m same (at_type c (type_by code)) s) → ((w : World) (E : Mode → Setting → Go) (m : Mode) (s : Both) (r : List ℕ) → inner_go w E m (headed code a) s r ≡ ok s r) → ((m : Mode) (s t : Both) → tail_of m (headed code a) s t ≡ t) → items_of (headed code a) ≡ 0 → Law code a
+  of : Sort code a → kids_of (headed code a) ≡ parts_of (shape code) a → parts_of (shape code) a ≤ 524287 → cost_of (headed code a) ≤ 1 + shape code % 2 → shape code < 16777216 → shape code / 32 % 2 ≤ shape code / 16 % 2 → ((code ≡ 9 → ⊥) → (code ≡ 15 → ⊥) → (code ≡ 16 → ⊥) → (i : ℕ → Bool) (c : Setting) → pair_by (shape code) ≡ settings i (headed code a) c) → ((code ≡ 7 → ⊥) → (code ≡ 8 → ⊥) → (w : World) (m : Mode) (c : Setting) (s : Both) → head_of w m (headed code a) c s ≡ step m same (at_type c (type_by code)) s) → ((w : World) (E : Mode → Setting → Go) (m : Mode) (s : Both) (r : List ℕ) → inner_go w E m (headed code a) s r ≡ ok s r) → ((m : Mode) (s t : Both) → tail_of m (headed code a) s t ≡ t) → items_of (headed code a) ≡ 0 → Law code a
   of x k f o m h p t i l n = record { sort = x; kids = k; few = f; cost = o; small = m; halved = h; pair = p; type = t; simple = record { items = n; inner = i; tail = l } }
 
 laws : Each (λ code. (a : ℕ) → 0 < shape code → a ≤ limit code → Law code a)
@@ -157,7 +184,7 @@ abbrev bit : ℕ → ℕ → ℕ
 bit code n = shape code / 2 ^ (16 + n) % 2
 
 abbrev calm : ℕ → ℕ → Bool
-calm code n = cond (eqb (bit code n) 0) (empty (at_type (setting_of n) (type_by code))) true
+calm code n = cond (eqb (bit code n) 0) (empty (at_type (setting_by n) (type_by code))) true
 
 calms : Each (λ code. 0 < shape code → below 8 (calm code) ≡ true)
 unfolding at_type
@@ -179,44 +206,42 @@ still m [] s e = go m.resolves m.checks s.names s.kinds
     go false true n k = refl
     go false false n k = refl
 
-pub plain-calm : (code a n : ℕ) → 0 < shape code → a ≤ limit code → n < 8 → (shape code / 2 ^ (16 + n) % 2 ≡ 1 → ⊥) → (w : World) (m : Mode) (s : Both) → head_of w m (headed code a) (setting_of n) s ≡ s
-plain-calm code a n h l b z w m s =
-    let seven : code ≡ 7 → ⊥ = λ e. z (rw e (uses n b).0) in
-    let eight : code ≡ 8 → ⊥ = λ e. z (rw e (uses n b).1) in
-    let none : bit code n ≡ 0 = omega (arith, z) in
-    (law code a h l).type seven eight w m (setting_of n) s ∙ still m _ s (rw none at (below_at 8 (calm code) n (calms.at code h) b))
+pub plain-calm : (code a : ℕ) (set : Setting') → 0 < shape code → a ≤ limit code → eqb (shape code / 2 ^ (16 + number_of set) % 2) 1 ≡ false → (w : World) (m : Mode) (s : Both) → head_of w m (headed code a) (setting_of set) s ≡ s
+plain-calm code a set h l z w m s =
+    let n = numbered set in
+    let k = eqb-false (bit code (number_of set)) 1 z in
+    let seven : code ≡ 7 → ⊥ = λ e. k (rw e (uses (number_of set) n.0).0) in
+    let eight : code ≡ 8 → ⊥ = λ e. k (rw e (uses (number_of set) n.0).1) in
+    let none : bit code (number_of set) ≡ 0 = omega (arith, k) in
+    (law code a h l).type seven eight w m (setting_of set) s ∙ still m _ s (rw (none, n.1) at (below_at 8 (calm code) (number_of set) (calms.at code h) n.0))
 
 -- ---- the settings that go by the word or by the head's own setting
-agree : (b : Bool) (x : ℕ) → cond b (eqb x 1) (eqb x 0) ≡ true → (x ≡ 1 → b ≡ true) × ((x ≡ 1 → ⊥) → b ≡ false)
-agree true x e = (λ h. refl, λ h. absurd (h (eqb-true x 1 e)))
-agree false x e = (λ h. let z = eqb-true x 0 e in absurd (omega arith), λ h. refl)
+agree : (b : Bool) (x : ℕ) → cond b (eqb x 1) (eqb x 0) ≡ true → eqb x 1 ≡ b
+agree true x e = e
+agree false x e = rw (eqb-true x 0 e)
 
-arith-ops : (a : ℕ) → a ≤ 19 → (3903 / 2 ^ (a % 32) % 2 ≡ 1 → is_arithmetic a ≡ true) × ((3903 / 2 ^ (a % 32) % 2 ≡ 1 → ⊥) → is_arithmetic a ≡ false)
+arith-ops : (code a : ℕ) → code ≡ 15 → a ≤ limit code → eqb (3903 / 2 ^ (a % 32) % 2) 1 ≡ is_arithmetic a
 unfolding is_arithmetic
-arith-ops a h = agree _ _ (below_at 20 (λ a. cond (is_arithmetic a) (eqb (3903 / 2 ^ (a % 32) % 2) 1) (eqb (3903 / 2 ^ (a % 32) % 2) 0)) a refl (omega arith))
+arith-ops code a e l = let h : a ≤ 19 = rw e at l in agree _ _ (below_at 20 (λ a. cond (is_arithmetic a) (eqb (3903 / 2 ^ (a % 32) % 2) 1) (eqb (3903 / 2 ^ (a % 32) % 2) 0)) a refl (omega arith))
+
+-- whether the name is `id`
+pub the-same : (a : ℕ) (o : Option ℕ) → is_the a o ≡ option_eq eqb o (Some a)
+the-same a None = refl
+the-same a (Some y) = go (eqb y a) refl
+  where
+    go : (b : Bool) → eqb y a ≡ b → eqb a y ≡ eqb y a
+    go true q = rw (eqb-true y a q)
+    go false q = rw q (ne_eqb a y (λ e. eqb-false y a q (sym e)))
 
 module _ (i : ℕ → Bool) (code a : ℕ) (c : Setting) where
-  pub prop-id : code ≡ 9 → i a ≡ true → pair_of 0 ≡ settings i (headed code a) c
+  pub prop-pair : {b : Bool} → code ≡ 9 → i a ≡ b → both (cond b general property) general ≡ settings i (headed code a) c
   unfolding shape_of form_one settings
-  prop-id e h = rw (e, h)
+  prop-pair e q = rw (e, ← q)
 
-  pub prop-other : code ≡ 9 → i a ≡ false → pair_of 2 ≡ settings i (headed code a) c
+  pub binary-pair : {b : Bool} → code ≡ 15 → a ≤ limit code → eqb (3903 / 2 ^ (a % 32) % 2) 1 ≡ b → both (cond b arithmetic general) (cond b arithmetic general) ≡ settings i (headed code a) c
   unfolding shape_of form_one settings
-  prop-other e h = rw (e, h)
+  binary-pair e l q = rw (e, ← q, arith-ops code a e l)
 
-  pub binary : code ≡ 15 → a ≤ limit code → 3903 / 2 ^ (a % 32) % 2 ≡ 1 → pair_of 9 ≡ settings i (headed code a) c
+  pub unary-pair : code ≡ 16 → both (passes c) general ≡ settings i (headed code a) c
   unfolding shape_of form_one settings
-  binary e l h = let k : a ≤ 19 = rw e at l in rw (e, (arith-ops a k).0 h)
-
-  pub binary-other : code ≡ 15 → a ≤ limit code → (3903 / 2 ^ (a % 32) % 2 ≡ 1 → ⊥) → pair_of 0 ≡ settings i (headed code a) c
-  unfolding shape_of form_one settings
-  binary-other e l h = let k : a ≤ 19 = rw e at l in rw (e, (arith-ops a k).1 h)
-
-module _ (i : ℕ → Bool) (code a set : ℕ) (e : code ≡ 16) where
-  pub unary : set < 3 → pair_of set ≡ settings i (headed code a) (setting_of set)
-  unfolding shape_of form_one settings
-  unary h = rw e (passed-low set h)
-
-  pub unary-other : 3 ≤ set → pair_of 0 ≡ settings i (headed code a) (setting_of set)
-  unfolding shape_of form_one settings
-  unary-other h = rw e (passed-high set h)
+  unary-pair e = rw e

@@ -214,7 +214,14 @@ fn walk_mark(
 {
     let (k, at) = context.section.word_in(walk.at, kind.low(), kind.high())?;
     walk.at = at;
-    walk_row(walk, context, room, kind.kids(k), mode, Settings::all(Setting::General))
+    walk_row(
+        walk,
+        context,
+        room,
+        kind.kids(k),
+        mode,
+        Settings::all(Setting::General),
+    )
 }
 
 // A pattern: the number of its parts, and the parts.

@@ -2,10 +2,6 @@
 use Rattle.walk.proofs.Acts.{path-none}
 use Rattle.walk.proofs.bind_part.Goals as goal
 
-pub bind_path-requires : goal.bind_path-requires
-bind_path-requires c =
-    rw c.in-Some.is at c.requires
-
 pub returns-in-Some : goal.returns-in-Some
 returns-in-Some c =
     rw c.in-Some.is c.bind_path.ensures
