@@ -32,12 +32,13 @@ use Rattle.finding.specs.Flat.{finding_words}
 use Rattle.entries.specs.Filled.{filled, scope_words, binding_words, carried_words, recorded_words, with_scopes, with_bindings, with_carried, with_recorded, with_findings}
 use Rattle.entries.specs.Adding.{Holds}
 use Rattle.entries.proofs.Filling.{length-flat, length-filled, sized-carried}
-use Rattle.lists_fill.specs.Said.{told_in}
+use Rattle.lists_fill.specs.Said.{all_told}
 use Rattle.checker.specs.Checked.{Lent, counts_of, filled_by, answer, left, fits, answer_in, left_in, Answers}
-use Rattle.checker.specs.Filling.{fitting, all_events, all_bound, Clean, IsSized, Heard, Fitting, Filling, Again}
+use Rattle.sheet_walk.specs.Runs.{Clean, Still}
+use Rattle.checker.specs.Filling.{fitting, all_events, all_bound, Heard, Fitting, Filling, Again}
 use Rattle.checker.specs.declared.Counts.{Counts}
-use Rattle.checker.specs.declared.Tally.{Tally}
-use Rattle.checker.specs.declared.Scratch.{Scratch}
+use Rattle.rows.specs.declared.Index.{Index}
+use Rattle.sheet_walk.specs.declared.Scratch.{Scratch}
 use Rattle.checker.proofs.Fits.{fits_by, Long, long}
 use Rattle.checker.proofs.Reading.{carrieds-back}
 
@@ -61,54 +62,56 @@ module _ (warns : Bool) (s : List ℕ) (old : Lent ℕ) (room : ℕ) where
 pub same-fits : (warns : Bool) (s : List ℕ) (old : Lent ℕ) (room : ℕ) {a b : Statement} → read_sheet s ≡ accepted a → read_sheet s ≡ accepted b → fits (length (words s)) (counts_of warns a) old room ≡ true → fits (length (words s)) (counts_of warns b) old room ≡ true
 same-fits warns s old room {a} {b} p q f = let e : a ≡ b = cc in subst (λ (st : Statement). fits (length (words s)) (counts_of warns st) old room ≡ true) e f
 
-module _ {warns : Bool} {s was has : List ℕ} {t : Tally} {a : Scratch} (h : Heard warns s t a was has) where
-  pub copied : {old new : List ℕ} → t.taken * 3 ≤ length was → t.taken * 3 ≤ length old → new ≡ filled old (take (t.taken * 3) has) → Holds carried_words old new t.taken (carried_list warns h.statement)
+module _ {warns : Bool} {s was has : List ℕ} {x : Index} {a : Scratch} (h : Heard warns s a was has x) where
+  pub copied : {old new : List ℕ} → a.walk.taken * 3 ≤ length was → a.walk.taken * 3 ≤ length old → new ≡ filled old (take (a.walk.taken * 3) has) → Holds carried_words old new a.walk.taken (carried_list warns h.statement)
   unfolding filled
-  copied {old} {new} a b e =
+  copied {old} {new} p q e =
       let cs = carried_list warns h.statement in
       let ws = flat_map carried_words cs in
-      let n : length ws ≡ t.taken * 3 = length-flat carried_words 3 sized-carried cs ∙ ap (λ (n : ℕ). n * 3) (sym h.taken) in
-      let same : take (t.taken * 3) has ≡ ws = ap (take (t.taken * 3)) (h.carries a).wrote ∙ take_at ws _ (t.taken * 3) n in
+      let n : length ws ≡ a.walk.taken * 3 = length-flat carried_words 3 sized-carried cs ∙ ap (λ (n : ℕ). n * 3) (sym h.taken) in
+      let same : take (a.walk.taken * 3) has ≡ ws = ap (take (a.walk.taken * 3)) (h.carries p).wrote ∙ take_at ws _ (a.walk.taken * 3) n in
       let wrote : new ≡ filled old ws = e ∙ ap (filled old) same in
       record { count = h.taken; wrote = wrote; kept = ap length wrote ∙ length-filled old ws (omega arith) }
 
-  pub tested : (old : Lent ℕ) (room : ℕ) {n : ℕ} {b : Bool} → n ≡ length (words s) → b ≡ fitting n t.made t.taken old room → fits (length (words s)) (counts_of warns h.statement) old room ≡ b
-  tested old room e b = sym (b ∙ ap (λ (n : ℕ). fitting n t.made t.taken old room) e ∙ fits_by warns s h.statement h.read old room h.made h.taken)
+  pub tested : (old : Lent ℕ) (room : ℕ) {n : ℕ} {b : Bool} → n ≡ length (words s) → b ≡ fitting n a.walk.made a.walk.taken old room → fits (length (words s)) (counts_of warns h.statement) old room ≡ b
+  tested old room e b = sym (b ∙ ap (λ (n : ℕ). fitting n a.walk.made a.walk.taken old room) e ∙ fits_by warns s h.statement h.read old room h.made h.taken)
 
   module _ (old : Lent ℕ) (room : ℕ) (f : fits (length (words s)) (counts_of warns h.statement) old room ≡ true) where
     pub lengths : Long (length (words s)) (counts_of warns h.statement) old
     lengths = long (length (words s)) (counts_of warns h.statement) old room f
 
-    pub carried-fits : t.taken * 3 ≤ length old.carried
+    pub carried-fits : a.walk.taken * 3 ≤ length old.carried
     unfolding counts_of
     carried-fits = omega (arith, lengths.carried, h.taken)
 
     -- the scratch keeps its lengths
-    pub again-asks : (b : Scratch) → Clean (length (words s)) b → IsSized b a → Again warns s a old room
-    again-asks b x z =
+    pub again-asks : (b : Scratch) → Clean (length (words s)) b → Still b a → Again warns s a old room
+    again-asks b q z =
         record {
           statement = h.statement;
           read = h.read;
           fits = f;
-          placed = omega (arith, x.placed, z.placed);
-          used = omega (arith, x.used, z.used);
-          long = omega (arith, x.long, z.long);
-          names = omega (arith, x.names, z.seen);
-          wide = omega (arith, x.room, z.wrote);
-          pairs = omega (arith, x.pairs, z.kept);
+          placed = omega (arith, q.placed, z.placed);
+          used = omega (arith, q.used, z.used);
+          long = omega (arith, q.long, z.long);
+          marked = omega (arith, q.marked, ap length z.unmarked);
+          unmarked = λ i. rw z.unmarked (q.unmarked i);
+          pairs = omega (arith, q.pairs, z.pairs);
+          names = omega (arith, q.names, z.seen);
+          wide = omega (arith, q.room, z.wrote);
         }
 
-    module _ {c : List ℕ} (g : Holds carried_words old.carried c t.taken (carried_list warns h.statement)) where
+    module _ {c : List ℕ} (g : Holds carried_words old.carried c a.walk.taken (carried_list warns h.statement)) where
       abbrev pub between : Lent ℕ
       between = record { scopes = old.scopes; bindings = old.bindings; carried = c; recorded = old.recorded; findings = old.findings }
 
-      pub fill-asks : 1 ≤ length a.vis.now → Fitting (words s) t a between
+      pub fill-asks : 1 ≤ length a.held.now → Fitting (words s) x a between
       fill-asks v =
           let l = lengths in
           record {
             trailed = h.trailed;
             named = h.named;
-            fine = h.fine;
+            stands = h.stands;
             lent = omega (arith, g.kept, carried-fits);
             stamped = v;
             wide = h.wide;
@@ -117,11 +120,11 @@ module _ {warns : Bool} {s was has : List ℕ} {t : Tally} {a : Scratch} (h : He
             findings = omega (arith, h.few, l.findings);
           }
 
-      same-bindings : all_bound (words s) t a c ≡ bindings warns h.statement
+      same-bindings : all_bound (words s) x a c ≡ bindings warns h.statement
       unfolding bindings carried_list
       same-bindings =
-          let es = all_events (words s) t a in
-          let cs = carrieds_of t.taken c in
+          let es = all_events (words s) a in
+          let cs = carrieds_of a.walk.taken c in
           let back : cs ≡ carried_list warns h.statement = rw (g.wrote, g.count) (carrieds-back (carried_list warns h.statement) old.carried) in
           let k = kind_of (world_of warns h.statement) in
           ap (λ (k : ℕ → ℕ). puts (woven k es cs) []) h.kinded
@@ -129,28 +132,28 @@ module _ {warns : Bool} {s was has : List ℕ} {t : Tally} {a : Scratch} (h : He
           ∙ ap (λ (l : List Carried). puts (woven k (written (log warns h.statement)) l) []) back
           ∙ ap (λ (l : List Bound). puts l []) (sym (woven-log warns h.statement))
 
-      module _ {n : Counts} {new : Lent ℕ} (q : Filling (words s) t a between n new) where
-        same-scopes : scopes_in (all_events (words s) t a) ≡ scopes warns h.statement
+      module _ {n : Counts} {new : Lent ℕ} (q : Filling (words s) x a between n new) where
+        same-scopes : scopes_in (all_events (words s) a) ≡ scopes warns h.statement
         unfolding scopes
         same-scopes = ap scopes_in h.log ∙ scopes-written (log warns h.statement)
 
-        same-recorded : notes (answers_in (all_events (words s) t a)) [] ≡ recorded warns h.statement
+        same-recorded : notes (answers_in (all_events (words s) a)) [] ≡ recorded warns h.statement
         unfolding recorded
         same-recorded = ap (λ l. notes l []) (ap answers_in h.log ∙ answers-written (log warns h.statement))
 
-        same-findings : finds_in (all_events (words s) t a) ++ told_in t.told a.found.now ≡ findings warns h.statement
+        same-findings : finds_in (all_events (words s) a) ++ all_told a.walk.log ≡ findings warns h.statement
         unfolding findings
         same-findings =
-            ap (λ (l : List Finding). l ++ told_in t.told a.found.now) (ap finds_in h.log ∙ finds-written (log warns h.statement))
+            ap (λ (l : List Finding). l ++ all_told a.walk.log) (ap finds_in h.log ∙ finds-written (log warns h.statement))
             ∙ ap (λ (l : List Finding). finds_in (log warns h.statement) ++ l) h.kinds
 
         pub full-answer : Answers warns s old room (Ok n) new
         unfolding answer_in left_in answer left counts_of filled_by with_scopes with_bindings with_carried with_recorded with_findings
         full-answer =
-            let x = subst (Holds scope_words old.scopes new.scopes n.scopes) same-scopes q.scopes in
+            let o = subst (Holds scope_words old.scopes new.scopes n.scopes) same-scopes q.scopes in
             let b = subst (Holds binding_words old.bindings new.bindings n.bindings) same-bindings (q.bindings (rw same-bindings lengths.bindings)) in
             let d = subst (Holds recorded_words old.recorded new.recorded n.recorded) same-recorded q.recorded in
             let k = subst (Holds finding_words old.findings new.findings n.findings) same-findings q.findings in
-            let counts : n ≡ counts_of warns h.statement = λ j. record { scopes = x.count j; bindings = b.count j; carried = (q.carried ∙ h.taken) j; recorded = d.count j; findings = k.count j } in
-            let lists : new ≡ filled_by warns h.statement old = λ j. record { scopes = x.wrote j; bindings = b.wrote j; carried = (q.kept ∙ g.wrote) j; recorded = d.wrote j; findings = k.wrote j } in
+            let counts : n ≡ counts_of warns h.statement = λ j. record { scopes = o.count j; bindings = b.count j; carried = (q.carried ∙ h.taken) j; recorded = d.count j; findings = k.count j } in
+            let lists : new ≡ filled_by warns h.statement old = λ j. record { scopes = o.wrote j; bindings = b.wrote j; carried = (q.kept ∙ g.wrote) j; recorded = d.wrote j; findings = k.wrote j } in
             record { counts = rw (h.read, f) (ap accepted counts); lists = rw (h.read, f) lists }

@@ -6,12 +6,12 @@ use Rattle.checker.proofs.check_again.Goals as goal
 
 pub fill-requires-3 : goal.fill-requires-3
 fill-requires-3 c =
-    let h = c.in_ok-tally.ensures.heard in
+    let h = c.in_ok-index.ensures.heard in
     let fit = same-fits c.args.warns c.args.s.now (lent c.args.lists.now) c.args.room c.requires.read h.read c.requires.fits in
-    fill-asks h _ _ fit (h.carries (carried-fits h _ _ fit)) (omega (arith, c.listen.ensures.sized.seen, c.fill-2.ensures.len, c.requires.names))
+    fill-asks h _ _ fit (h.carries (carried-fits h _ _ fit)) (omega (arith, c.listen.ensures.sized.pairs, c.requires.pairs, h.trailed))
 
 pub returns-clause-answers : goal.returns-clause-answers
 returns-clause-answers c =
-    let h = c.in_ok-tally.ensures.heard in
+    let h = c.in_ok-index.ensures.heard in
     let fit = same-fits c.args.warns c.args.s.now (lent c.args.lists.now) c.args.room c.requires.read h.read c.requires.fits in
     full-answer h _ _ fit (h.carries (carried-fits h _ _ fit)) c.fill-3.ensures.fills
