@@ -25,14 +25,17 @@ use Rattle.semantics.specs.World.{world_of}
 use Rattle.semantics.specs.Resolve.{run, log}
 use Rattle.semantics.specs.Kinds.{kinds}
 use Rattle.semantics.specs.Lists.{findings}
-use Rattle.sheet_walk.specs.Runs.{warns_by, wants_by, id_of, RanTo, Runs}
-use Rattle.sheet_walk.specs.declared.Totals.{Totals}
+use Rattle.rows.specs.declared.Index.{Index}
+use Rattle.steps.specs.declared.log.Log.{Log}
+use Rattle.sheet_walk.specs.Runs.{id_of, RanTo}
+use Rattle.sheet_walk.specs.declared.Choice.{Choice}
+use Rattle.sheet_walk.specs.declared.Scratch.{Scratch}
 use Rattle.texts.specs.Page.{Writes, answered, number}
 use Rattle.texts.proofs.Giving.{gives-refusal}
 use Rattle.lines.specs.Lines.{listed}
 use Rattle.lines.specs.Given.{findings_in}
 use Rattle.listing.specs.Listing.{entries, fits, listing}
-use Rattle.listing.specs.Found.{FoundIn, choice_of}
+use Rattle.listing.specs.Found.{FoundIn}
 use Rattle.listing.proofs.Counted.{counted}
 use Rattle.listing.proofs.Laid.{laid}
 
@@ -63,56 +66,48 @@ pub unplaced-listing : (warns : Bool) (s page : List ℕ) (e : Refusal) (r : Res
 unplaced-listing warns s page e (Err y) h f = rw f.1 (refused-listing warns s page refl (unplaced s (sym h)), small e)
 unplaced-listing warns s page e (Ok y) h f = absurd f.1
 
--- what a run answers
-pub ran_to : (warns : Bool) {choice : ℕ} {s places ids tab found old carried : List ℕ} {t : Totals} → choice ≡ choice_of warns → Runs choice s places ids tab found old carried (Ok t) → RanTo (choice_of warns) s places ids tab found old carried t.said t.told t.made t.taken
-ran_to warns {s = s} {places} {ids} {tab} {found} {old} {carried} {t = t} c x =
-    subst (λ (n : ℕ). RanTo n s places ids tab found old carried t.said t.told t.made t.taken) c x.ran
+-- the choice of a listing: findings alone
+abbrev pub choice_of : Bool → Choice
+choice_of warns = record { warns = warns; wants = false }
 
-pub ran-no : (warns : Bool) (page : List ℕ) {choice : ℕ} {s places ids tab found old carried : List ℕ} (e : Refusal) (r : Result ℕ Refusal) → Runs choice s places ids tab found old carried (Err e) → IsErr r × IsErrAnd r (λ y. y ≡ e) → Writes (listing warns s) page page r × (number (answered r) < 4294967296)
-ran-no warns page {s = s} e (Err y) x f = rw f.1 (refused-listing warns s page refl x.ran, small e)
-ran-no warns page e (Ok y) x f = absurd f.1
-
-warned : (warns : Bool) → warns_by (choice_of warns) ≡ warns
-warned true = refl
-warned false = refl
-
-unwanted : (warns : Bool) → wants_by (choice_of warns) ≡ false
-unwanted true = refl
-unwanted false = refl
+-- a run that refused
+pub ran-no : (warns : Bool) (page s : List ℕ) (e : Refusal) (r : Result ℕ Refusal) → read_sheet s ≡ refused (number_of e) → IsErr r × IsErrAnd r (λ y. y ≡ e) → Writes (listing warns s) page page r × (number (answered r) < 4294967296)
+ran-no warns page s e (Err y) x f = rw f.1 (refused-listing warns s page refl x, small e)
+ran-no warns page s e (Ok y) x f = absurd f.1
 
 -- what a run for findings alone leaves
-module _ (warns : Bool) {s places ids tab found old carried : List ℕ} {said told made taken : ℕ} (r : RanTo (choice_of warns) s places ids tab found old carried said told made taken) where
-  enough : fits warns r.statement ≡ leb made entries && leb taken entries
-  enough = rw (r.bindings, r.carried_names, warned warns) (counted warns s r.statement r.read)
+module _ (warns : Bool) {s : List ℕ} {a : Scratch} {old carried : List ℕ} {x : Index} (r : RanTo (choice_of warns) s a old carried x) where
+  enough : fits warns r.statement ≡ leb a.walk.made entries && leb a.walk.taken entries
+  enough = rw (r.bindings, r.carried_names) (counted warns s r.statement r.read)
 
-  pub from-run : made ≤ entries → taken ≤ entries → FoundIn warns s places found said told
+  pub from-run : a.walk.made ≤ entries → a.walk.taken ≤ entries → FoundIn warns s a.places.now a.walk.log
   unfolding findings log
   from-run m t =
       let st = r.statement in
       record {
         statement = st;
         read = r.read;
-        fitting = rw (enough, le-leb made entries m, le-leb taken entries t);
+        fitting = rw (enough, le-leb a.walk.made entries m, le-leb a.walk.taken entries t);
         names = r.names;
-        lists = laid (id_of st) said told found (run warns st).log (kinds (world_of warns st) st.head) (rw (unwanted warns, warned warns) at r.log) (rw (warned warns) at r.kinds);
+        lists = laid (id_of st) a.walk.log.said a.walk.log.told a.walk.log.words.now (run warns st).log (kinds (world_of warns st) st.head) r.log r.kinds;
         few = r.few;
         many = r.many;
         wide = r.wide;
       }
 
-  eight : (page : List ℕ) → leb made entries && leb taken entries ≡ false → Writes (listing warns s) page page (Err Entries)
+  eight : (page : List ℕ) → leb a.walk.made entries && leb a.walk.taken entries ≡ false → Writes (listing warns s) page page (Err Entries)
   unfolding listing
   eight page e = rw (r.read, enough, e) (gives-refusal Entries page)
 
-  pub many-made : (page : List ℕ) → entries < made → Writes (listing warns s) page page (Err Entries)
-  many-made page h = eight page (rw (lt-leb made entries h))
+  pub many-made : (page : List ℕ) → entries < a.walk.made → Writes (listing warns s) page page (Err Entries)
+  many-made page h = eight page (rw (lt-leb a.walk.made entries h))
 
-  pub many-carried : (page : List ℕ) → entries < taken → Writes (listing warns s) page page (Err Entries)
-  many-carried page h = eight page (rw (lt-leb taken entries h, and-false))
+  pub many-carried : (page : List ℕ) → entries < a.walk.taken → Writes (listing warns s) page page (Err Entries)
+  many-carried page h = eight page (rw (lt-leb a.walk.taken entries h, and-false))
 
 -- an accepted sheet's names and findings
-pub listed-is : {warns : Bool} {s places found : List ℕ} {said told : ℕ} → FoundIn warns s places found said told → {p : Places} → p ≡ places_of (words s) → {old page : List ℕ} {r : Result ℕ Refusal} →
-    Writes (accepted (listed (names_in (take (p.rows * 4) s) p.names places) (findings_in said (said + told) found))) old page r → Writes (listing warns s) old page r
+pub listed-is : {warns : Bool} {s places : List ℕ} {l : Log} → FoundIn warns s places l → {p : Places} → p ≡ places_of (words s) → {old page : List ℕ} {r : Result ℕ Refusal} →
+    Writes (accepted (listed (names_in (take (p.rows * 4) s) p.names places) (findings_in l.said (l.said + l.told) l.words.now))) old page r → Writes (listing warns s) old page r
 unfolding listing
 listed-is {s = s} f {p} e x =
     rw (f.read, f.fitting) (rw (e, f.names, f.lists) at x)

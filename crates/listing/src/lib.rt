@@ -5,6 +5,7 @@
 ghost use Rattle.std.specs.Prelude.{◌≡◌, not, ◌+◌, ◌*◌, ◌<◌, ◌≤◌, eqb, length};
 ghost use Rattle.words.specs.Words.{words};
 ghost use Rattle.texts.specs.Page.{answered, written_as, page_as, Writes, number};
+ghost use Rattle.sheet_walk.specs.Runs.{Clean};
 ghost use Rattle.listing.specs.Listing.{listing};
 ghost use Rattle.listing.specs.Found.{FoundIn, AllZero};
 
@@ -12,7 +13,7 @@ use lines::{Found, Names, write_listing};
 use refusal::Refusal;
 use sheet::find_places;
 use sheet_walk::{Choice, Scratch, run};
-use steps::{Log, Walk};
+use steps::Walk;
 use words::count;
 
 // How many entries a list may need.
@@ -33,31 +34,54 @@ const FOR_1024: usize = 1024 * 16 + 8;
 
 const FOR_2048: usize = 2048 * 16 + 8;
 
-// The lines of what was found in a sheet, or 10.
-fn write(
-    s: &[u8],
-    warns: bool,
-    places: &[u32],
-    log: &Log,
-    page: &mut [u8],
-) -> Result<usize, Refusal>
-    requires { FoundIn warns s.now places.now log.now }
+// What was found, `said` of it by the name walk.
+fn found_in(words: &[u32], said: u32, told: u32) -> Found<'_>
+    requires { (said + told ≤ 2048) × ((said + told) * 6 ≤ length words.now) }
+    ensures { (result.words.now ≡ words.now) × ((result.front ≡ said) × (result.count ≡ said + told)) }
+{
+    Found {
+        words,
+        front: said as usize,
+        count: said as usize + told as usize,
+    }
+}
+
+// The lines of what a run found in a sheet, or 10.
+fn write(s: &[u8], warns: bool, scratch: &Scratch, page: &mut [u8]) -> Result<usize, Refusal>
+    requires { FoundIn warns s.now scratch.now.places.now scratch.now.walk.log }
     ensures { Writes (listing warns s.now) page.old page.new result × (number (answered result) < 4294967296) }
 {
     let p = find_places(s)?;
     let names = Names {
         section: &s[..p.rows * 4],
-        places: &places[..p.names as usize],
+        places: &scratch.places[..p.names as usize],
     };
-    let found = Found {
-        words: log.words,
-        front: log.said as usize,
-        count: log.said as usize + log.told as usize,
-    };
+    let log = &scratch.walk.log;
+    let found = found_in(log.words, log.said, log.told);
     write_listing(&names, &found, page)
 }
 
-// With scratch for a sheet's words, all zeros: sixteen for each, and 8 besides. Bindings and carried names are counted, not stored.
+// With scratch for a sheet's words. Bindings and carried names are counted, not stored.
+fn list_in(s: &[u8], warns: bool, scratch: &mut Scratch, page: &mut [u8]) -> Result<usize, Refusal>
+    requires { Clean (length (words s.now)) scratch.old }
+    ensures { Writes (listing warns s.now) page.old page.new result × (number (answered result) < 4294967296) }
+{
+    let choice = Choice {
+        warns,
+        wants: false,
+    };
+    let mut nowhere = [0u32; 1];
+    run(s, choice, scratch, &mut nowhere)?;
+    if ENTRIES < scratch.walk.made {
+        return Err(Refusal::Entries);
+    }
+    if ENTRIES < scratch.walk.taken {
+        return Err(Refusal::Entries);
+    }
+    write(s, warns, scratch, page)
+}
+
+// With scratch of sixteen words, all zeros, for each of a sheet's words, and 8 besides.
 fn list(s: &[u8], warns: bool, scratch: &mut [u32], page: &mut [u8]) -> Result<usize, Refusal>
     requires { (length (words s.now) * 16 + 8 ≤ length scratch.old) × AllZero scratch.old }
     ensures { Writes (listing warns s.now) page.old page.new result × (number (answered result) < 4294967296) }
@@ -77,20 +101,7 @@ fn list(s: &[u8], warns: bool, scratch: &mut [u32], page: &mut [u8]) -> Result<u
         held,
         walk: Walk::new(visible, said),
     };
-    let mut nowhere = [0u32; 1];
-    let choice = Choice {
-        warns,
-        wants: false,
-    };
-    run(s, choice, &mut scratch, &mut nowhere)?;
-    let walk = &scratch.walk;
-    if ENTRIES < walk.made {
-        return Err(Refusal::Entries);
-    }
-    if ENTRIES < walk.taken {
-        return Err(Refusal::Entries);
-    }
-    write(s, warns, scratch.places, &walk.log, page)
+    list_in(s, warns, &mut scratch, page)
 }
 
 // With scratch of N words.

@@ -23,17 +23,17 @@ slice_bounds-names-end c =
 pub slice_bounds-names-end-2 : goal.slice_bounds-names-end-2
 slice_bounds-names-end-2 c =
     let there = places-of c.args.s.now c.in_ok-p.p (placed_at c.args.s.now c.in_ok-p.ensures).0 in
-    sym (length-take-le _ c.args.places.now (omega (arith, c.requires.many, ap Places.names there)))
+    sym (length-take-le _ c.args.scratch.now.places.now (omega (arith, c.requires.many, ap Places.names there)))
 
 pub invariant_of-names : goal.invariant_of-names
 invariant_of-names c =
     let i = (placed_at c.args.s.now c.in_ok-p.ensures).1 in
     record { short = omega (arith, length-take (c.in_ok-p.p.rows * 4) c.args.s.now, i.short) }
 
-pub invariant_of-found : goal.invariant_of-found
-invariant_of-found c =
+pub found_in-found-requires : goal.found_in-found-requires
+found_in-found-requires c =
     let i = (placed_at c.args.s.now c.in_ok-p.ensures).1 in
-    record { few = omega (arith, c.requires.few, length-words c.args.s.now, i.short); flat = c.requires.wide; small = λ i. omega (arith, c.type_inv.found i) }
+    (omega (arith, c.requires.few, length-words c.args.s.now, i.short), c.requires.wide)
 
 pub returns-in_err-p : goal.returns-in_err-p
 returns-in_err-p c = unplaced-listing _ _ _ _ _ c.in_err-p.ensures c.from_residual.ensures
@@ -41,4 +41,5 @@ returns-in_err-p c = unplaced-listing _ _ _ _ _ c.in_err-p.ensures c.from_residu
 pub returns : goal.returns
 returns c =
     let there = places-of c.args.s.now c.in_ok-p.p (placed_at c.args.s.now c.in_ok-p.ensures).0 in
-    (listed-is c.requires there c.write_listing.ensures.0, c.write_listing.ensures.1)
+    let f = c.found_in-found.ensures in
+    (listed-is c.requires there (rw (f.0, f.1.0, f.1.1) at c.write_listing.ensures.0), c.write_listing.ensures.1)
