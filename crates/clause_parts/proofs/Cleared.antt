@@ -1,76 +1,87 @@
--- Of the visible names the first `top` stay (`cut-numbers`, `cut_fits`, `cut_holds`; they descend as all of them did: `below-descends`), or none
+-- Of the visible names the first `top` stay (`cut_still`, `cut_fits`, `cut_holds`; they descend as all of them did: `below-descends`), or none
 -- (`cleared-fits`, `cleared`: an arm, a WITH); a step in a mode that resolves names is one of names alone (`names-step`).
 use Rattle.std.specs.Prelude.{None}
-use Prim.Native.Nat.{ℕ, zero, suc, ◌+◌, ◌-◌, ◌≤◌}
+use Prim.Native.Nat.{ℕ, zero, suc, ◌+◌, ◌-◌, ◌*◌, ◌≤◌}
 use native.Mathlib.Omega.{arith}
-use mathlib.Core.Path.{◌≡◌, refl, ◌∙◌}
+use mathlib.Core.Path.{◌≡◌, refl, ap, subst, sym}
 use mathlib.Core.Bool.{Bool, true, false}
-use mathlib.Core.List.{List, [], ◌∷◌}
-use lib.ListN.{length, drop}
-use Rattle.semantics.specs.Resolve.{State, Seen, seen, standing}
+use mathlib.Core.List.{List, []}
+use lib.ListN.{get_or}
+use Rattle.semantics.specs.Resolve.{State, standing}
 use Rattle.fused.specs.Fused.{Both, Mode, step, told}
 use Rattle.visible.specs.Visible.{seens, Descends}
+use Rattle.visible.specs.Stack.{Cut}
+use Rattle.visible.specs.declared.Visible.{Visible}
 use Rattle.visible.proofs.Names.{descends-above}
-use Rattle.steps.specs.Memory.{at_of, top_of, last_of, said_of, told_of, lost_of, held_of, slots_in}
-use Rattle.steps.specs.Hold.{Fits, Holds, Left, on_names}
-use Rattle.steps.proofs.Held.{Numbers, unset, store, refit, drop-seens, recounted}
+use Rattle.steps.specs.Hold.{Fits, Holds, Still, Left, on_names}
+use Rattle.steps.specs.declared.Walk.{Walk}
+use Rattle.steps.specs.declared.context.Context.{Context}
+use Rattle.steps.proofs.Held.{refit, recounted, log-idle, still-then}
 use Rattle.walk.specs.Goes.{Goer}
 use Rattle.walk.proofs.Stage.{Rest, Stage}
 
 -- ---- the lower part of a list that descends
-pub descends-drop : (c d : ℕ) (l : List Seen) → Descends c l → Descends c (drop d l)
-unfolding Descends
-descends-drop c zero l h = h
-descends-drop c (suc d) [] h = h
-descends-drop c (suc d) (seen y v p ∷ l) h = descends-drop c d l (descends-above c p l h.0 h.1)
+lower-descends : (n t d u c : ℕ) (m : List ℕ) → u ≡ d + t → Descends c (seens n u m) → Descends c (seens n t m)
+unfolding seens Descends
+lower-descends n t zero u c m e h =
+    let z : u ≡ t = omega arith in
+    rw z at h
+lower-descends n t (suc d) zero c m e h = absurd (omega arith)
+lower-descends n t (suc d) (suc u) c m e h = lower-descends n t d u c m (omega arith) (descends-above c (get_or m (n + u * 4 + 2) 0) (seens n u m) h.0 h.1)
 
-pub below-descends : (n t u c : ℕ) (vis : List ℕ) → t ≤ u → Descends c (seens n u vis) → Descends c (seens n t vis)
-below-descends n t u c vis h d =
-    let z : u ≡ u - t + t = omega arith in
-    rw (← (drop-seens n (u - t) t vis)) (descends-drop c (u - t) _ (rw z at d))
+pub below-descends : (n t u c : ℕ) (m : List ℕ) → t ≤ u → Descends c (seens n u m) → Descends c (seens n t m)
+below-descends n t u c m h d = lower-descends n t (u - t) u c m (omega arith) d
 
 -- ---- the first names stay visible
-module _ {tab m vis m' vis' : List ℕ} {top cur : ℕ} (size : length m ≡ 64) (p : Left tab m vis m' vis' top cur) where
-  pub cut-numbers : Numbers m m' (at_of m) top cur (last_of m) (said_of m) (told_of m) (lost_of m) (held_of m)
-  cut-numbers = rw p.numbers (store 2 cur (omega arith) size (store 1 top (omega arith) size unset))
+module _ {w : Walk} {v : Visible} {top cur : ℕ} (p : Cut top w.visible v) where
+  kept_still : Still w (record w { visible = v; cur = cur })
+  kept_still = record { visible = p.still; log = log-idle }
 
-  pub cut_holds : {id : ℕ → ℕ} {found : List ℕ} {s : Both} → Holds id tab m vis found s → Holds id tab m' vis' found (on_names (standing (seens (slots_in tab) top vis) cur) s)
-  cut_holds h =
-      let q = cut-numbers in
+  kept_fits : {c : Context} {i k : ℕ} → Fits i k c w → top ≤ w.visible.top → Descends cur (seens w.visible.names top w.visible.words.now) → cur ≤ w.last → Fits i k c (record w { visible = v; cur = cur })
+  kept_fits f h d l =
+      refit f kept_still p.sound (subst (λ s. Descends cur s) (sym p.same) d) l f.last f.count (omega (arith, f.stack, p.back, p.still.names)) f.needs f.within
+
+  kept_holds : {id : ℕ → ℕ} {c : Context} {s : Both} → Holds id c w s → Holds id c (record w { visible = v; cur = cur }) (on_names (standing (seens w.visible.names top w.visible.words.now) cur) s)
+  kept_holds h =
       record {
-        visible = rw q.top p.below;
-        cur = q.cur;
-        last = q.last ∙ h.last;
-        log = rw q.said h.log;
-        kinds = rw q.told h.kinds;
-        known = rw q.lost h.known;
-        counts = recounted q h.counts;
+        visible = p.same;
+        cur = refl;
+        last = h.last;
+        log = h.log;
+        kinds = h.kinds;
+        known = h.known;
+        counts = recounted refl refl h.counts;
         uses = h.uses;
       }
 
--- any number of words may be left of the stack's room
-pub cut_fits : {ws tab m vis found m' vis' : List ℕ} {i k top cur : ℕ} → Fits i k ws tab m vis found → Left tab m vis m' vis' top cur → top ≤ top_of m → Descends cur (seens (slots_in tab) top vis) → cur ≤ last_of m → Fits i k ws tab m' vis' found
-cut_fits g p h d l =
-    refit g (cut-numbers g.size p) p.kept refl p.tabled (rw p.below d) l g.last g.count (omega (arith, g.stack)) (omega arith)
+module _ {w w' : Walk} {top cur : ℕ} (p : Left w w' top cur) where
+  pub cut_still : Still w w'
+  cut_still = rw p.same (kept_still p.visible)
+
+  -- any number of words may be left of the stack's room
+  pub cut_fits : {c : Context} {i k : ℕ} → Fits i k c w → top ≤ w.visible.top → Descends cur (seens w.visible.names top w.visible.words.now) → cur ≤ w.last → Fits i k c w'
+  cut_fits f h d l = rw p.same (kept_fits p.visible f h d l)
+
+  pub cut_holds : {id : ℕ → ℕ} {c : Context} {s : Both} → Holds id c w s → Holds id c w' (on_names (standing (seens w.visible.names top w.visible.words.now) cur) s)
+  cut_holds h = rw p.same (kept_holds p.visible h)
+
+  pub cut_at : w'.at ≡ w.at
+  cut_at = ap (λ (x : Walk). x.at) p.same
 
 -- ---- with nothing visible
-pub cleared-fits : {ws tab m vis found m' vis' : List ℕ} {i k cur : ℕ} → Fits i k ws tab m vis found → Left tab m vis m' vis' 0 cur → cur ≤ last_of m → Fits i k ws tab m' vis' found
+pub cleared-fits : {c : Context} {w w' : Walk} {i k cur : ℕ} → Fits i k c w → Left w w' 0 cur → cur ≤ w.last → Fits i k c w'
 unfolding seens Descends
-cleared-fits g p l = cut_fits g p (omega arith) tt l
+cleared-fits f p l = cut_fits p f (omega arith) tt l
 
-pub cleared : {j : ℕ} {ws tab m₀ vis₀ found₀ : List ℕ} {G : Goer} {c : ℕ} {m vis found m' vis' : List ℕ} (K : Rest) → Left tab m vis m' vis' 0 0 → Stage None j ws tab m₀ vis₀ found₀ G c m vis found (λ id s t. K id s (on_names (standing [] 0) t)) → Stage None j ws tab m₀ vis₀ found₀ G c m' vis' found K
+pub cleared : {j : ℕ} {c : Context} {w₀ : Walk} {G : Goer} {free : ℕ} {w w' : Walk} (K : Rest) → Left w w' 0 0 → Stage None j c w₀ G free w (λ id s t. K id s (on_names (standing [] 0) t)) → Stage None j c w₀ G free w' K
 unfolding seens
 cleared K p o =
-    let q = cut-numbers o.size p in
     record {
-      from = omega (arith, o.from, q.at);
-      size = q.size ∙ o.size;
-      sized = q.size ∙ o.sized;
-      seen = p.kept ∙ o.seen;
-      wrote = o.wrote;
+      from = omega (arith, o.from, cut_at p);
+      still = still-then o.still (cut_still p);
       fit = λ k f. cleared-fits (o.fit k f) p (omega arith);
       keeps = record { kept = tt };
-      on = λ id s h. let n = o.on id s h in record { state = on_names (standing [] 0) n.state; holds = cut_holds o.size p n.holds; same = rw q.at n.same };
+      on = λ id s h. let n = o.on id s h in record { state = on_names (standing [] 0) n.state; holds = cut_holds p n.holds; same = rw (cut_at p) n.same };
     }
 
 -- a step of names, where names are resolved

@@ -1,174 +1,108 @@
 -- How far clauses have come (walk's Stage, of which nothing is said of what stays below). A walk of expressions passes (`forget`); a walk within
--- goes on (`went`), refuses (`fell`) or is the last one (`last_one`); a word is passed (`past`, `goes_on_lem`, `in-range`, where `asked` says what it
--- asks) or refused (`halted`, `stopped`, `stays`); at the end stands the answer (`passed`, `refused`). A loop is a walk of which rounds are left
--- (`begun`, `turn`, `fall`, `over`). `lend` and `still-held` put the same with other pairs held. Where no
--- name is marked none is hushed (`none-hushed`).
-use Rattle.std.specs.Prelude.{Option, None, Some}
-use Prim.Native.Nat.{ℕ, zero, suc, ◌+◌, ◌-◌, ◌<◌, ◌≤◌}
+-- goes on (`went`), is refused at its `?` (`fell`) or is the last one (`last_one`); a word is passed (`past`, `in_range`) or refused at its `?`
+-- (`stopped`, `halted`; `no_word` in a walk that keeps what was visible); at the end stands the answer (`passed`, `refused`). In a loop one round
+-- more was walked (`turn`), one was refused at its `?` (`fall`), or none is left (`over`); Stage's `begun` begins it. Other pairs may be held,
+-- with as much room (`held_on`).
+use Rattle.std.specs.Prelude.{Option, None, Some, Result, Ok, Err}
+use Rattle.std.specs.Result.{IsErr, IsErrAnd}
+use Prim.Native.Nat.{ℕ, ◌+◌, ◌<◌, ◌≤◌}
 use native.Mathlib.Omega.{arith}
-use mathlib.Core.Path.{◌≡◌, refl, ap, ◌∙◌}
-use mathlib.Core.Bool.{Bool, true, false, ◌&&◌}
+use mathlib.Core.Path.{◌≡◌, refl}
 use mathlib.Core.List.{List}
-use lib.Dec.{eqb, ltb}
-use lib.ListN.{length, get_or, set, drop}
-use borrow.Author.Tests.{ltb-true}
+use lib.ListN.{length, drop}
+use Rattle.refusal.specs.declared.Refusal.{Refusal}
 use Rattle.heads.specs.Got.{Got, ok, no, bind, word_in}
-use Rattle.heads.proofs.Chain.{Chain, step, last, run}
-use Rattle.expr.proofs.Inverse.{never, word-gives}
-use Rattle.fused.specs.Fused.{Both, Go, rounds}
-use Rattle.steps.specs.Memory.{at_of, slots_in, hushed_in}
-use Rattle.steps.specs.Hold.{Ready}
-use Rattle.steps.proofs.Held.{lower}
-use Rattle.walk.specs.Goes.{Goer, Walked}
-use Rattle.walk.proofs.Stage.{Rest, Stage, Refuses, start, recast, read, stop}
-use Rattle.clause_parts.specs.Passes.{Passes, Unmarked, Held, Next}
+use Rattle.heads.proofs.Chain.{Chain, step, last}
+use Rattle.expr.proofs.Inverse.{word-gives}
+use Rattle.fused.specs.Fused.{Both, rounds}
+use Rattle.fused.specs.Fused as fused
+use Rattle.steps.specs.Memory.{words_in}
+use Rattle.steps.specs.declared.Walk.{Walk}
+use Rattle.steps.specs.declared.context.Context.{Context}
+use Rattle.steps.proofs.Held.{lower, still-then}
+use Rattle.walk.specs.Goes.{Goer, Refuses, Walked, rest_in}
+use Rattle.walk.proofs.Stage.{Rest, Stage, Went, Turning, placed, start, recast, read, stop, unrolled, ran, comes}
+use Rattle.walk.proofs.Stage as stage
+use Rattle.clause_parts.specs.Passes.{Passes, Held, Next}
 
-pub forget : {i : ℕ} {ws tab m vis found m' vis' found' held : List ℕ} {H : Goer} (a : ℕ) → Walked i ws tab m vis found m' vis' found' H a → Passes 0 ws tab m vis found held m' vis' found' held H a
-forget zero w =
-    let y = w.goes in
-    record {
-      sized = w.sized;
-      seen = w.seen;
-      wrote = w.wrote;
-      kept = refl;
-      passes = record { from = y.from; fit = λ k f. y.fit k (lower (omega arith) (omega arith) f); goes = y.goes };
-    }
-forget (suc a) w = record { sized = w.sized; seen = w.seen; wrote = w.wrote; kept = refl; passes = w.goes }
-
--- with other pairs held
-pub lend : {j : ℕ} {ws tab m vis found m' vis' found' held held' : List ℕ} {G : Goer} {a : ℕ} (l : List ℕ) → Passes j ws tab m vis found held m' vis' found' held' G a → Passes j ws tab m vis found l m' vis' found' l G a
-lend l x = record { sized = x.sized; seen = x.seen; wrote = x.wrote; kept = refl; passes = x.passes }
+pub forget : {i : ℕ} {c : Context} {w w' : Walk} {H : Goer} (r : Result (Unit {0}) Refusal) → Walked i c w w' H r → Passes 0 c w w' H r
+forget (Ok u) x =
+    let y = x.goes in
+    record { still = x.still; passes = record { from = y.from; fit = λ k f. y.fit k (lower (omega arith) (omega arith) f); goes = y.goes } }
+forget (Err e) x = record { still = x.still; passes = x.goes }
 
 -- ---- the end
-module _ {j : ℕ} {ws tab m₀ vis₀ found₀ : List ℕ} {G : Goer} {c : ℕ} {m vis found held held' : List ℕ} where
-  pub passed : Stage None j ws tab m₀ vis₀ found₀ G c m vis found (λ id s t. last (ok t)) → length held' ≡ length held → Passes j ws tab m₀ vis₀ found₀ held m vis found held' G 0
-  passed o e =
+module _ {j : ℕ} {c : Context} {w₀ : Walk} {G : Goer} {free : ℕ} {w : Walk} where
+  pub passed : {u : Unit {0}} → Stage None j c w₀ G free w (λ id s t. last (ok t)) → Passes j c w₀ w G (Ok u)
+  passed o =
       record {
-        sized = o.sized;
-        seen = o.seen;
-        wrote = o.wrote;
-        kept = e;
+        still = o.still;
         passes = record {
           from = o.from;
           fit = λ k f. lower (omega arith) (omega arith) (o.fit k f);
-          goes = λ id s h. let n = o.on id s h in record { state = n.state; holds = n.holds; same = n.same };
+          goes = comes o;
         };
       }
 
-  pub refused : {K : Rest} (a : ℕ) → (a ≡ 0 → ⊥) → Stage None j ws tab m₀ vis₀ found₀ G c m vis found K → length held' ≡ length held → Refuses ws tab m₀ vis₀ found₀ G a → Passes j ws tab m₀ vis₀ found₀ held m vis found held' G a
-  refused zero q o e g = absurd (q refl)
-  refused (suc a) q o e g = record { sized = o.sized; seen = o.seen; wrote = o.wrote; kept = e; passes = g.same }
+  -- what a `?` at w answers
+  pub refused : {K : Rest} {e : Refusal} (r : Result (Unit {0}) Refusal) → Stage None j c w₀ G free w K → Refuses c w₀ G e → IsErr r × IsErrAnd r (λ y. y ≡ e) → Passes j c w₀ w G r
+  refused (Err y) o g q = record { still = o.still; passes = rw q.1 g }
+  refused (Ok u) o g q = absurd q.1
 
--- ---- a walk within, which answers a
-refusal : {i : ℕ} {ws tab m vis found held m' vis' found' held' : List ℕ} {H : Goer} (a : ℕ) → (a ≡ 0 → ⊥) → Passes i ws tab m vis found held m' vis' found' held' H a → Refuses ws tab m vis found H a
-refusal zero h x = absurd (h refl)
-refusal (suc a) h x = record { same = x.passes }
-
+-- ---- a walk within
 bind_ok : (g : Got Both) → g ≡ bind g (λ u r. ok u r)
 bind_ok (ok u r) = refl
 bind_ok (no e) = refl
 
-module _ {j : ℕ} {ws tab m₀ vis₀ found₀ : List ℕ} {G : Goer} {c : ℕ} {m vis found : List ℕ} {i : ℕ} {H : Goer} {held m' vis' found' held' : List ℕ} where
-  pub went : {K : Rest} {a : ℕ} (e : ℕ) → a ≡ 0 → i + e ≤ c → Stage None j ws tab m₀ vis₀ found₀ G c m vis found (λ id s t. step (H id t) (K id s)) → Passes i ws tab m vis found held m' vis' found' held' H a →
-      Stage None j ws tab m₀ vis₀ found₀ G e m' vis' found' K
-  went e q l o x =
-      let y = rw q at x.passes in
-      record {
-        from = omega (arith, o.from, y.from);
-        size = x.sized ∙ o.size;
-        sized = x.sized ∙ o.sized;
-        seen = x.seen ∙ o.seen;
-        wrote = x.wrote ∙ o.wrote;
-        fit = λ k f. y.fit (e + k) (lower (omega arith) (omega arith) (o.fit k f));
-        keeps = record { kept = tt };
-        on = λ id s h. let n = o.on id s h in let z = y.goes id n.state n.holds in
-            record { state = z.state; holds = z.holds; same = rw (n.same, z.same) };
-      }
+module _ {j : ℕ} {c : Context} {w₀ : Walk} {G : Goer} {free : ℕ} {w : Walk} {i : ℕ} {H : Goer} {w' : Walk} where
+  pub went : {K : Rest} {u : Unit {0}} (l : ℕ) → i + l ≤ free → Stage None j c w₀ G free w (λ id s t. step (H id t) (K id s)) → Passes i c w w' H (Ok u) → Stage None j c w₀ G l w' K
+  went l h o x =
+      let y = x.passes in
+      stage.went l h o (record { from = y.from; still = x.still; fit = y.fit; keeps = record { kept = tt }; goes = y.goes })
 
-  pub fell : {K : Rest} {held₀ : List ℕ} (a : ℕ) → (a ≡ 0 → ⊥) → length held ≡ length held₀ → Stage None j ws tab m₀ vis₀ found₀ G c m vis found (λ id s t. step (H id t) (K id s)) → Passes i ws tab m vis found held m' vis' found' held' H a →
-      Passes j ws tab m₀ vis₀ found₀ held₀ m' vis' found' held' G a
-  fell zero q e o x = absurd (q refl)
-  fell (suc a) q e o x =
-      record {
-        sized = x.sized ∙ o.sized;
-        seen = x.seen ∙ o.seen;
-        wrote = x.wrote ∙ o.wrote;
-        kept = x.kept ∙ e;
-        passes = λ id s h. let n = o.on id s h in rw (n.same, (refusal (suc a) q x).same id n.state n.holds);
-      }
+  -- its `?`
+  pub fell : {K : Rest} {e : Refusal} (r : Result (Unit {0}) Refusal) → Stage None j c w₀ G free w (λ id s t. step (H id t) (K id s)) → Passes i c w w' H (Err e) → IsErr r × IsErrAnd r (λ y. y ≡ e) → Passes j c w₀ w' G r
+  fell (Err y) o x q =
+      record { still = still-then o.still x.still; passes = rw q.1 (record { same = λ id s h. let n = o.on id s h in rw (n.same, x.passes.same id n.state n.holds) }) }
+  fell (Ok u) o x q = absurd q.1
 
-  pub last_one : {held₀ : List ℕ} (a : ℕ) → i ≤ c → length held ≡ length held₀ → Stage None j ws tab m₀ vis₀ found₀ G c m vis found (λ id s t. last (H id t)) → Passes i ws tab m vis found held m' vis' found' held' H a →
-      Passes j ws tab m₀ vis₀ found₀ held₀ m' vis' found' held' G a
-  last_one zero l e o x = passed (went {K = λ id s u. last (ok u)} 0 refl (omega arith) (recast (λ id s t. step (H id t) (λ u. last (ok u))) o (λ id s t r. bind_ok (H id t r))) x) (x.kept ∙ e)
-  last_one (suc a) l e o x = fell {K = λ id s u. last (ok u)} (suc a) (λ q. never (cc)) e (recast (λ id s t. step (H id t) (λ u. last (ok u))) o (λ id s t r. bind_ok (H id t r))) x
+  pub last_one : (r : Result (Unit {0}) Refusal) → i ≤ free → Stage None j c w₀ G free w (λ id s t. last (H id t)) → Passes i c w w' H r → Passes j c w₀ w' G r
+  last_one (Ok u) l o x = passed (went {K = λ id s v. last (ok v)} 0 (omega arith) (recast (λ id s t. step (H id t) (λ v. last (ok v))) o (λ id s t r. bind_ok (H id t r))) x)
+  last_one (Err e) l o x = fell {K = λ id s v. last (ok v)} (Err e) (recast (λ id s t. step (H id t) (λ v. last (ok v))) o (λ id s t r. bind_ok (H id t r))) x (refl, refl)
 
 -- ---- a word
-pub in-range : {ws : List ℕ} {lo hi : ℕ} {m m' : List ℕ} {r : Option ℕ} {w : ℕ} → Next ws lo hi m m' r → r ≡ Some w → (lo ≤ w) × (w < hi)
-in-range {ws} {lo} {hi} {m} {m'} {r} {w} n q =
-    let z = (word-gives lo hi (drop (at_of m) ws)).given w (drop (at_of m + 1) ws) (rw q at n.got.same) in
+pub in_range : {c : Context} {lo hi : ℕ} {w w' : Walk} {x : ℕ} → Next c lo hi w w' (Ok x) → (lo ≤ x) × (x < hi)
+in_range {c} {lo} {hi} {w} {x = x} n =
+    let z = (word-gives lo hi (rest_in c w)).given x (drop (w.at + 1) (words_in c)) n.got.same in
     (z.1, z.2)
 
-pub stays : {ws : List ℕ} {lo hi : ℕ} {m m' : List ℕ} {r : Option ℕ} → Next ws lo hi m m' r → r ≡ None → m' ≡ m
-stays n q = rw q at n.now
+module _ {keep : Option ℕ} {j : ℕ} {c : Context} {w₀ : Walk} {G : Goer} {free : ℕ} {w : Walk} {lo hi : ℕ} {K : (ℕ → ℕ) → ℕ → Both → Both → Chain Both} {w' : Walk}
+    (o : Stage keep j c w₀ G free w (λ id s t. step (word_in lo hi) (λ x. K id x s t))) where
+  pub past : {x : ℕ} → Next c lo hi w w' (Ok x) → Stage keep j c w₀ G (free + 1) w' (λ id. K id x)
+  past n = rw n.now (read o (free + 1) n.got (omega arith))
 
-pub goes_on_lem : {ws : List ℕ} {lo hi : ℕ} {m m' : List ℕ} {r : Option ℕ} {w : ℕ} → Next ws lo hi m m' r → r ≡ Some w → m' ≡ set m 0 (at_of m + 1)
-goes_on_lem n q = rw q at n.now
+  pub stopped : {e : Refusal} → Next c lo hi w w' (Err e) → Refuses c w₀ G e
+  stopped n = stop o n.got
 
-module _ {keep : Option ℕ} {j : ℕ} {ws tab m₀ vis₀ found₀ : List ℕ} {G : Goer} {c : ℕ} {m vis found : List ℕ} {lo hi : ℕ} {K : (ℕ → ℕ) → ℕ → Both → Both → Chain Both} {m' : List ℕ} {r : Option ℕ}
-    (o : Stage keep j ws tab m₀ vis₀ found₀ G c m vis found (λ id s t. step (word_in lo hi) (λ x. K id x s t))) (n : Next ws lo hi m m' r) where
-  pub past : {w : ℕ} → r ≡ Some w → Stage keep j ws tab m₀ vis₀ found₀ G (c + 1) m' vis found (λ id. K id w)
-  past q = rw (goes_on_lem n q) (read o (c + 1) (rw q at n.got) (omega arith))
+-- its `?`, and in a walk that keeps what was visible
+module _ {c : Context} {w₀ : Walk} {G : Goer} {free : ℕ} {w : Walk} {lo hi : ℕ} {K : (ℕ → ℕ) → ℕ → Both → Both → Chain Both} {w' : Walk} {e : Refusal} (r : Result (Unit {0}) Refusal) where
+  pub halted : {j : ℕ} → Stage None j c w₀ G free w (λ id s t. step (word_in lo hi) (λ x. K id x s t)) → Next c lo hi w w' (Err e) → IsErr r × IsErrAnd r (λ y. y ≡ e) → Passes j c w₀ w' G r
+  halted o n q = rw n.now (refused r o (stopped o n) q)
 
-  pub stopped : r ≡ None → Refuses ws tab m₀ vis₀ found₀ G 5
-  stopped q = stop o (rw q at n.got)
+  pub no_word : {room : ℕ} → Stage (Some room) 0 c w₀ G free w (λ id s t. step (word_in lo hi) (λ x. K id x s t)) → Next c lo hi w w' (Err e) → IsErr r × IsErrAnd r (λ y. y ≡ e) → Walked room c w₀ w' G r
+  no_word o n q = rw n.now (stage.refused r o (stopped o n) q)
 
-module _ {j : ℕ} {ws tab m₀ vis₀ found₀ : List ℕ} {G : Goer} {c : ℕ} {m vis found : List ℕ} {lo hi : ℕ} {K : (ℕ → ℕ) → ℕ → Both → Both → Chain Both} {m' : List ℕ} {r : Option ℕ} {held held' : List ℕ}
-    (o : Stage None j ws tab m₀ vis₀ found₀ G c m vis found (λ id s t. step (word_in lo hi) (λ x. K id x s t))) (n : Next ws lo hi m m' r) where
-  pub halted : r ≡ None → length held' ≡ length held → Passes j ws tab m₀ vis₀ found₀ held m' vis found held' G 5
-  halted q e = rw (stays n q) (refused 5 (λ z. omega arith) o e (stopped o n q))
+-- ---- loops: of n rounds, k were walked
+module _ {c : Context} {w₀ : Walk} {n : ℕ} {one : Goer} {w : Walk} {k : ℕ} (o : Turning None c w₀ n one w k) where
+  pub turn : {w' : Walk} {u : Unit {0}} → k < n → Passes 0 c w w' one (Ok u) → Turning None c w₀ n one w' (k + 1)
+  turn h x = record { stage = went 0 (omega arith) (unrolled o h) x }
 
--- what a word asks
-pub asked : {c : ℕ} {ws tab m vis found : List ℕ} → Ready c ws tab m vis found → (length m ≡ 64) × ((at_of m ≤ length ws) × (length ws ≤ 2048))
-asked h = (h.fit.size, (h.fit.within, h.fine.short))
+  pub fall : {w' : Walk} {e : Refusal} (r : Result (Unit {0}) Refusal) → k < n → Passes 0 c w w' one (Err e) → IsErr r × IsErrAnd r (λ y. y ≡ e) → Passes 0 c w₀ w' (λ id. rounds n (one id)) r
+  fall r h x q = fell r (unrolled o h) x q
 
--- ---- loops: of n rounds, left are left
-pub record Turning (ws tab m₀ vis₀ found₀ held₀ : List ℕ) (n : ℕ) (one : Goer) (m vis found held : List ℕ) (left : ℕ) : Type 0 where
-  pub stage : Stage None 0 ws tab m₀ vis₀ found₀ (λ id. rounds n (one id)) 0 m vis found (λ id s t. last (rounds left (one id) t))
-  pub kept : length held ≡ length held₀
-
-pub begun : {ws tab m vis found held : List ℕ} (n : ℕ) (one : Goer) → Ready 0 ws tab m vis found → Turning ws tab m vis found held n one m vis found held n
-begun n one h = record { stage = start (λ id s t. last (rounds n (one id) t)) h (λ id s r. refl); kept = refl }
-
-ahead : (left : ℕ) (one : Go) (t : Both) (r : List ℕ) → 0 < left → rounds left one t r ≡ run (step (one t) (λ u. last (rounds (left - 1) one u))) r
-unfolding rounds
-ahead left one t r h =
-    let l : left ≡ suc (left - 1) = omega arith in
-    ap (λ (k : ℕ). rounds k one t r) l
-
-module _ {ws tab m₀ vis₀ found₀ held₀ : List ℕ} {n : ℕ} {one : Goer} {m vis found held : List ℕ} {left : ℕ} (o : Turning ws tab m₀ vis₀ found₀ held₀ n one m vis found held left) where
-  next : 0 < left → Stage None 0 ws tab m₀ vis₀ found₀ (λ id. rounds n (one id)) 0 m vis found (λ id s t. step (one id t) (λ u. last (rounds (left - 1) (one id) u)))
-  next h = recast _ o.stage (λ id s t r. ahead left (one id) t r h)
-
-  pub turn : {m' vis' found' held' : List ℕ} {a : ℕ} → 0 < left → a ≡ 0 → Passes 0 ws tab m vis found held m' vis' found' held' one a → Turning ws tab m₀ vis₀ found₀ held₀ n one m' vis' found' held' (left - 1)
-  turn h q x = record { stage = went 0 q (omega arith) (next h) x; kept = x.kept ∙ o.kept }
-
-  pub fall : {m' vis' found' held' : List ℕ} (a : ℕ) → 0 < left → (a ≡ 0 → ⊥) → Passes 0 ws tab m vis found held m' vis' found' held' one a → Passes 0 ws tab m₀ vis₀ found₀ held₀ m' vis' found' held' (λ id. rounds n (one id)) a
-  fall a h q x = fell a q o.kept (next h) x
-
-  pub over : left ≤ 0 → Passes 0 ws tab m₀ vis₀ found₀ held₀ m vis found held (λ id. rounds n (one id)) 0
-  unfolding rounds
-  over h =
-      let z : left ≡ 0 = omega arith in
-      passed (recast (λ id s t. last (ok t)) o.stage (λ id s t r. ap (λ (k : ℕ). rounds k (one id) t r) z)) o.kept
+  pub over : {u : Unit {0}} → n ≤ k → Passes 0 c w₀ w (λ id. rounds n (one id)) (Ok u)
+  over h = passed (ran o h)
 
 -- the pairs of a WITH have as much room as before
-pub still-held : {ws tab held held' : List ℕ} {mode : ℕ} → length held' ≡ length held → Held ws tab held mode → Held ws tab held' mode
-still-held e h = record { room = omega (arith, h.room, e); resolves = h.resolves; unmarked = h.unmarked }
-
--- no name is hushed where none is marked
-pub none-hushed : (tab : List ℕ) → Unmarked tab → (x : ℕ) → hushed_in tab x ≡ false
-none-hushed tab h x = go (ltb x (slots_in tab)) refl
-  where
-    go : (b : Bool) → ltb x (slots_in tab) ≡ b → b && eqb (get_or tab (16 + x) 0) 1 ≡ false
-    go true e = rw (h x (ltb-true x (slots_in tab) e))
-    go false e = refl
+pub held_on : {c : Context} {held held' : List ℕ} {mode : fused.Mode} → length held' ≡ length held → Held c held mode → Held c held' mode
+held_on e h = record { room = omega (arith, h.room, e); resolves = h.resolves; unhushed = h.unhushed }

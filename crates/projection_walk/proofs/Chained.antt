@@ -1,38 +1,42 @@
--- What carries, in a row: a word first (`word-passes`, `word-refused`; what stands behind it: `word_size`, `word_held`, `word-star`,
--- `word-holding`, `word-ready`), one after the other (`then-passes`, `first-refused`, `carried-ready`), a walk of expressions, of which nothing is held
--- (`walked-passes`), or put another way (`as-passes`).
-use Rattle.std.specs.Prelude.{Option, Some, None}
-use Prim.Native.Nat.{ℕ, zero, suc, ◌+◌, ◌≤◌}
+-- What carries, in a row: put another way (`as-passes`), one after the other (`then-passes`; refused at the first one's `?`: `first-refused`;
+-- what the second one asks: `carried-ready`, `carried-holding`), a walk of expressions, of which nothing is held (`walked-passes`), and a word
+-- first (`word-passes`, refused at its `?`: `word-refused`; what stands behind it: `word-ready`, `word-holding`).
+use Rattle.std.specs.Prelude.{Result, Ok, Err}
+use Rattle.std.specs.Result.{IsErr, IsErrAnd}
+use Prim.Native.Nat.{ℕ, ◌+◌, ◌≤◌}
 use native.Mathlib.Omega.{arith}
-use mathlib.Core.Path.{◌≡◌, refl, ◌∙◌}
+use mathlib.Core.Path.{◌≡◌, ◌∙◌}
 use mathlib.Core.List.{List}
-use lib.ListN.{length, drop}
+use Rattle.refusal.specs.declared.Refusal.{Refusal}
 use Rattle.heads.specs.Got.{Got, ok, bind, word_in}
 use Rattle.fused.specs.Fused.{Both}
 use Rattle.fused.specs.Clauses.{Taken}
-use Rattle.steps.specs.Memory.{at_of, top_of, held_of, slots_in}
 use Rattle.steps.specs.Hold.{Ready}
-use Rattle.steps.proofs.Held.{lower, seens-lower}
-use Rattle.walk.specs.Goes.{Goer, Walked}
-use Rattle.walk.proofs.Stage.{placed, placed-fit, placed-holds}
+use Rattle.steps.specs.declared.Walk.{Walk}
+use Rattle.steps.specs.declared.context.Context.{Context}
+use Rattle.steps.proofs.Held.{lower, seens-lower, still-idle, still-then}
+use Rattle.walk.specs.Goes.{Goer, Walked, rest_in}
+use Rattle.walk.proofs.Stage.{placed, placed-fit, placed-holds, placed-still}
 use Rattle.clause_parts.specs.Passes.{Next}
-use Rattle.clause_parts.proofs.Passing.{goes_on_lem, stays}
-use Rattle.projection_walk.specs.Carries.{star_of, kept_of, Projector, Carries, Holding}
+use Rattle.projection_walk.specs.Pairs.{kept_of, Still}
+use Rattle.projection_walk.specs.Carries.{Projector, Carries, Holding}
+use Rattle.projection_walk.specs.declared.pairs.Pairs.{Pairs}
+use Rattle.projection_walk.proofs.Carrying.{still_idle}
 
-module _ {j : ℕ} {ws tab m vis found held m' vis' found' held' : List ℕ} where
+still_then : {p p1 p2 : Pairs} → Still p p1 → Still p1 p2 → Still p p2
+still_then x y = record { lent = y.lent ∙ x.lent; size = y.size ∙ x.size }
+
+module _ {j : ℕ} {c : Context} {w : Walk} {p : Pairs} {w' : Walk} {p' : Pairs} where
   -- put another way
-  pub as-passes : {G : Projector} (H : Projector) (a : ℕ) → ((id : ℕ → ℕ) (q : Taken) (s : Both) → H id q s (drop (at_of m) ws) ≡ G id q s (drop (at_of m) ws)) → Carries j ws tab m vis found held m' vis' found' held' G a → Carries j ws tab m vis found held m' vis' found' held' H a
-  as-passes H zero e x =
+  pub as-passes : {G : Projector} (H : Projector) (r : Result (Unit {0}) Refusal) → ((id : ℕ → ℕ) (q : Taken) (s : Both) → H id q s (rest_in c w) ≡ G id q s (rest_in c w)) → Carries j c w p w' p' G r → Carries j c w p w' p' H r
+  as-passes H (Ok u) e x =
       let y = x.carries in
       record {
-        sized = x.sized;
-        seen = x.seen;
-        wrote = x.wrote;
-        kept = x.kept;
+        still = x.still;
+        held = x.held;
         carries = record {
           from = y.from;
           paid = y.paid;
-          star = y.star;
           top = y.top;
           below = y.below;
           named = y.named;
@@ -40,140 +44,104 @@ module _ {j : ℕ} {ws tab m vis found held m' vis' found' held' : List ℕ} whe
           goes = λ id s b. let g = y.goes id s b in record { state = g.state; holds = g.holds; same = e id _ s ∙ g.same };
         };
       }
-  as-passes H (suc a) e x = record { sized = x.sized; seen = x.seen; wrote = x.wrote; kept = x.kept; carries = λ id s b. e id _ s ∙ x.carries id s b }
+  as-passes H (Err y) e x = record { still = x.still; held = x.held; carries = λ id s b. e id _ s ∙ x.carries id s b }
 
-  -- the first one is refused
-  pub first-refused : {P : Projector} (K : (ℕ → ℕ) → Both × Taken → List ℕ → Got (Both × Taken)) (a : ℕ) → (a ≡ 0 → ⊥) → Carries j ws tab m vis found held m' vis' found' held' P a → Carries j ws tab m vis found held m' vis' found' held' (λ id q s r. bind (P id q s r) (λ x r2. K id x r2)) a
-  first-refused K zero q x = absurd (q refl)
-  first-refused K (suc a) q x = record { sized = x.sized; seen = x.seen; wrote = x.wrote; kept = x.kept; carries = λ id s b. rw (x.carries id s b) }
+  -- at a `?`
+  pub first-refused : {P : Projector} {e : Refusal} (K : (ℕ → ℕ) → Both × Taken → List ℕ → Got (Both × Taken)) (r : Result (Unit {0}) Refusal) → Carries j c w p w' p' P (Err e) → IsErr r × IsErrAnd r (λ y. y ≡ e) → Carries j c w p w' p' (λ id q s t. bind (P id q s t) (λ x t2. K id x t2)) r
+  first-refused K (Err y) x q = record { still = x.still; held = x.held; carries = λ id s b. rw (q.1, x.carries id s b) }
+  first-refused K (Ok u) x q = absurd q.1
 
   -- one after the other
-  pub then-passes : {P Q : Projector} {m2 vis2 found2 held2 : List ℕ} (a : ℕ) → Carries j ws tab m vis found held m' vis' found' held' P 0 → Carries 0 ws tab m' vis' found' held' m2 vis2 found2 held2 Q a →
-      Carries j ws tab m vis found held m2 vis2 found2 held2 (λ id q s r. bind (P id q s r) (λ x r2. Q id x.1 x.0 r2)) a
-  then-passes {vis2 = vis2} zero x z =
-      let y = x.carries in
-      let u = z.carries in
-      record {
-        sized = z.sized ∙ x.sized;
-        seen = z.seen ∙ x.seen;
-        wrote = z.wrote ∙ x.wrote;
-        kept = z.kept ∙ x.kept;
-        carries = record {
-          from = omega (arith, y.from, u.from);
-          paid = omega (arith, y.paid, u.paid);
-          star = λ l. u.star (y.star l);
-          top = omega (arith, y.top, u.top);
-          below = seens-lower (slots_in tab) (top_of m) (top_of m') vis2 vis' y.top u.below ∙ y.below;
-          named = λ n. u.named (y.named n);
-          fit = λ k f. u.fit k (lower (omega arith) (omega arith) (y.fit k f));
-          goes = λ id s b. let g = y.goes id s b in let h = u.goes id g.state g.holds in
-              record { state = h.state; holds = h.holds; same = rw g.same h.same };
-        };
-      }
-  then-passes (suc a) x z =
-      record {
-        sized = z.sized ∙ x.sized;
-        seen = z.seen ∙ x.seen;
-        wrote = z.wrote ∙ x.wrote;
-        kept = z.kept ∙ x.kept;
-        carries = λ id s b. let g = x.carries.goes id s b in rw g.same (z.carries id g.state g.holds);
-      }
-
--- nothing is held of a walk of expressions
-module _ {j : ℕ} {ws tab m vis found held m' vis' found' : List ℕ} where
-  pub walked-passes : {H : Goer} (a : ℕ) → Walked 48 ws tab m vis found m' vis' found' H a → Carries j ws tab m vis found held m' vis' found' held (λ id q s r. bind (H id s r) (λ u r2. ok (u, q) r2)) a
-  walked-passes zero w =
-      let y = w.goes in
-      let z = y.frame.held in
-      let o : star_of m' ≡ star_of m = y.frame.levels 49 (omega arith) in
-      record {
-        sized = w.sized;
-        seen = w.seen;
-        wrote = w.wrote;
-        kept = refl;
-        carries = record {
-          from = y.from;
-          paid = omega (arith, z, o, y.from);
-          star = λ l. omega (arith, o);
-          top = y.frame.top;
-          below = y.frame.below;
-          named = λ n. rw z n;
-          fit = λ k b. lower (omega (arith, z, o)) (omega (arith, z, o)) (y.fit (j + k + kept_of m) b);
-          goes = λ id s b. let g = y.goes id s b in record { state = g.state; holds = g.holds; same = rw (g.same, z, o) };
-        };
-      }
-  walked-passes (suc a) w = record { sized = w.sized; seen = w.seen; wrote = w.wrote; kept = refl; carries = λ id s b. rw (w.goes id s b) }
-
-pub carried-ready : {ws tab m vis found held m' vis' found' held' : List ℕ} {P : Projector} (a : ℕ) → a ≡ 0 → Ready (kept_of m) ws tab m vis found → Carries 0 ws tab m vis found held m' vis' found' held' P a → Ready (kept_of m') ws tab m' vis' found'
-carried-ready a e h x =
-    let y = rw e at x.carries in
-    record { fine = h.fine; fit = lower (omega arith) (omega arith) (y.fit 0 (lower (omega arith) (omega arith) h.fit)) }
-
--- ---- a word first
-module _ {ws m m1 : List ℕ} {lo hi w : ℕ} {r : Option ℕ} (size : length m ≡ 64) (n : Next ws lo hi m m1 r) (q : r ≡ Some w) where
-  pub word_size : length m1 ≡ 64
-  word_size = rw (goes_on_lem n q) ((placed m (at_of m + 1) size).size ∙ size)
-
-  word_at : at_of m1 ≡ at_of m + 1
-  word_at = rw (goes_on_lem n q) (placed m (at_of m + 1) size).at
-
-  word-top : top_of m1 ≡ top_of m
-  word-top = rw (goes_on_lem n q) (placed m (at_of m + 1) size).top
-
-  pub word_held : held_of m1 ≡ held_of m
-  word_held = rw (goes_on_lem n q) (placed m (at_of m + 1) size).held
-
-  pub word-star : star_of m1 ≡ star_of m
-  word-star = rw (goes_on_lem n q) ((placed m (at_of m + 1) size).levels 49)
-
-  pub word-holding : {tab held : List ℕ} {i j : ℕ} → i ≤ j + 1 → Holding j ws tab m held → Holding i ws tab m1 held
-  word-holding l o = record { room = o.room; few = omega (arith, word_held, word-star, word_at, o.few); star = omega (arith, word-star, o.star); unmarked = o.unmarked }
-
-module _ {ws tab m vis found m1 : List ℕ} {lo hi w : ℕ} {r : Option ℕ} (n : Next ws lo hi m m1 r) (q : r ≡ Some w) where
-  pub word-ready : {i j : ℕ} → i ≤ j + 1 → Ready j ws tab m vis found → Ready i ws tab m1 vis found
-  word-ready l h =
-      let a = rw q at n.got in
-      rw (goes_on_lem n q) (record { fine = h.fine; fit = placed-fit m (at_of m + 1) h.fit.size a.from a.within (omega arith) h.fit })
-
-  module _ {held m' vis' found' held' : List ℕ} {i j : ℕ} (size : length m ≡ 64) (H : ℕ → Projector) where
-    pub word-passes : (a : ℕ) → i ≤ j + 1 → Carries i ws tab m1 vis found held m' vis' found' held' (H w) a → Carries j ws tab m vis found held m' vis' found' held' (λ id q s r. bind (word_in lo hi r) (λ x r1. H x id q s r1)) a
-    word-passes zero l x =
-        let e = goes_on_lem n q in
-        let g = rw q at n.got in
+  module _ {P : Projector} {u : Unit {0}} (x : Carries j c w p w' p' P (Ok u)) where
+    pub then-passes : {Q : Projector} {w2 : Walk} {p2 : Pairs} (r : Result (Unit {0}) Refusal) → Carries 0 c w' p' w2 p2 Q r → Carries j c w p w2 p2 (λ id q s t. bind (P id q s t) (λ y t2. Q id y.1 y.0 t2)) r
+    then-passes {w2 = w2} (Ok v) z =
         let y = x.carries in
-        let k7 = word_held size n q in
-        let k8 = word-star size n q in
-        let k1 = word-top size n q in
-        let k0 = word_at size n q in
+        let u = z.carries in
         record {
-          sized = x.sized ∙ rw e (placed m (at_of m + 1) size).size;
-          seen = x.seen;
-          wrote = x.wrote;
-          kept = x.kept;
+          still = still-then x.still z.still;
+          held = still_then x.held z.held;
           carries = record {
-            from = omega (arith, y.from, k0);
-            paid = omega (arith, y.paid, k0, k7, k8);
-            star = λ l. y.star (omega (arith, k8));
-            top = omega (arith, y.top, k1);
-            below = rw k1 at y.below;
-            named = λ b. y.named (rw k7 b);
-            fit = λ k f. y.fit k (rw (k7, k8) (rw e (placed-fit m (at_of m + 1) size {c = j + k + kept_of m} {i = i + k + kept_of m} g.from g.within (omega arith) f)));
-            goes = λ id s b. let c = y.goes id s (rw e (placed-holds m (at_of m + 1) size b)) in
-                record { state = c.state; holds = c.holds; same = rw g.same (rw (k0, k7, k8) at c.same) };
+            from = omega (arith, y.from, u.from);
+            paid = omega (arith, y.paid, u.paid);
+            top = omega (arith, y.top, u.top);
+            below = seens-lower w.visible.names w.visible.top w'.visible.top w2.visible.words.now w'.visible.words.now y.top (rw x.still.visible.names at u.below) ∙ y.below;
+            named = λ n. rw x.still.visible.names at (u.named (rw (← x.still.visible.names) at (y.named n)));
+            fit = λ k f. u.fit k (lower (omega arith) (omega arith) (y.fit k f));
+            goes = λ id s b. let g = y.goes id s b in let h = u.goes id g.state g.holds in
+                record { state = h.state; holds = h.holds; same = rw g.same h.same };
           };
         }
-    word-passes (suc a) l x =
-        let e = goes_on_lem n q in
-        let g = rw q at n.got in
+    then-passes (Err e) z =
         record {
-          sized = x.sized ∙ rw e (placed m (at_of m + 1) size).size;
-          seen = x.seen;
-          wrote = x.wrote;
-          kept = x.kept;
-          carries = λ id s b. rw g.same (rw (word_at size n q, word_held size n q, word-star size n q) at (x.carries id s (rw e (placed-holds m (at_of m + 1) size b))));
+          still = still-then x.still z.still;
+          held = still_then x.held z.held;
+          carries = λ id s b. let g = x.carries.goes id s b in rw g.same (z.carries id g.state g.holds);
         }
 
-pub word-refused : {ws tab m vis found held m1 : List ℕ} {j lo hi : ℕ} {r : Option ℕ} (H : ℕ → Projector) → Next ws lo hi m m1 r → r ≡ None → Carries j ws tab m vis found held m1 vis found held (λ id q s r. bind (word_in lo hi r) (λ x r1. H x id q s r1)) 5
-word-refused H n q =
-    let g = rw q at n.got in
-    rw (stays n q) (record { sized = refl; seen = refl; wrote = refl; kept = refl; carries = λ id s b. rw g.same })
+-- what the second one asks
+module _ {c : Context} {w : Walk} {p : Pairs} {w' : Walk} {p' : Pairs} {P : Projector} {u : Unit {0}} (x : Carries 0 c w p w' p' P (Ok u)) where
+  pub carried-ready : Ready (kept_of p) c w → Ready (kept_of p') c w'
+  carried-ready h =
+      let y = x.carries in
+      record { fine = h.fine; fit = lower (omega arith) (omega arith) (y.fit 0 (lower (omega arith) (omega arith) h.fit)) }
+
+  pub carried-holding : Holding 0 c w p → Holding 0 c w' p'
+  carried-holding o =
+      record { room = omega (arith, o.room, x.held.size); few = omega (arith, o.few, x.carries.paid); unhushed = o.unhushed }
+
+-- nothing is held of a walk of expressions
+module _ {j : ℕ} {c : Context} {w : Walk} {p : Pairs} {w' : Walk} {H : Goer} where
+  pub walked-passes : (r : Result (Unit {0}) Refusal) → Walked 48 c w w' H r → Carries j c w p w' p (λ id q s t. bind (H id s t) (λ u t2. ok (u, q) t2)) r
+  walked-passes (Ok u) x =
+      let y = x.goes in
+      record {
+        still = x.still;
+        held = still_idle;
+        carries = record {
+          from = y.from;
+          paid = omega (arith, y.from);
+          top = y.frame.top;
+          below = y.frame.below;
+          named = λ n. n;
+          fit = λ k b. lower (omega arith) (omega arith) (y.fit (j + k + kept_of p) b);
+          goes = λ id s b. let g = y.goes id s b in record { state = g.state; holds = g.holds; same = rw g.same };
+        };
+      }
+  walked-passes (Err e) x = record { still = x.still; held = still_idle; carries = λ id s b. rw (x.goes.same id s b) }
+
+-- ---- a word first
+module _ {c : Context} {w w1 : Walk} {lo hi x : ℕ} (n : Next c lo hi w w1 (Ok x)) {i j : ℕ} (l : i ≤ j + 1) where
+  pub word-holding : {p : Pairs} → Holding j c w p → Holding i c w1 p
+  word-holding o = rw n.now (record { room = o.room; few = omega (arith, o.few); unhushed = o.unhushed })
+
+  pub word-ready : Ready j c w → Ready i c w1
+  word-ready h = rw n.now (record { fine = h.fine; fit = placed-fit n.got.from n.got.within (omega arith) h.fit })
+
+  module _ {p : Pairs} {w' : Walk} {p' : Pairs} (H : ℕ → Projector) where
+    placed-passes : (r : Result (Unit {0}) Refusal) → Carries i c (placed w (w.at + 1)) p w' p' (H x) r → Carries j c w p w' p' (λ id q s t. bind (word_in lo hi t) (λ y t1. H y id q s t1)) r
+    placed-passes (Ok u) z =
+        let y = z.carries in
+        record {
+          still = still-then placed-still z.still;
+          held = z.held;
+          carries = record {
+            from = omega (arith, y.from);
+            paid = omega (arith, y.paid);
+            top = y.top;
+            below = y.below;
+            named = y.named;
+            fit = λ k f. y.fit k (placed-fit n.got.from n.got.within (omega arith) f);
+            goes = λ id s b. let g = y.goes id s (placed-holds b) in record { state = g.state; holds = g.holds; same = rw n.got.same g.same };
+          };
+        }
+    placed-passes (Err e) z =
+        record { still = still-then placed-still z.still; held = z.held; carries = λ id s b. rw n.got.same (z.carries id s (placed-holds b)) }
+
+    pub word-passes : (r : Result (Unit {0}) Refusal) → Carries i c w1 p w' p' (H x) r → Carries j c w p w' p' (λ id q s t. bind (word_in lo hi t) (λ y t1. H y id q s t1)) r
+    word-passes r z = placed-passes r (rw n.now at z)
+
+-- at its `?`
+pub word-refused : {j : ℕ} {c : Context} {w w1 : Walk} {p : Pairs} {lo hi : ℕ} {e : Refusal} (H : ℕ → Projector) (r : Result (Unit {0}) Refusal) → Next c lo hi w w1 (Err e) → IsErr r × IsErrAnd r (λ y. y ≡ e) →
+    Carries j c w p w1 p (λ id q s t. bind (word_in lo hi t) (λ y t1. H y id q s t1)) r
+word-refused H (Err y) n q = rw n.now (record { still = still-idle; held = still_idle; carries = λ id s b. rw (n.got.same, q.1) })
+word-refused H (Ok u) n q = absurd q.1

@@ -1,5 +1,5 @@
 -- What the walk over the projections and the filter of a WITH asks and leaves: the pairs that they carry are held, and whether one is a star.
-use Rattle.std.specs.Prelude.{ℕ, suc, ◌+◌, ◌*◌, ◌<◌, ◌≤◌, ◌≡◌, true, List, length, Option, None, Some, Result, Ok, Err}
+use Rattle.std.specs.Prelude.{ℕ, ◌+◌, ◌*◌, ◌<◌, ◌≤◌, ◌≡◌, true, List, length, Option, None, Some, Result, Ok, Err}
 use Rattle.refusal.specs.Number.{number_of}
 use Rattle.refusal.specs.declared.Refusal.{Refusal}
 use Rattle.heads.specs.Got.{Got, ok, no, bind, any_word, flag}
@@ -13,7 +13,7 @@ use Rattle.fused.specs.Clauses.{within, direct_form, direct_of, Taken, takes, pr
 use Rattle.visible.specs.Visible.{seens}
 use Rattle.visible.specs.Stack.{entries}
 use Rattle.steps.specs.Memory.{words_in, names_in, tables_in, is_the, world_at}
-use Rattle.steps.specs.Hold.{Fit, Holds}
+use Rattle.steps.specs.Hold.{Fit, Holds, Frame}
 use Rattle.steps.specs.Hold as hold
 use Rattle.walk.specs.Goes.{rest_in}
 use Rattle.clause_parts.specs.Passes.{Unhushed}
@@ -65,7 +65,7 @@ pub record Adds (c : Context) (w : Walk) (p : Pairs) (w' : Walk) (p' : Pairs) (F
   pub at : w'.at ≡ w.at
   pub still : hold.Still w w'
   pub held : Still p p'
-  pub same : w'.visible ≡ w.visible
+  pub frame : Frame 0 w w'
   pub more : kept_of p' ≤ kept_of p + 1
   pub named : InNames w.visible.names (pairs_of p) → InNames w.visible.names (pairs_of p')
   pub fit : (k : ℕ) → Fit (3 + k + kept_of p) c w → Fit (k + kept_of p') c w'

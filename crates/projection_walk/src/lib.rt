@@ -15,10 +15,9 @@ ghost use Rattle.clause_parts.specs.Passes.{Held};
 ghost use Rattle.projection_walk.specs.Pairs.{kept_of, KeptOther, KeepsOther};
 ghost use Rattle.projection_walk.specs.Carries.{Within, NoStar, Holding, Carries, Adds, DirectAs, carried_at, projections_at, filtered_at};
 
-pub use pairs::Pairs;
-
 use clause_parts::{DEPTH, alias_of, next_word};
 use heads::Form;
+pub use pairs::Pairs;
 use refusal::Refusal;
 use steps::{Context, Mode, Setting, Settings, Walk};
 use walk::{walk_expr, walk_row};
@@ -45,13 +44,7 @@ fn use_plain(walk: &mut Walk, context: &Context, v: u32)
 }
 
 // A Var: carried under its alias, or under the name of its row.
-fn carry_var(
-    walk: &mut Walk,
-    context: &Context,
-    pairs: &mut Pairs,
-    alias: Option<u32>,
-    v: u32,
-)
+fn carry_var(walk: &mut Walk, context: &Context, pairs: &mut Pairs, alias: Option<u32>, v: u32)
     requires { Within (names_in context.now) alias × (Holding 3 context.now walk.old pairs.old × Ready 3 context.now walk.old) }
     ensures { Adds context.now walk.old pairs.old walk.new pairs.new (λ id. on_names (use_var (world_at context.now id) v (row_in context.now.rows v))) alias (a_var v) }
 {
@@ -66,13 +59,7 @@ fn carry_var(
 }
 
 // A name that is no star: carried if it is visible, under its alias or its own name.
-fn carry_seen(
-    walk: &mut Walk,
-    context: &Context,
-    pairs: &mut Pairs,
-    alias: Option<u32>,
-    x: u32,
-)
+fn carry_seen(walk: &mut Walk, context: &Context, pairs: &mut Pairs, alias: Option<u32>, x: u32)
     requires { (NoStar context.now alias x × (Within (names_in context.now) alias × (x < names_in context.now))) × (Holding 3 context.now walk.old pairs.old × Ready 3 context.now walk.old) }
     ensures { Adds context.now walk.old pairs.old walk.new pairs.new (λ id. on_names (name_use (world_at context.now id) x)) alias (a_name x) }
 {
@@ -86,13 +73,7 @@ fn carry_seen(
 }
 
 // A name: a star without an alias is used, and kept in mind.
-fn carry_name(
-    walk: &mut Walk,
-    context: &Context,
-    pairs: &mut Pairs,
-    alias: Option<u32>,
-    x: u32,
-)
+fn carry_name(walk: &mut Walk, context: &Context, pairs: &mut Pairs, alias: Option<u32>, x: u32)
     requires { (Within (names_in context.now) alias × (x < names_in context.now)) × (Holding 3 context.now walk.old pairs.old × Ready 3 context.now walk.old) }
     ensures { Adds context.now walk.old pairs.old walk.new pairs.new (λ id. on_names (name_use (world_at context.now id) x)) alias (a_name x) }
 {

@@ -1,5 +1,4 @@
 pub mod Names
 pub mod Seeing
 pub mod Rebound
-pub mod Settling
 pub mod Withs

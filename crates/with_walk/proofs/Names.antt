@@ -8,7 +8,7 @@ use lib.Dec.{eqb}
 use lib.ListN.{get_or}
 use borrow.Author.Tests.{eqb-true, eqb-false}
 use Rattle.semantics.specs.Resolve.{Pair, pair}
-use Rattle.projection_walk.specs.Carries.{pairs_in, InNames}
+use Rattle.projection_walk.specs.Pairs.{pairs_in, InNames}
 
 names-split : {slots x : ℕ} (v : ℕ) (ps : List Pair) → InNames slots (ps ++ (pair x v ∷ [])) → InNames slots ps × (x < slots)
 unfolding InNames

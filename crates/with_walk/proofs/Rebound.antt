@@ -1,17 +1,15 @@
--- What a WITH binds. Nothing is written of what its barrier carries and its Root binds: the state that the words hold after the two scopes are opened
--- and the pairs are seen is the definition's, but for counts (`rooted-quiet`). With a star the names before are seen once each, which is what the
--- star's pairs are when they are bound (`spread-seen`), and all of them are first (`spread-first`). The whole: `rebinds`; what each step asks:
--- `root-asks`, `root-ready`, `leave-asks`, `spread-asks`, `pairs-ask`, `count-asks`.
+-- What a WITH binds. Nothing is written of what its barrier carries and its Root binds: the state that the walk holds after the two scopes are
+-- opened and the pairs are seen is the definition's, but for counts (`rooted-quiet`). With a star the names before are seen once each, which is
+-- what the star's pairs are when they are bound (`spread-seen`), and all of them are first (`spread-first`). The whole: `rebinds`; what each step
+-- asks: `root-asks`, `leave-asks`, `spread-asks`, `pairs-ask`, `count-asks`.
 use Rattle.std.specs.Prelude.{Some}
-use Prim.Native.Nat.{ℕ, zero, suc, ◌+◌, ◌*◌, ◌<◌, ◌≤◌}
+use Prim.Native.Nat.{ℕ, zero, suc, ◌+◌, ◌*◌, ◌≤◌}
 use native.Mathlib.Omega.{arith}
 use mathlib.Core.Path.{◌≡◌, refl, ap, sym, ◌∙◌}
 use mathlib.Core.Bool.{Bool, true, false, cond, ◌&&◌, ◌||◌}
 use mathlib.Core.List.{List, [], ◌∷◌, ◌++◌, reverse, reverse_aux}
 use lib.Dec.{eqb}
-use lib.ListN.{length, get_or, set, length-set, length-append}
-use lib.Seq.{get_or-set_same, get_or-set_other}
-use borrow.Author.Tests.{eqb-true, eqb-false}
+use lib.ListN.{length, length-append}
 use Rattle.scope.specs.Graph.{root_scope, with_barrier, scope, carried}
 use Rattle.semantics.specs.Log.{Bound, bound, Event, open', bind, carry}
 use Rattle.semantics.specs.World.{World, kind_of}
@@ -20,14 +18,20 @@ use Rattle.theorems.specs.Needs.{made, carried_in}
 use Rattle.theorems.specs.Woven.{written}
 use Rattle.fused.specs.Fused.{Both}
 use Rattle.fused.specs.Clauses.{all_of}
-use Rattle.visible.specs.Visible.{seens, Descends, Tabled, seen_once}
-use Rattle.steps.specs.Memory.{at_of, top_of, cur_of, last_of, said_of, told_of, lost_of, held_of, made_of, taken_of, level_of, slots_in, wants_in, world_at, kept}
-use Rattle.steps.specs.Hold.{Binding, Fits, Fit, Holds, Steps, Ready, Left, on_names}
-use Rattle.steps.proofs.Held.{Numbers, unset, store, recounted, lower, refit}
-use Rattle.projection_walk.specs.Carries.{pairs_in, star_of, kept_of}
-use Rattle.with_walk.specs.Binds.{rooted_on, under_star, firsts, seen_by, Sees, SeesAll, SeesIn, Spreads, BindsIn, Rebinds}
-use Rattle.clause_parts.proofs.Cleared.{below-descends, cut-numbers, cut_fits, cut_holds}
-use Rattle.with_walk.proofs.Seeing.{above, seen_as_lem}
+use Rattle.visible.specs.Visible.{seens, Descends, seen_once}
+use Rattle.visible.specs.Stack.{entries, Sound}
+use Rattle.visible.specs.Stack as stack
+use Rattle.steps.specs.Memory.{world_at}
+use Rattle.steps.specs.Said.{kept}
+use Rattle.steps.specs.Hold.{Binding, Fits, Fit, Holds, Still, Steps, Ready, Left, on_names}
+use Rattle.steps.specs.declared.Walk.{Walk}
+use Rattle.steps.specs.declared.context.Context.{Context}
+use Rattle.steps.proofs.Held.{seen-idle, log-idle, still-then, seens-lower, lower, refit, then-steps}
+use Rattle.projection_walk.specs.Pairs.{pairs_in, pairs_of, kept_of}
+use Rattle.projection_walk.specs.declared.pairs.Pairs.{Pairs}
+use Rattle.with_walk.specs.Binds.{rooted_on, under_star, first_seen, firsts, seen_by, Sees, SeesAll, SeesIn, Spreads, Countable, BindsIn, Rebinds}
+use Rattle.clause_parts.proofs.Cleared.{below-descends, cut_still, cut_fits, cut_holds, cut_at}
+use Rattle.with_walk.proofs.Seeing.{above, seen_as_lem, seen-still, seen-fits, seen-holds}
 
 or_parts : (a b : Bool) → (a || b) ≡ false → (a ≡ false) × (b ≡ false)
 or_parts true b e = (e, cc e)
@@ -95,11 +99,10 @@ open-alike false a b c d l r e q = q
 abbrev quiet : List Seen → ℕ → ℕ → State → State
 quiet vis a b y = standing vis (suc (suc y.last)) (enter root_scope b b (enter with_barrier a b y))
 
-rooted-quiet : (wants : Bool) (id : ℕ → ℕ) (ws tab : List ℕ) (a b : ℕ) (below : List Seen) (ps : List Pair) (y : State) → let r = suc (suc y.last) in
-    Beside wants (length ps) (firsts r ps below) (above r ps below) (quiet (above r ps below) a b y) (rooted_on below id ws tab a b ps y)
+rooted-quiet : (wants : Bool) (w : World) (a b : ℕ) (below : List Seen) (ps : List Pair) (y : State) → let r = suc (suc y.last) in
+    Beside wants (length ps) (firsts r ps below) (above r ps below) (quiet (above r ps below) a b y) (rooted_on below w a b ps y)
 unfolding barrier made carried_in
-rooted-quiet wants id ws tab a b below ps y =
-    let w = world_at ws tab id in
+rooted-quiet wants w a b below ps y =
     let t = carry_all w ps (enter with_barrier a b y) in
     let c = carry-beside wants w ps (enter with_barrier a b y) in
     let z = bind-beside wants w ps (enter root_scope b b (standing below t.cur t)) in
@@ -196,78 +199,40 @@ star_count true l = length (once l)
 star_count false l = 0
 
 -- all that a WITH has taken
-all_quiet : (wants star : Bool) (id : ℕ → ℕ) (ws tab : List ℕ) (a b : ℕ) (below : List Seen) (ps : List Pair) (y : State) → let r = suc (suc y.last) in let l = seen_under star r below in
-    Beside wants (star_count star below + length ps) (star_count star below + firsts r ps l) (above r ps l) (quiet (above r ps l) a b y) (rooted_on (under_star star below) id ws tab a b (all_of (record { star = star; pairs = ps }) below) y)
-all_quiet wants true id ws tab a b below ps y =
+all_quiet : (wants star : Bool) (w : World) (a b : ℕ) (below : List Seen) (ps : List Pair) (y : State) → let r = suc (suc y.last) in let l = seen_under star r below in
+    Beside wants (star_count star below + length ps) (star_count star below + firsts r ps l) (above r ps l) (quiet (above r ps l) a b y) (rooted_on (under_star star below) w a b (all_of (record { star = star; pairs = ps }) below) y)
+all_quiet wants true w a b below ps y =
     let r = suc (suc y.last) in
-    let z = rooted-quiet wants id ws tab a b [] (reverse (once below) ++ ps) y in
+    let z = rooted-quiet wants w a b [] (reverse (once below) ++ ps) y in
     let n : length (reverse (once below) ++ ps) ≡ length (once below) + length ps = length-append (reverse (once below)) ps ∙ omega (arith, length-reverse (once below) []) in
     rw (← (spread-seen r (once below) ps), ← (spread-first r (once below) ps (distinct-once below)), ← n) z
-all_quiet wants false id ws tab a b below ps y =
-    let z = rooted-quiet wants id ws tab a b below ps y in
+all_quiet wants false w a b below ps y =
+    let z = rooted-quiet wants w a b below ps y in
     record { visible = z.visible; cur = z.cur; last = z.last; log = z.log; made = omega (arith, z.made); taken = omega (arith, z.taken) }
 
 beside-as : {wants : Bool} {c c' b b' : ℕ} {vis : List Seen} {s s' t : State} → c ≡ c' → b ≡ b' → s ≡ s' → Beside wants c b vis s t → Beside wants c' b' vis s' t
 beside-as p q e z = rw (← p, ← q, ← e) z
 
 -- ---- the counts
--- n is m with b bindings and c carried names more
-record Counts (m n : List ℕ) (b c : ℕ) : Type 0 where
-  size : length n ≡ length m
-  number : (j : ℕ) → j < 8 → get_or n j 0 ≡ get_or m j 0
-  made : made_of n ≡ made_of m + b
-  taken : taken_of n ≡ taken_of m + c
-  levels : (d : ℕ) → level_of n d ≡ level_of m d
+module _ {w : Walk} (b k : ℕ) where
+  counts-still : Still w (record w { taken = w.taken + k; made = w.made + b })
+  counts-still = record { visible = seen-idle; log = log-idle }
 
-counted : (m : List ℕ) (b c : ℕ) → length m ≡ 64 → Counts m (set (set m 9 (taken_of m + c)) 8 (made_of m + b)) b c
-counted m b c z =
-    let n = set m 9 (taken_of m + c) in
-    let s = length-set m 9 (taken_of m + c) in
-    let one : (j : ℕ) → (j ≡ 9 → ⊥) → get_or (set m 9 (taken_of m + c)) j 0 ≡ get_or m j 0 = λ j h. get_or-set_other m 9 j (taken_of m + c) 0 h in
-    let two : (j : ℕ) → (j ≡ 8 → ⊥) → get_or (set (set m 9 (taken_of m + c)) 8 (made_of m + b)) j 0 ≡ get_or (set m 9 (taken_of m + c)) j 0 = λ j h. get_or-set_other (set m 9 (taken_of m + c)) 8 j (made_of m + b) 0 h in
-    record {
-      size = length-set (set m 9 (taken_of m + c)) 8 (made_of m + b) ∙ s;
-      number = λ j h. two j (λ e. omega arith) ∙ one j (λ e. omega arith);
-      made = get_or-set_same (set m 9 (taken_of m + c)) 8 (made_of m + b) 0 (omega (arith, s));
-      taken = two 9 (λ e. omega arith) ∙ get_or-set_same m 9 (taken_of m + c) 0 (omega arith);
-      levels = λ d. two (10 + d) (λ e. omega arith) ∙ one (10 + d) (λ e. omega arith);
-    }
-
-module _ {m n : List ℕ} {b c : ℕ} (q : Counts m n b c) where
   -- words pay for them
-  counts-fit : {i k : ℕ} {ws tab vis found : List ℕ} → made_of m + b + (taken_of m + c) + k * 16384 ≤ at_of m * 16384 → Fits i k ws tab m vis found → Fits i k ws tab n vis found
-  counts-fit h f =
-      let at = q.number 0 (omega arith) in
-      let top = q.number 1 (omega arith) in
-      let cur = q.number 2 (omega arith) in
-      let last = q.number 3 (omega arith) in
-      let said = q.number 4 (omega arith) in
-      let told = q.number 5 (omega arith) in
-      record {
-        size = q.size ∙ f.size;
-        tabled = rw top f.tabled;
-        descends = rw (cur, top) f.descends;
-        cur = rw (cur, last) f.cur;
-        last = rw (last, at) f.last;
-        count = rw (said, told, at) f.count;
-        stack = rw (top, at) f.stack;
-        needs = rw (q.made, q.taken, at) h;
-        within = rw at f.within;
-        names = f.names;
-        room = f.room;
-      }
+  counts-fit : {c : Context} {i t : ℕ} → w.made + b + (w.taken + k) + t * 16384 ≤ w.at * 16384 → Fits i t c w → Fits i t c (record w { taken = w.taken + k; made = w.made + b })
+  counts-fit h f = refit f counts-still f.sound f.descends f.cur f.last f.count f.stack h f.within
 
   -- and the state that it counts is held
-  counts-hold : {id : ℕ → ℕ} {tab vis found : List ℕ} {s : Both} {t : State} {seens' : List Seen} → Beside (wants_in tab) c b seens' s.names t → seens' ≡ s.names.visible → Holds id tab m vis found s → Holds id tab n vis found (record { names = t; kinds = s.kinds; known = s.known })
+  counts-hold : {id : ℕ → ℕ} {c : Context} {s : Both} {t : State} {l : List Seen} → Beside c.wants k b l s.names t → l ≡ s.names.visible → Holds id c w s → Holds id c (record w { taken = w.taken + k; made = w.made + b }) (record { names = t; kinds = s.kinds; known = s.known })
   counts-hold z e h =
       record {
-        visible = rw (q.number 1 (omega arith)) (h.visible ∙ sym (z.visible ∙ e));
-        cur = q.number 2 (omega arith) ∙ h.cur ∙ sym z.cur;
-        last = q.number 3 (omega arith) ∙ h.last ∙ sym z.last;
-        log = rw (q.number 4 (omega arith)) (h.log ∙ sym z.log);
-        kinds = rw (q.number 5 (omega arith)) h.kinds;
-        known = rw (q.number 6 (omega arith)) h.known;
-        counts = record { made = omega (arith, q.made, h.counts.made, z.made); taken = omega (arith, q.taken, h.counts.taken, z.taken) };
+        visible = h.visible ∙ sym (z.visible ∙ e);
+        cur = h.cur ∙ sym z.cur;
+        last = h.last ∙ sym z.last;
+        log = h.log ∙ sym z.log;
+        kinds = h.kinds;
+        known = h.known;
+        counts = record { made = omega (arith, h.counts.made, z.made); taken = omega (arith, h.counts.taken, z.taken) };
         uses = h.uses;
       }
 
@@ -287,60 +252,46 @@ unfolding seen_once Descends
 once-descends c [] = tt
 once-descends c (pair x v ∷ ps) = (omega arith, once-descends c ps)
 
-record Settled (star : Bool) (tab m vis n vis' : List ℕ) (k : ℕ) : Type 0 where
-  numbers : Numbers m n (at_of m) (top_of n) (cur_of m) (last_of m) (said_of m) (told_of m) (lost_of m) (held_of m)
-  low : top_of n ≤ top_of m
-  kept : length vis' ≡ length vis
-  tabled : Tabled (slots_in tab) (top_of n) vis'
-  same : seens (slots_in tab) (top_of n) vis' ≡ seen_under star (cur_of m) (seens (slots_in tab) (top_of m) vis)
-  descends : Descends (cur_of m) (seens (slots_in tab) (top_of n) vis')
-  count : k ≡ star_count star (seens (slots_in tab) (top_of m) vis)
-  few : k ≤ top_of m
+record Settled (star : Bool) (w w' : Walk) (k : ℕ) : Type 0 where
+  same : w' ≡ record w { visible = w'.visible }
+  still : stack.Still w.visible w'.visible
+  low : w'.visible.top ≤ w.visible.top
+  sound : Sound w'.visible
+  seen : entries w'.visible ≡ seen_under star w.cur (entries w.visible)
+  descends : Descends w.cur (entries w'.visible)
+  count : k ≡ star_count star (entries w.visible)
+  few : k ≤ w.visible.top
 
-settled : {tab m vis n vis' : List ℕ} {k : ℕ} → Binding tab m vis → Spreads tab m vis n vis' k → Settled (eqb (star_of m) 1) tab m vis n vis' k
-settled {tab} {m} {vis} {n} {vis'} {k} b z = go (eqb (star_of m) 1) refl
-  where
-    go : (s : Bool) → eqb (star_of m) 1 ≡ s → Settled s tab m vis n vis' k
-    go true e =
-        let p = z.yes (eqb-true (star_of m) 1 e) in
-        let r = p.1 in
-        let q : Numbers m n (at_of m) k (cur_of m) (last_of m) (said_of m) (told_of m) (lost_of m) (held_of m) = rw p.0 (store 1 k (omega arith) b.size (unset {m = m})) in
-        let t = q.top in
-        let i = length-seens (slots_in tab) k vis' in
-        let j = ap length r.same in
-        let l = length-once (cur_of m) (once (seens (slots_in tab) (top_of m) vis)) in
-        record {
-          numbers = record { size = q.size; at = q.at; top = refl; cur = q.cur; last = q.last; said = q.said; told = q.told; lost = q.lost; held = q.held; made = q.made; taken = q.taken; levels = q.levels };
-          low = omega (arith, t, r.few);
-          kept = r.kept;
-          tabled = rw t r.tabled;
-          same = rw t r.same;
-          descends = rw (t, r.same) (once-descends (cur_of m) (once (seens (slots_in tab) (top_of m) vis)));
-          count = omega arith;
-          few = r.few;
-        }
-    go false e =
-        let p = z.no (eqb-false (star_of m) 1 e) in
-        rw (p.0, p.1.0, p.1.1)
-        (record { numbers = unset; low = omega arith; kept = refl; tabled = b.tabled; same = refl; descends = b.descends; count = refl; few = omega arith })
+settled : {star : Bool} {w w' : Walk} {k : ℕ} → Binding w → Spreads star w w' k → Settled star w w' k
+settled {star = true} {w} {w'} {k} b z =
+    let p = z.yes refl in
+    let r = p.1 in
+    let i = length-seens w'.visible.names w'.visible.top w'.visible.words.now in
+    let j = ap length r.same in
+    let l = length-once w.cur (once (entries w.visible)) in
+    record {
+      same = z.same;
+      still = r.still;
+      low = r.few;
+      sound = r.sound;
+      seen = r.same;
+      descends = rw r.same (once-descends w.cur (once (entries w.visible)));
+      count = omega (arith, p.0, i, j, l);
+      few = omega (arith, p.0, r.few);
+    }
+settled {star = false} b z =
+    let p = z.no refl in
+    rw (p.0, p.1) (record { same = refl; still = seen-idle; low = omega arith; sound = b.sound; seen = refl; descends = b.descends; count = refl; few = omega arith })
 
-module _ {star : Bool} {tab m vis n vis' : List ℕ} {k : ℕ} (z : Settled star tab m vis n vis' k) where
-  settled-fits : {e t : ℕ} {ws found : List ℕ} → Fits e t ws tab m vis found → Fits e t ws tab n vis' found
-  settled-fits f = refit f z.numbers z.kept refl z.tabled z.descends f.cur f.last f.count (omega (arith, f.stack, z.low)) (omega arith)
+module _ {star : Bool} {w w' : Walk} {k : ℕ} (z : Settled star w w' k) where
+  settled-still : Still w w'
+  settled-still = rw z.same (seen-still z.still)
 
-  settled-holds : {id : ℕ → ℕ} {found : List ℕ} {s : Both} → Holds id tab m vis found s → Holds id tab n vis' found (on_names (standing (seen_under star (cur_of m) (seens (slots_in tab) (top_of m) vis)) (cur_of m)) s)
-  settled-holds h =
-      let q = z.numbers in
-      record {
-        visible = z.same;
-        cur = q.cur;
-        last = q.last ∙ h.last;
-        log = rw q.said h.log;
-        kinds = rw q.told h.kinds;
-        known = rw q.lost h.known;
-        counts = recounted q h.counts;
-        uses = h.uses;
-      }
+  settled-fits : {c : Context} {e t : ℕ} → Fits e t c w → Fits e t c w'
+  settled-fits f = rw z.same (seen-fits z.still f z.sound z.descends (omega (arith, f.stack, z.low, z.still.names)))
+
+  settled-holds : {id : ℕ → ℕ} {c : Context} {s : Both} → Holds id c w s → Holds id c w' (on_names (standing (seen_under star w.cur (entries w.visible)) w.cur) s)
+  settled-holds h = rw z.same (seen-holds z.seen h)
 
 -- ---- the barrier, the new Root, and what is bound in it
 length_pairs : (n : ℕ) (held : List ℕ) → length (pairs_in n held) ≡ n
@@ -348,164 +299,147 @@ unfolding pairs_in
 length_pairs zero held = refl
 length_pairs (suc n) held = length-append (pairs_in n held) _ ∙ omega (arith, length_pairs n held)
 
-module _ (held : List ℕ) {ws tab m vis found m1 found1 : List ℕ} {a b : ℕ} (ready : Ready (2 + kept_of m) ws tab m vis found) (x : Steps 1 ws tab m vis found m1 vis found1 (λ id. on_names (enter 7 a b))) where
-  pub root-asks : Ready 1 ws tab m1 vis found1
+module _ (p : Pairs) {c : Context} {w w1 : Walk} {a b : ℕ} (ready : Ready (2 + kept_of p) c w) (x : Steps 1 c w w1 (λ id. on_names (enter 7 a b))) where
+  pub root-asks : Ready 1 c w1
   root-asks = record { fine = ready.fine; fit = x.fit 1 1 (lower (omega arith) (omega arith) ready.fit) }
 
-  module _ {m2 found2 : List ℕ} (y : Steps 1 ws tab m1 vis found1 m2 vis found2 (λ id. on_names (enter 1 b b))) where
-    rooted : (k : ℕ) → Fit (2 + k) ws tab m vis found → Fit k ws tab m2 vis found2
-    rooted k f = y.fit k k (x.fit (1 + k) (1 + k) (lower (omega arith) (omega arith) f))
+  module _ {w2 : Walk} (y : Steps 1 c w1 w2 (λ id. on_names (enter 1 b b))) where
+    opened : Steps 2 c w w2 (λ id s. on_names (enter 1 b b) (on_names (enter 7 a b) s))
+    opened = then-steps x y
 
-    pub root-ready : Fit (kept_of m) ws tab m2 vis found2
-    root-ready = rooted (kept_of m) ready.fit
+    rooted : (k : ℕ) → Fit (2 + k) c w → Fit k c w2
+    rooted k f = opened.fit k k f
 
-    same-held : held_of m2 ≡ held_of m
-    same-held = y.frame.held ∙ x.frame.held
+    root-fit : Fit (kept_of p) c w2
+    root-fit = rooted (kept_of p) ready.fit
 
-    same-star : star_of m2 ≡ star_of m
-    same-star = y.frame.levels 49 (omega arith) ∙ x.frame.levels 49 (omega arith)
+    module _ {top : ℕ} (given : BindsIn top w p) where
+      still-low : top ≤ w2.visible.top
+      still-low = omega (arith, given.low, opened.frame.top)
 
-    same_at : at_of m2 ≡ at_of m
-    same_at = y.at ∙ x.at
+      -- the first ones are those before
+      first-same : first_seen top w2 ≡ first_seen top w
+      first-same = rw opened.still.visible.names (seens-lower w.visible.names top w.visible.top w2.visible.words.now w.visible.words.now given.low opened.frame.below)
 
-    module _ {top : ℕ} (given : BindsIn top tab m held) where
-      still-low : top ≤ top_of m2
-      still-low = omega (arith, given.low, x.frame.top, y.frame.top)
+      pub leave-asks : (top ≤ w2.visible.top) × Sound w2.visible
+      leave-asks = (still-low, root-fit.sound)
 
-      pub leave-asks : (10 ≤ length tab) × ((length m2 ≡ 64) × ((top ≤ top_of m2) × Tabled (slots_in tab) (top_of m2) vis))
-      leave-asks = let g = ready.fine.long in (omega arith, (root-ready.size, (still-low, root-ready.tabled)))
+      module _ {w3 : Walk} (l : Left w2 w3 top w2.cur) where
+        cut : {e t : ℕ} → Fits e t c w2 → Fits e t c w3
+        cut g = cut_fits l g still-low (below-descends w2.visible.names top w2.visible.top w2.cur w2.visible.words.now still-low g.descends) g.cur
 
-      module _ {m3 vis3 : List ℕ} (l : Left tab m2 vis m3 vis3 top (cur_of m2)) where
-        q3 : Numbers m2 m3 (at_of m2) top (cur_of m2) (last_of m2) (said_of m2) (told_of m2) (lost_of m2) (held_of m2)
-        q3 = cut-numbers root-ready.size l
+        pub spread-asks : Binding w3
+        spread-asks = let f = cut root-fit in record { sound = f.sound; descends = f.descends }
 
-        cut : {e t : ℕ} → Fits e t ws tab m2 vis found2 → Fits e t ws tab m3 vis3 found2
-        cut g = cut_fits g l still-low (below-descends (slots_in tab) top (top_of m2) (cur_of m2) vis still-low g.descends) g.cur
+        seen3 : entries w3.visible ≡ first_seen top w
+        seen3 = l.visible.same ∙ first-same
 
-        pub spread-asks : Binding tab m3 vis3
-        spread-asks = let f = cut root-ready in let g = ready.fine.long in record { long = omega arith; size = f.size; tabled = f.tabled; descends = f.descends }
+        cur3 : w3.cur ≡ w2.cur
+        cur3 = ap (λ (v : Walk). v.cur) l.same
 
-        star-here : star_of m3 ≡ star_of m
-        star-here = q3.levels 49 ∙ same-star
-
-        seen_here : seens (slots_in tab) (top_of m3) vis3 ≡ seens (slots_in tab) top vis
-        seen_here = rw q3.top l.below
-
-        module _ {m4 vis4 : List ℕ} {k : ℕ} (z : Spreads tab m3 vis3 m4 vis4 k) where
-          s4 : Settled (eqb (star_of m3) 1) tab m3 vis3 m4 vis4 k
+        module _ {w4 : Walk} {k : ℕ} (z : Spreads p.star w3 w4 k) where
+          s4 : Settled p.star w3 w4 k
           s4 = settled spread-asks z
 
-          fit4 : {e t : ℕ} → Fits e t ws tab m2 vis found2 → Fits e t ws tab m4 vis4 found2
+          fit4 : {e t : ℕ} → Fits e t c w2 → Fits e t c w4
           fit4 g = settled-fits s4 (cut g)
 
-          held4 : held_of m4 ≡ held_of m
-          held4 = s4.numbers.held ∙ q3.held ∙ same-held
+          still4 : Still w w4
+          still4 = still-then opened.still (still-then (cut_still l) (settled-still s4))
 
-          at4 : at_of m4 ≡ at_of m
-          at4 = s4.numbers.at ∙ q3.at ∙ same_at
+          at4 : w4.at ≡ w.at
+          at4 = ap (λ (v : Walk). v.at) s4.same ∙ cut_at l ∙ opened.at
 
-          top4 : top_of m4 ≤ top
-          top4 = omega (arith, s4.low, q3.top)
+          cur4 : w4.cur ≡ w3.cur
+          cur4 = ap (λ (v : Walk). v.cur) s4.same
+
+          top4 : w4.visible.top ≤ top
+          top4 = omega (arith, s4.low, l.visible.back)
 
           few4 : k ≤ top
-          few4 = omega (arith, s4.few, q3.top)
+          few4 = omega (arith, s4.few, l.visible.back)
 
-          pub pairs-ask : SeesIn tab m4 vis4 held
+          pub pairs-ask : SeesIn w4 p
           pairs-ask =
-              let e = held4 in
-              let d = at4 in
-              let t = top4 in
-              let f = fit4 root-ready in
-              let o = ready.fine.long in
+              let f = fit4 root-fit in
               let i = ready.fine.short in
-              let w = f.within in
-              let v = f.names in
+              let t = top4 in
+              let d = at4 in
+              let n = still4.visible.names in
               let r = given.room in
-              let h = given.wide in
-              record { binding = record { long = omega arith; size = f.size; tabled = f.tabled; descends = f.descends }; wide = omega arith; named = rw e given.named; few = omega arith; room = omega arith }
+              let v = f.within in
+              let o = f.names in
+              record { binding = record { sound = f.sound; descends = f.descends }; wide = given.wide; named = rw n given.named; few = omega arith; room = omega arith }
 
-          module _ {m5 vis5 : List ℕ} {r : ℕ} (u : Sees (held_of m4) tab m4 vis4 held m5 vis5 r) where
-            seen5 : SeesAll (held_of m4) ws tab m4 vis4 found2 held m5 vis5
-            seen5 = u.all ws found2
+          module _ {w5 : Walk} {r : ℕ} (u : Sees p w4 w5 r) where
+            seen5 : SeesAll p.count p c w4 w5
+            seen5 = u.all c
 
-            held5 : held_of m5 ≡ held_of m
-            held5 = seen5.pairs ∙ held4
+            made5 : w5.made ≡ w4.made
+            made5 = ap (λ (v : Walk). v.made) u.same
 
-            fit5 : (k : ℕ) → Fit (2 + k + kept_of m) ws tab m vis found → slots_in tab + (top + held_of m) + k ≤ at_of m → Fits k k ws tab m5 vis5 found2
-            fit5 k f h = seen5.fit k k (fit4 (lower (omega arith) (omega arith) (rooted (k + kept_of m) (lower (omega arith) (omega arith) f)))) (omega (arith, held4, at4, top4))
+            taken5 : w5.taken ≡ w4.taken
+            taken5 = ap (λ (v : Walk). v.taken) u.same
 
-            size5 : length m5 ≡ 64
-            size5 = seen5.sized ∙ (fit4 root-ready).size
+            at5 : w5.at ≡ w4.at
+            at5 = ap (λ (v : Walk). v.at) u.same
 
-            star-pays : k ≤ star_of m * 2048
-            star-pays = go (eqb (star_of m3) 1) refl s4.count
+            fit5 : (k : ℕ) → Fit (2 + k + kept_of p) c w → w.visible.names + (top + p.count) + k ≤ w.at → Fits k k c w5
+            fit5 k f h = seen5.fit k k (fit4 (lower (omega arith) (omega arith) (rooted (k + kept_of p) (lower (omega arith) (omega arith) f)))) (omega (arith, at4, top4, still4.visible.names))
+
+            star-pays : k ≤ cond {A = ℕ} p.star 1 0 * 2048
+            star-pays = go p.star s4.count
               where
-                go : (t : Bool) → eqb (star_of m3) 1 ≡ t → k ≡ star_count t (seens (slots_in tab) (top_of m3) vis3) → k ≤ star_of m * 2048
-                go true e c = omega (arith, eqb-true (star_of m3) 1 e, star-here, few4, given.room, ready.fit.within, ready.fine.short)
-                go false e c = omega (arith, c)
+                go : (t : Bool) → k ≡ star_count t (entries w3.visible) → k ≤ cond {A = ℕ} t 1 0 * 2048
+                go true e = omega (arith, few4, given.room, ready.fit.within, ready.fine.short)
+                go false e = omega (arith, e)
 
-            pub count-asks : (length m5 ≡ 64) × ((taken_of m5 + (k + held_of m5) < 4294967296) × (made_of m5 + (k + r) < 4294967296))
+            pub count-asks : Countable p.count k r w5
             count-asks =
-                let f = fit4 root-ready in
+                let f = fit4 root-fit in
                 let n = f.needs in
-                let w = f.within in
+                let v = f.within in
                 let i = ready.fine.short in
-                let a = seen5.made in
-                let c = seen5.taken in
                 let d = given.room in
-                let p = at4 in
+                let q = at4 in
                 let o = few4 in
-                let v = held5 in
                 let z = u.few in
-                let j = held4 in
-                (size5, (omega arith, omega arith))
+                let m = made5 in
+                let t = taken5 in
+                record { taken = omega arith; made = omega arith }
 
-            needs5 : (i : ℕ) → Fit (2 + i + kept_of m) ws tab m vis found → made_of m5 + (k + r) + (taken_of m5 + (k + held_of m5)) + i * 16384 ≤ at_of m5 * 16384
+            needs5 : (i : ℕ) → Fit (2 + i + kept_of p) c w → w5.made + (k + r) + (w5.taken + (k + p.count)) + i * 16384 ≤ w5.at * 16384
             needs5 i f =
-                let g = (fit4 (rooted (i + kept_of m) (lower (omega arith) (omega arith) f))).needs in
-                let a = seen5.made in
-                let c = seen5.taken in
-                let d = given.room in
-                let w = ready.fit.within in
-                let j = ready.fine.short in
-                let p = seen5.at in
+                let g = (fit4 (rooted (i + kept_of p) (lower (omega arith) (omega arith) f))).needs in
                 let o = star-pays in
-                let v = held5 in
                 let z = u.few in
-                let t = held4 in
+                let m = made5 in
+                let t = taken5 in
+                let q = at5 in
                 omega arith
 
-            quiet_is : (ps : List Pair) (L B : List Seen) (c d : ℕ) (y : State) → c ≡ suc (suc y.last) → seen_by ps (standing L c (standing B d (enter 1 b b (enter 7 a b y)))) ≡ quiet (above (suc (suc y.last)) ps L) a b y
-            quiet_is ps L B c d y e = seen_as_lem ps _ ∙ rw e
+            quiet_is : (ps : List Pair) (L B : List Seen) (m d : ℕ) (s : State) → m ≡ suc (suc s.last) → seen_by ps (standing L m (standing B d (enter 1 b b (enter 7 a b s)))) ≡ quiet (above (suc (suc s.last)) ps L) a b s
+            quiet_is ps L B m d s e = seen_as_lem ps _ ∙ rw e
 
-            pub rebinds : Rebinds ws tab m vis found held (set (set m5 9 (taken_of m5 + (k + held_of m5))) 8 (made_of m5 + (k + r))) vis5 found2 a b top
+            pub rebinds : Rebinds c p w (record w5 { taken = w5.taken + (k + p.count); made = w5.made + (k + r) }) a b top
             rebinds =
-                let q = counted m5 (k + r) (k + held_of m5) size5 in
+                let ps = pairs_of p in
+                let below = first_seen top w in
                 record {
-                  at = q.number 0 (omega arith) ∙ seen5.at ∙ at4;
-                  sized = q.size ∙ seen5.sized ∙ s4.numbers.size ∙ q3.size ∙ y.sized ∙ x.sized;
-                  seen = seen5.seen ∙ s4.kept ∙ l.kept;
-                  wrote = y.wrote ∙ x.wrote;
-                  pairs = q.number 7 (omega arith) ∙ held5;
-                  star = q.levels 49 ∙ seen5.star ∙ s4.numbers.levels 49 ∙ star-here;
-                  fit = λ i f h. counts-fit q (needs5 i f) (fit5 i f h);
+                  at = at5 ∙ at4;
+                  still = still-then still4 (still-then u.still (counts-still (k + r) (k + p.count)));
+                  fit = λ i f h. counts-fit (k + r) (k + p.count) (needs5 i f) (fit5 i f h);
                   goes = λ id s h.
-                      let e1 = y.goes id _ (x.goes id s h) in
-                      let e4 = settled-holds s4 (cut_holds root-ready.size l e1) in
-                      let e5 = seen5.goes id _ e4 in
-                      let star = eqb (star_of m) 1 in
-                      let c : cur_of m3 ≡ suc (suc s.names.last) = q3.cur ∙ e1.cur in
-                      let ps = pairs_in (held_of m) held in
-                      let below = seens (slots_in tab) top vis in
-                      let same : seens (slots_in tab) (top_of m4) vis4 ≡ seen_under (eqb (star_of m) 1) (suc (suc s.names.last)) (seens (slots_in tab) top vis) = rw (star-here, seen_here, c) at s4.same in
-                      let many : k ≡ star_count (eqb (star_of m) 1) (seens (slots_in tab) top vis) = rw (star-here, seen_here) at s4.count in
-                      let first : r ≡ firsts (suc (suc s.names.last)) (pairs_in (held_of m) held) (seen_under (eqb (star_of m) 1) (suc (suc s.names.last)) (seens (slots_in tab) top vis)) = rw (s4.numbers.cur, c, held4, same) at u.first in
-                      let z = all_quiet (wants_in tab) (eqb (star_of m) 1) id ws tab a b (seens (slots_in tab) top vis) (pairs_in (held_of m) held) s.names in
-                      let ends : seen_by (pairs_in (held_of m4) held) (standing (seen_under (eqb (star_of m3) 1) (cur_of m3) (seens (slots_in tab) (top_of m3) vis3)) (cur_of m3) (standing (seens (slots_in tab) top vis) (cur_of m2) (enter 1 b b (enter 7 a b s.names)))) ≡ quiet (above (suc (suc s.names.last)) (pairs_in (held_of m) held) (seen_under (eqb (star_of m) 1) (suc (suc s.names.last)) (seens (slots_in tab) top vis))) a b s.names =
-                      rw (held4, star-here, seen_here) (quiet_is (pairs_in (held_of m) held) (seen_under (eqb (star_of m) 1) (cur_of m3) (seens (slots_in tab) top vis)) (seens (slots_in tab) top vis) (cur_of m3) (cur_of m2) s.names c
-                      ∙ ap (λ (n : ℕ). quiet (above (suc (suc s.names.last)) (pairs_in (held_of m) held) (seen_under (eqb (star_of m) 1) n (seens (slots_in tab) top vis))) a b s.names) c) in
-                      counts-hold q (beside-as (omega (arith, many, length_pairs (held_of m) held, held5)) (omega (arith, many, first)) (sym ends) z) (ap (λ (t : State). t.visible) (sym ends)) e5;
+                      let e2 = opened.goes id s h in
+                      let e5 = seen5.goes id _ (settled-holds s4 (cut_holds l e2)) in
+                      let last = suc (suc s.names.last) in
+                      let m : w3.cur ≡ suc (suc s.names.last) = cur3 ∙ e2.cur in
+                      let same : entries w4.visible ≡ seen_under p.star (suc (suc s.names.last)) (first_seen top w) = rw (seen3, m) at s4.seen in
+                      let many : k ≡ star_count p.star (first_seen top w) = rw seen3 at s4.count in
+                      let first : r ≡ firsts (suc (suc s.names.last)) (pairs_of p) (seen_under p.star (suc (suc s.names.last)) (first_seen top w)) = rw (cur4, m, same) at u.first in
+                      let z = all_quiet c.wants p.star (world_at c id) a b (first_seen top w) (pairs_of p) s.names in
+                      let ends : seen_by (pairs_of p) (standing (seen_under p.star w3.cur (entries w3.visible)) w3.cur (standing (first_seen top w2) w2.cur (enter 1 b b (enter 7 a b s.names)))) ≡ quiet (above (suc (suc s.names.last)) (pairs_of p) (seen_under p.star (suc (suc s.names.last)) (first_seen top w))) a b s.names =
+                      rw seen3 (quiet_is (pairs_of p) (seen_under p.star w3.cur (first_seen top w)) (first_seen top w2) w3.cur w2.cur s.names m
+                      ∙ ap (λ (n : ℕ). quiet (above (suc (suc s.names.last)) (pairs_of p) (seen_under p.star n (first_seen top w))) a b s.names) m) in
+                      counts-hold (k + r) (k + p.count) (beside-as (omega (arith, many, length_pairs p.count p.words.now)) (omega (arith, many, first)) (sym ends) z) (ap (λ (t : State). t.visible) (sym ends)) e5;
                 }
-
-pub counted-as : {ws tab m vis found held m' vis' found' n : List ℕ} {a b top : ℕ} → n ≡ m' → Rebinds ws tab m vis found held m' vis' found' a b top → Rebinds ws tab m vis found held n vis' found' a b top
-counted-as e z = rw e z

@@ -1,14 +1,15 @@
--- What sort keys see, and what is seen after them. The pairs are seen in a scope, without an event: the first i of them are (`Seeing`:
--- `none_seen`, `one_seen`, `all_seen`; what a turn asks: `first-asks`, `see-asks`). A new Root above what was visible is the fresh one with that below
--- (`rooted-beside`), and after the keys the pairs that are seen again are what is visible in it (`seen-again`).
+-- What sort keys see, and what is seen after them. Where nothing changes but what is visible, the walk fits and holds that (`seen-still`,
+-- `seen-fits`, `seen-holds`). The pairs are seen in a scope, without an event: the first i of them are (`Seeing`: `none_seen`, `one_seen`,
+-- `all_seen`). A new Root above what was visible is the fresh one with that below (`rooted-beside`), and after the keys the pairs that are seen
+-- again are what is visible in it (`seen-again`).
 use Prim.Native.Nat.{ℕ, suc, ◌+◌, ◌*◌, ◌<◌, ◌≤◌}
 use native.Mathlib.Omega.{arith}
 use native.Mathlib.Numerals.{add-one}
-use mathlib.Core.Path.{◌≡◌, refl, ap, sym, ◌∙◌}
+use mathlib.Core.Path.{◌≡◌, refl, ap, sym, subst, ◌∙◌}
 use mathlib.Core.Bool.{Bool, true, false, cond, ◌&&◌, ◌||◌}
 use mathlib.Core.List.{List, [], ◌∷◌, ◌++◌}
 use lib.Dec.{eqb}
-use lib.ListN.{length, get_or, set}
+use lib.ListN.{get_or}
 use borrow.Author.Tests.{ne_eqb}
 use Rattle.scope.specs.Graph.{root_scope, with_barrier}
 use Rattle.semantics.specs.Log.{bound, bind}
@@ -16,12 +17,38 @@ use Rattle.semantics.specs.World.{World, kind_of}
 use Rattle.semantics.specs.Resolve.{Seen, seen, binds, State, Pair, pair, say, enter, standing, bind_all, carry_all, barrier, fresh}
 use Rattle.fused.specs.Fused.{Both, Mode, left}
 use Rattle.fused.specs.Clauses.{beside}
-use Rattle.visible.specs.Visible.{seens, Descends, Tabled, Bound}
-use Rattle.steps.specs.Memory.{at_of, top_of, cur_of, last_of, said_of, told_of, lost_of, held_of, slots_in, world_at}
-use Rattle.steps.specs.Hold.{Binding, on_names}
-use Rattle.steps.proofs.Held.{Numbers, unset, store, recounted, refit}
-use Rattle.projection_walk.specs.Carries.{pairs_in}
-use Rattle.with_walk.specs.Binds.{rooted_on, seen_by, firsts, SeesAll, Sees}
+use Rattle.visible.specs.Visible.{Descends}
+use Rattle.visible.specs.Stack.{entries, Sound, Bound}
+use Rattle.visible.specs.Stack as stack
+use Rattle.visible.specs.declared.Visible.{Visible}
+use Rattle.steps.specs.Hold.{Binding, Fits, Holds, Still, on_names}
+use Rattle.steps.specs.declared.Walk.{Walk}
+use Rattle.steps.specs.declared.context.Context.{Context}
+use Rattle.steps.proofs.Held.{seen-idle, log-idle, recounted, refit}
+use Rattle.projection_walk.specs.Pairs.{pairs_in}
+use Rattle.projection_walk.specs.declared.pairs.Pairs.{Pairs}
+use Rattle.with_walk.specs.Binds.{rooted_on, seen_by, firsts, SeesAll, SeesFirst}
+
+-- ---- nothing changes but what is visible
+module _ {w : Walk} {v : Visible} (y : stack.Still w.visible v) where
+  pub seen-still : Still w (record w { visible = v })
+  seen-still = record { visible = y; log = log-idle }
+
+  pub seen-fits : {c : Context} {i k : ℕ} → Fits i k c w → Sound v → Descends w.cur (entries v) → v.names + v.top + k ≤ w.at + 1 → Fits i k c (record w { visible = v })
+  seen-fits f a d s = refit f seen-still a d f.cur f.last f.count s f.needs f.within
+
+pub seen-holds : {id : ℕ → ℕ} {c : Context} {w : Walk} {v : Visible} {l : List Seen} {s : Both} → entries v ≡ l → Holds id c w s → Holds id c (record w { visible = v }) (on_names (standing l w.cur) s)
+seen-holds e h =
+    record {
+      visible = e;
+      cur = refl;
+      last = h.last;
+      log = h.log;
+      kinds = h.kinds;
+      known = h.known;
+      counts = recounted refl refl h.counts;
+      uses = h.uses;
+    }
 
 -- ---- pairs seen in the scope c, above a list
 abbrev pub above : ℕ → List Pair → List Seen → List Seen
@@ -37,29 +64,22 @@ seen_as_lem [] s = refl
 seen_as_lem (pair x v ∷ ps) s = seen_as_lem ps (standing (seen x v s.cur ∷ s.visible) s.cur s)
 
 -- the first i pairs are seen
-pub record Seeing (i : ℕ) (tab m₀ vis₀ held m vis : List ℕ) (made : ℕ) : Type 0 where
-  pub numbers : Numbers m₀ m (at_of m₀) (top_of m) (cur_of m₀) (last_of m₀) (said_of m₀) (told_of m₀) (lost_of m₀) (held_of m₀)
-  pub top : top_of m ≡ top_of m₀ + i
-  pub kept : length vis ≡ length vis₀
-  pub tabled : Tabled (slots_in tab) (top_of m) vis
-  pub same : seens (slots_in tab) (top_of m) vis ≡ above (cur_of m₀) (pairs_in i held) (seens (slots_in tab) (top_of m₀) vis₀)
-  pub descends : Descends (cur_of m₀) (seens (slots_in tab) (top_of m) vis)
-  pub first : made ≡ firsts (cur_of m₀) (pairs_in i held) (seens (slots_in tab) (top_of m₀) vis₀)
+pub record Seeing (i : ℕ) (p : Pairs) (w₀ w : Walk) (made : ℕ) : Type 0 where
+  pub same : w ≡ record w₀ { visible = w.visible }
+  pub still : stack.Still w₀.visible w.visible
+  pub top : w.visible.top ≡ w₀.visible.top + i
+  pub sound : Sound w.visible
+  pub seen : entries w.visible ≡ above w₀.cur (pairs_in i p.words.now) (entries w₀.visible)
+  pub descends : Descends w₀.cur (entries w.visible)
+  pub first : made ≡ firsts w₀.cur (pairs_in i p.words.now) (entries w₀.visible)
   pub few : made ≤ i
 
-pub none_seen : {tab m vis : List ℕ} (held : List ℕ) → Binding tab m vis → Seeing 0 tab m vis held m vis 0
+pub none_seen : {w : Walk} (p : Pairs) → Binding w → Seeing 0 p w w 0
 unfolding pairs_in firsts
-none_seen held t = record { numbers = unset; top = omega arith; kept = refl; tabled = t.tabled; same = refl; descends = t.descends; first = refl; few = omega arith }
+none_seen p b = record { same = refl; still = seen-idle; top = omega arith; sound = b.sound; seen = refl; descends = b.descends; first = refl; few = omega arith }
 
-pub first-asks : {tab m₀ vis₀ held m vis : List ℕ} {i made : ℕ} → Binding tab m₀ vis₀ → Seeing i tab m₀ vis₀ held m vis made → Binding tab m vis
-first-asks b g = record { long = b.long; size = g.numbers.size ∙ b.size; tabled = g.tabled; descends = rw g.numbers.cur g.descends }
-
-pub see-asks : {tab m₀ vis₀ held m vis : List ℕ} {i n x made : ℕ} → Seeing i tab m₀ vis₀ held m vis made → i < n → top_of m₀ + n < 4294967296 → slots_in tab + (top_of m₀ + n) * 4 ≤ length vis₀ → x < slots_in tab →
-    (x < slots_in tab) × ((top_of m < 4294967295) × ((slots_in tab + (top_of m + 1) * 4 ≤ length vis) × Tabled (slots_in tab) (top_of m) vis))
-see-asks b l small room h =
-    let t = b.top in
-    let k = b.kept in
-    (h, (omega arith, (omega arith, b.tabled)))
+same-cur : {i : ℕ} {p : Pairs} {w₀ w : Walk} {made : ℕ} → Seeing i p w₀ w made → w.cur ≡ w₀.cur
+same-cur g = ap (λ (x : Walk). x.cur) g.same
 
 -- the pairs but the last, and the last above them
 firsts-one : (c : ℕ) (ps : List Pair) (x v : ℕ) (l : List Seen) → firsts c (ps ++ (pair x v ∷ [])) l ≡ firsts c ps l + cond (binds c x (above c ps l)) 0 1
@@ -71,55 +91,49 @@ one_at_most : (b : Bool) → cond b 0 1 ≤ 1
 one_at_most true = omega arith
 one_at_most false = omega arith
 
-pub one_seen : {tab m₀ vis₀ held m vis vis1 : List ℕ} {i j r made one : ℕ} → length m₀ ≡ 64 → j ≡ i * 2 → Seeing i tab m₀ vis₀ held m vis made → one ≡ cond (binds (cur_of m) (get_or held j 0) (seens (slots_in tab) (top_of m) vis)) 0 1 →
-    Bound (slots_in tab) (top_of m) (get_or held j 0) (get_or held (j + 1) 0) (cur_of m₀) vis vis1 r → Seeing (i + 1) tab m₀ vis₀ held (set m 1 r) vis1 (made + one)
+-- the next one
+next-seen : {i : ℕ} {p : Pairs} {w₀ : Walk} {v v1 : Visible} {made one x u : ℕ} → Seeing i p w₀ (record w₀ { visible = v }) made → x ≡ get_or p.words.now (i * 2) 0 → u ≡ get_or p.words.now (i * 2 + 1) 0 →
+    one ≡ cond (binds w₀.cur x (entries v)) 0 1 → Bound x u w₀.cur v v1 → Seeing (i + 1) p w₀ (record w₀ { visible = v1 }) (made + one)
 unfolding pairs_in Descends
-one_seen {tab} {m₀} {vis₀} {held} {m} {vis} {i = i} {r = r} {made} {one} size e b o p =
-    let p = rw e at p in
-    let o : one ≡ cond (binds (cur_of m₀) (get_or held (i * 2) 0) (above (cur_of m₀) (pairs_in i held) (seens (slots_in tab) (top_of m₀) vis₀))) 0 1 = rw (e, b.numbers.cur, b.same) at o in
-    let q = store 1 r (omega arith) size b.numbers in
+next-seen {i} {p} {w₀} {one = one} {x} {u} b e f o q =
+    let o : one ≡ cond (binds w₀.cur x (above w₀.cur (pairs_in i p.words.now) (entries w₀.visible))) 0 1 = rw b.seen at o in
     record {
-      numbers = record { size = q.size; at = q.at; top = refl; cur = q.cur; last = q.last; said = q.said; told = q.told; lost = q.lost; held = q.held; made = q.made; taken = q.taken; levels = q.levels };
-      top = omega (arith, q.top, p.height, b.top);
-      kept = p.kept ∙ b.kept;
-      tabled = rw q.top p.tabled;
-      same = rw (q.top, p.same, b.same, add-one i) (sym (above-one (cur_of m₀) (pairs_in i held) (get_or held (i * 2) 0) (get_or held (i * 2 + 1) 0) (seens (slots_in tab) (top_of m₀) vis₀)));
-      descends = rw (q.top, p.same) (omega arith, b.descends);
-      first = rw (add-one i) (omega (arith, b.first, o, firsts-one (cur_of m₀) (pairs_in i held) (get_or held (i * 2) 0) (get_or held (i * 2 + 1) 0) (seens (slots_in tab) (top_of m₀) vis₀)));
-      few = omega (arith, b.few, o, one_at_most (binds (cur_of m₀) (get_or held (i * 2) 0) (above (cur_of m₀) (pairs_in i held) (seens (slots_in tab) (top_of m₀) vis₀))));
+      same = refl;
+      still = record { names = q.still.names ∙ b.still.names; lent = q.still.lent ∙ b.still.lent; size = q.still.size ∙ b.still.size };
+      top = omega (arith, q.height, b.top);
+      sound = q.sound;
+      seen = rw (q.same, b.seen, add-one i, ← e, ← f) (sym (above-one w₀.cur (pairs_in i p.words.now) x u (entries w₀.visible)));
+      descends = rw q.same (omega arith, b.descends);
+      first = rw (add-one i, ← e, ← f) (omega (arith, b.first, o, firsts-one w₀.cur (pairs_in i p.words.now) x u (entries w₀.visible)));
+      few = omega (arith, b.few, o, one_at_most (binds w₀.cur x (above w₀.cur (pairs_in i p.words.now) (entries w₀.visible))));
     }
 
-each_seen : {tab m₀ vis₀ held m vis : List ℕ} {i n made : ℕ} → i ≡ n → Seeing i tab m₀ vis₀ held m vis made → (ws found : List ℕ) → SeesAll n ws tab m₀ vis₀ found held m vis
-each_seen {tab} {m₀} {vis₀} {held} {i = i} {n} z b ws found =
-    let q = b.numbers in
-    let t = b.top in
+pub one_seen : {i : ℕ} {p : Pairs} {w₀ w : Walk} {v : Visible} {made one x u : ℕ} → Seeing i p w₀ w made → x ≡ get_or p.words.now (i * 2) 0 → u ≡ get_or p.words.now (i * 2 + 1) 0 → one ≡ cond (binds w.cur x (entries w.visible)) 0 1 →
+    Bound x u w.cur w.visible v → Seeing (i + 1) p w₀ (record w { visible = v }) (made + one)
+one_seen {i} {p} {w₀} {w} {v} {made} {one} {x} {u} b e f o q =
+    let z = same-cur b in
+    subst (λ (y : Walk). Seeing (i + 1) p w₀ (record y { visible = v }) (made + one)) (sym b.same)
+    (next-seen (subst (λ (y : Walk). Seeing i p w₀ y made) b.same b) e f (rw z at o) (rw z at q))
+
+-- all of them
+each_seen : {n : ℕ} {p : Pairs} {w₀ : Walk} {v : Visible} {made : ℕ} → Seeing n p w₀ (record w₀ { visible = v }) made → (c : Context) → SeesAll n p c w₀ (record w₀ { visible = v })
+each_seen {n} {p} {w₀} {v} b c =
     record {
-      at = q.at;
-      sized = q.size;
-      seen = b.kept;
-      pairs = q.held;
-      star = q.levels 49;
-      made = q.made;
-      taken = q.taken;
-      fit = λ e k f h. refit f q b.kept refl b.tabled b.descends f.cur f.last f.count (omega arith) (omega arith);
+      fit = λ i k f h. seen-fits b.still f b.sound b.descends (omega (arith, h, b.top, b.still.names));
       goes = λ id s h.
-          rw (seen_as_lem (pairs_in n held) s.names, ← z)
-          (record {
-            visible = b.same ∙ rw (h.visible, h.cur);
-            cur = q.cur ∙ h.cur;
-            last = q.last ∙ h.last;
-            log = rw q.said h.log;
-            kinds = rw q.told h.kinds;
-            known = rw q.lost h.known;
-            counts = recounted q h.counts;
-            uses = h.uses;
-          });
+          let e : standing (above w₀.cur (pairs_in n p.words.now) (entries w₀.visible)) w₀.cur s.names ≡ seen_by (pairs_in n p.words.now) s.names = rw (seen_as_lem (pairs_in n p.words.now) s.names, h.visible, h.cur) in
+          subst (λ (t : State). Holds id c (record w₀ { visible = v }) (record { names = t; kinds = s.kinds; known = s.known })) e (seen-holds b.seen h);
     }
 
-pub all_seen : {tab m₀ vis₀ held m vis : List ℕ} {i n made : ℕ} → i ≤ n → n ≤ i → Seeing i tab m₀ vis₀ held m vis made → Sees n tab m₀ vis₀ held m vis made
-all_seen {i = i} {n} a c b =
-    let z : i ≡ n = omega arith in
-    record { first = rw z at b.first; few = omega (arith, b.few); all = each_seen z b }
+pub all_seen : {n : ℕ} {p : Pairs} {w₀ w : Walk} {made : ℕ} → Seeing n p w₀ w made → SeesFirst n p w₀ w made
+all_seen {n} {p} {w₀} {w} {made} b =
+    record {
+      still = rw b.same (seen-still b.still);
+      same = b.same;
+      first = b.first;
+      few = b.few;
+      all = λ c. rw b.same (each_seen (subst (λ (y : Walk). Seeing n p w₀ y made) b.same b) c);
+    }
 
 -- ---- the new Root of a WITH
 -- no scope above those of a list binds a name in it
@@ -168,19 +182,19 @@ pub barrier-last : (w : World) (a b : ℕ) (ps : List Pair) (s : State) → (bar
 unfolding barrier
 barrier-last w a b ps s = carry-last w ps (enter with_barrier a b s)
 
-module _ (id : ℕ → ℕ) (ws tab : List ℕ) (a b : ℕ) (ps : List Pair) where
+module _ (w : World) (a b : ℕ) (ps : List Pair) where
   abbrev pub renewed : State → State
-  renewed y = fresh (world_at ws tab id) b ps (barrier (world_at ws tab id) a b ps y)
+  renewed y = fresh w b ps (barrier w a b ps y)
 
-  rooted-above : (below : List Seen) (y : State) → ((x : ℕ) → binds (suc (barrier (world_at ws tab id) a b ps y).last) x below ≡ false) → rooted_on below id ws tab a b ps y ≡ standing ((renewed y).visible ++ below) (renewed y).cur (renewed y)
+  rooted-above : (below : List Seen) (y : State) → ((x : ℕ) → binds (suc (barrier w a b ps y).last) x below ≡ false) → rooted_on below w a b ps y ≡ standing ((renewed y).visible ++ below) (renewed y).cur (renewed y)
   unfolding fresh
-  rooted-above below y q = let t = barrier (world_at ws tab id) a b ps y in bind-above (world_at ws tab id) ps (suc t.last) [] below (enter root_scope b b t) q
+  rooted-above below y q = let t = barrier w a b ps y in bind-above w ps (suc t.last) [] below (enter root_scope b b t) q
 
-  pub rooted-beside : (m : Mode) (s u : Both) → m.resolves ≡ true → ((x : ℕ) → binds (suc (barrier (world_at ws tab id) a b ps u.names).last) x s.names.visible ≡ false) → beside m s (on_names renewed u) ≡ on_names (rooted_on s.names.visible id ws tab a b ps) u
+  pub rooted-beside : (m : Mode) (s u : Both) → m.resolves ≡ true → ((x : ℕ) → binds (suc (barrier w a b ps u.names).last) x s.names.visible ≡ false) → beside m s (on_names renewed u) ≡ on_names (rooted_on s.names.visible w a b ps) u
   rooted-beside m s u live q = rw (live, rooted-above s.names.visible u.names q)
 
-  pub seen-again : (m : Mode) (below : List Seen) (u z : Both) {c : ℕ} → m.resolves ≡ true → c ≡ (rooted_on below id ws tab a b ps u.names).cur → left m (on_names renewed u) z ≡ on_names (seen_by ps) (on_names (standing [] c) z)
+  pub seen-again : (m : Mode) (below : List Seen) (u z : Both) {c : ℕ} → m.resolves ≡ true → c ≡ (rooted_on below w a b ps u.names).cur → left m (on_names renewed u) z ≡ on_names (seen_by ps) (on_names (standing [] c) z)
   unfolding fresh
   seen-again m below u z live e =
-      let t = barrier (world_at ws tab id) a b ps u.names in
-      rw (live, e, bind-cur (world_at ws tab id) ps (enter root_scope b b (standing below t.cur t)), see-above (world_at ws tab id) ps (suc t.last) [] z.names (enter root_scope b b t))
+      let t = barrier w a b ps u.names in
+      rw (live, e, bind-cur w ps (enter root_scope b b (standing below t.cur t)), see-above w ps (suc t.last) [] z.names (enter root_scope b b t))

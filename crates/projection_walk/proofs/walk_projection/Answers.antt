@@ -1,18 +1,31 @@
 -- The alias is read, and then the expression.
 use native.Mathlib.Omega.{arith}
-use Rattle.clause_parts.proofs.Passing.{in-range}
-use Rattle.projection_walk.proofs.Chained.{word-holding, word-ready}
-use Rattle.projection_walk.proofs.Projected.{alias-refused, alias-passes}
+use Rattle.clauses.specs.Read.{alias_of}
+use Rattle.steps.specs.Modes.{mode_of}
+use Rattle.steps.specs.Memory.{names_in, tables_in, world_at}
+use Rattle.walk.specs.Goes.{rest_in}
+use Rattle.clause_parts.proofs.Passing.{in_range}
+use Rattle.projection_walk.specs.Carries.{carried_at, projections_at}
+use Rattle.projection_walk.proofs.Chained.{as-passes, word-passes, word-refused, word-ready, word-holding}
+use Rattle.projection_walk.proofs.Projected.{first-as, alias-within}
 use Rattle.projection_walk.proofs.walk_projection.Goals as goal
 
-pub returns-in_default : goal.returns-in_default
-returns-in_default c =
-    alias-refused c.args.mode c.next_word.ensures c.in_default.is
+pub returns-in_err-word : goal.returns-in_err-word
+returns-in_err-word c =
+    let a = c.args in
+    let x = a.context.now in
+    let m = mode_of a.mode in
+    as-passes (projections_at x m 1) _ (λ id q s. first-as (world_at x id) (tables_in x) m q s (rest_in x a.walk.now)) (word-refused (λ n. carried_at x m (alias_of n)) _ c.in_err-word.ensures c.from_residual.ensures)
 
 pub walk_carried-requires : goal.walk_carried-requires
 walk_carried-requires c =
-    (omega (arith, (in-range c.next_word.ensures c.in-Some.is).1), (c.requires.0, (word-holding c.requires.1.1.fit.size c.next_word.ensures c.in-Some.is (omega arith) c.requires.1.0, word-ready c.next_word.ensures c.in-Some.is (omega arith) c.requires.1.1)))
+    let n = c.in_ok-word.ensures in
+    (rw c.alias_of.ensures (alias-within (names_in c.args.context.now) c.in_ok-word.word (in_range n).1), (c.requires.0, (word-holding n (omega arith) c.requires.1.0, word-ready n (omega arith) c.requires.1.1)))
 
 pub returns : goal.returns
 returns c =
-    alias-passes c.args.mode c.next_word.ensures _ c.requires.1.1.fit.size c.in-Some.is c.walk_carried.ensures
+    let a = c.args in
+    let x = a.context.now in
+    let m = mode_of a.mode in
+    as-passes (projections_at x m 1) _ (λ id q s. first-as (world_at x id) (tables_in x) m q s (rest_in x a.walk.now))
+    (word-passes c.in_ok-word.ensures (omega arith) (λ n. carried_at x m (alias_of n)) _ (rw c.alias_of.ensures at c.walk_carried.ensures))

@@ -1,36 +1,24 @@
--- A loop of projections (`Turning`).
+-- The first projections were carried: none, one more each turn, and at the end all of them.
 use native.Mathlib.Omega.{arith}
 use Rattle.steps.proofs.Held.{ready-less}
-use Rattle.clause_parts.proofs.Passing.{still-held}
-use Rattle.projection_walk.proofs.Projected.{begun, turn, fall, over, goes_in}
+use Rattle.steps.specs.Modes.{mode_of}
+use Rattle.clause_parts.proofs.Passing.{held_on}
+use Rattle.projection_walk.proofs.Chained.{carried-ready, carried-holding}
+use Rattle.projection_walk.proofs.Projected.{begun, turn, fall}
 use Rattle.projection_walk.proofs.walk_projections.Goals as goal
 
-pub loop-left-init : goal.loop-left-init
-loop-left-init c =
-    begun _ _ c.requires.1.1
+pub loop-init : goal.loop-init
+loop-init c = begun (mode_of c.args.mode)
 
-pub walk_projection-r-requires : goal.walk_projection-r-requires
-walk_projection-r-requires c =
-    (still-held c.loop-left.invariant.kept c.requires.0, (goes_in c.loop-left.invariant c.requires.1.0, ready-less (omega arith) c.loop-left.invariant.ready))
+pub walk_projection-requires : goal.walk_projection-requires
+walk_projection-requires c =
+    let x = c.loop.invariant in
+    (held_on x.held.size c.requires.0, (carried-holding x c.requires.1.0, ready-less (omega arith) (carried-ready x c.requires.1.1)))
 
-pub returns-then-r-ne0 : goal.returns-then-r-ne0
-returns-then-r-ne0 c =
-    let fell = fall c.loop-left.invariant _ c.loop-left-test.true c.if-r-ne0.true c.walk_projection-r.ensures in
-    fell
+pub returns-in_err-walk_projection : goal.returns-in_err-walk_projection
+returns-in_err-walk_projection c =
+    fall (mode_of c.args.mode) c.loop.counter c.loop.invariant c.args.n _ c.loop-test.true c.in_err-walk_projection.ensures c.from_residual.ensures
 
-pub overflow_sub-left : goal.overflow_sub-left
-overflow_sub-left c =
-    omega (arith, c.loop-left-test.true)
-
-pub loop-left-smaller : goal.loop-left-smaller
-loop-left-smaller c =
-    omega (arith, c.loop-left-test.true)
-
-pub loop-left-preserved : goal.loop-left-preserved
-loop-left-preserved c =
-    turn c.loop-left.invariant c.loop-left-test.true c.if-r-ne0.false c.walk_projection-r.ensures
-
-pub returns : goal.returns
-returns c =
-    let ended = over c.loop-left.invariant c.loop-left-test.false in
-    ended
+pub loop-preserved : goal.loop-preserved
+loop-preserved c =
+    turn (mode_of c.args.mode) c.loop.counter c.loop.invariant _ c.in_ok-walk_projection.ensures

@@ -1,10 +1,8 @@
--- A loop of projections (`Turning`).
-use Rattle.words.specs.Words.{words}
-use Rattle.projection_walk.proofs.Projected.{Turning}
+-- The first projections were carried.
+use Rattle.std.specs.Prelude.{Ok}
+use Rattle.steps.specs.Modes.{mode_of}
+use Rattle.projection_walk.specs.Carries.{Carries, projections_at}
 use Rattle.projection_walk.proofs.walk_projections.Given as goal
 
-abbrev pub invariant-loop-left : goal.invariant-loop-left
-invariant-loop-left l = Turning (words l.s) l.tab l.initial.m l.initial.vis l.initial.found l.initial.held l.mode l.n l.m l.vis l.found l.held l.left
-
-abbrev pub decreases-loop-left : goal.decreases-loop-left
-decreases-loop-left l = l.left
+abbrev pub invariant-loop : goal.invariant-loop
+invariant-loop l = Carries 0 l.context l.initial.walk l.initial.pairs l.walk l.pairs (projections_at l.context (mode_of l.mode) l.counter) (Ok tt)

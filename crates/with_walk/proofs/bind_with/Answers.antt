@@ -1,38 +1,27 @@
 -- Both scopes are opened, the names before are left or spread, the pairs are seen, and all is counted (`rebinds`).
-use native.Mathlib.Omega.{arith}
-use Rattle.steps.proofs.Held.{ready-less}
-use Rattle.with_walk.proofs.Rebound.{root-asks, root-ready, leave-asks, spread-asks, pairs-ask, count-asks, rebinds, counted-as}
+use Rattle.with_walk.proofs.Rebound.{root-asks, leave-asks, spread-asks, pairs-ask, count-asks, rebinds}
 use Rattle.with_walk.proofs.bind_with.Goals as goal
-
-pub enter-requires : goal.enter-requires
-enter-requires c =
-    ready-less (omega arith) c.requires.1
 
 pub enter-requires-2 : goal.enter-requires-2
 enter-requires-2 c =
-    root-asks c.args.held.now c.requires.1 c.enter.ensures
-
-pub bounds-m-2 : goal.bounds-m-2
-bounds-m-2 c =
-    omega (arith, (root-ready c.args.held.now c.requires.1 c.enter.ensures c.enter-2.ensures).size)
+    root-asks c.args.pairs.now c.requires.1 c.enter.ensures
 
 pub leave-requires : goal.leave-requires
 leave-requires c =
-    leave-asks c.args.held.now c.requires.1 c.enter.ensures c.enter-2.ensures c.requires.0
+    leave-asks c.args.pairs.now c.requires.1 c.enter.ensures c.enter-2.ensures c.requires.0
 
 pub spread-star-requires : goal.spread-star-requires
 spread-star-requires c =
-    spread-asks c.args.held.now c.requires.1 c.enter.ensures c.enter-2.ensures c.requires.0 c.leave.ensures
+    spread-asks c.args.pairs.now c.requires.1 c.enter.ensures c.enter-2.ensures c.requires.0 c.leave.ensures
 
 pub see_pairs-first-requires : goal.see_pairs-first-requires
 see_pairs-first-requires c =
-    pairs-ask c.args.held.now c.requires.1 c.enter.ensures c.enter-2.ensures c.requires.0 c.leave.ensures c.spread-star.ensures
+    pairs-ask c.args.pairs.now c.requires.1 c.enter.ensures c.enter-2.ensures c.requires.0 c.leave.ensures c.spread-star.ensures
 
 pub count_pairs-requires : goal.count_pairs-requires
 count_pairs-requires c =
-    count-asks c.args.held.now c.requires.1 c.enter.ensures c.enter-2.ensures c.requires.0 c.leave.ensures c.spread-star.ensures c.see_pairs-first.ensures
+    count-asks c.args.pairs.now c.requires.1 c.enter.ensures c.enter-2.ensures c.requires.0 c.leave.ensures c.spread-star.ensures c.see_pairs-first.ensures
 
 pub returns : goal.returns
 returns c =
-    let ended = counted-as c.count_pairs.ensures (rebinds c.args.held.now c.requires.1 c.enter.ensures c.enter-2.ensures c.requires.0 c.leave.ensures c.spread-star.ensures c.see_pairs-first.ensures) in
-    ended
+    rw c.count_pairs.ensures.same (rebinds c.args.pairs.now c.requires.1 c.enter.ensures c.enter-2.ensures c.requires.0 c.leave.ensures c.spread-star.ensures c.see_pairs-first.ensures)
