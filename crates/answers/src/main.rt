@@ -18,6 +18,7 @@ fn skip_some<R: Read>(input: &mut R, n: usize) -> io::Result<bool> {
 // Reads past n bytes.
 fn skip<R: Read>(input: &mut R, n: usize) -> io::Result<bool> {
     let mut left = n;
+    // Each turn reads as much as the page holds.
     while 1024 < left {
         if !skip_some(input, 1024)? {
             return Ok(false);

@@ -1,4 +1,5 @@
-// The lines of clauses and arms, over the sheet's words in place: a condition where a clause has one, and a line feed.
+// The lines of clauses and arms, over the sheet's words in place: a condition where a clause has one, and a line feed. Clauses and arms have a
+// loop each, as they have a definition and a law each.
 ghost use Rattle.std.specs.Prelude.{◌≡◌, true, ◌≤◌, length, drop, get_or};
 ghost use Rattle.heads.specs.Got.{many, is_ok};
 ghost use Rattle.heads.specs.Answer.{words_of, tables_of};

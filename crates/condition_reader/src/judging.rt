@@ -23,6 +23,7 @@ pub fn judge(text: &[u8], low: usize) -> Option<Judged>
     let mut deepest = low;
     let mut entries: usize = 0;
     let mut rest = text;
+    // Token by token from the end: each turn says where the next begins.
     while !rest.is_empty() {
         let (token, before) = last_token(rest)?;
         rest = before;

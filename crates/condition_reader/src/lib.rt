@@ -22,6 +22,7 @@ fn count(text: &[u8]) -> Option<usize>
     ensures { Counts text.now result }
 {
     let mut low: usize = 0;
+    // A pass for as many levels as the window has, until all were looked at.
     loop {
         let judged = judge(text, low)?;
         if judged.deepest - low < LEVELS {

@@ -64,6 +64,7 @@ impl<'a> Machine<'a> {
     pub fn unwind(&mut self, limit: u64)
         ensures { Unwound limit self.old self.new }
     {
+        // As long as one waits: each turn says where the next begins.
         while self.waiting > 0 && self.list[self.waiting * 2 - 2] > limit {
             let operator = self.list[self.waiting * 2 - 1];
             self.waiting -= 1;

@@ -1,4 +1,4 @@
-// Lent bytes that a text is written into.
+// Lent bytes that a text is written into, as far as there is room, which the library's printing does not do.
 ghost use Rattle.std.specs.Prelude.{◌≤◌, length};
 
 use words::put_decimal;

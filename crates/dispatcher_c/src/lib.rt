@@ -1,4 +1,4 @@
-// The C functions of the turns among queues (include/cenguatu_dispatcher.h), as an archive: each calls the one of crate `dispatcher`.
+// The C functions of the turns among queues (include/cenguatu_dispatcher.h), as an archive, which is a crate: each calls the one of crate `dispatcher`.
 #![tactic(auto)]
 
 ghost use Rattle.dispatcher.specs.Numbers.{AddsAs, TakesAs};

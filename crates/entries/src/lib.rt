@@ -1,5 +1,5 @@
 // One entry more in a lent flat list: a carried name as the last, and a binding or an answer where the first making gives the place and the
-// last one the value.
+// last one the value. Kinds are numbers, as the lists have them.
 #![tactic(auto)]
 
 ghost use Rattle.std.specs.Prelude.{◌≡◌, true, [], ◌∷◌, ◌+◌, ◌*◌, ◌≤◌, length};

@@ -1,5 +1,6 @@
 // Rows of expressions without a call for each: most heads are plain, at most one word and then their parts, so that these can be counted
-// with the row that the head stands in. A position is a word's number.
+// with the row that the head stands in. A position is a word's number. Heads go by their codes and by bits of these, as the definition's
+// tables do.
 #![tactic(auto)]
 
 ghost use Rattle.std.specs.Prelude.{◌≡◌, ℕ, ◌<◌, ◌≤◌, length, drop};
@@ -173,6 +174,7 @@ fn skim(section: &Section, at: usize, room: u32, n: usize) -> Result<usize, Refu
     let mut p = at;
     let mut left = n;
     let mut d = room;
+    // A `while`: the row grows while it is read, so how many turns are left is not known before.
     while 0 < left {
         if d == 0 || MAX_ROW < left {
             return Err(Refusal::Depth);

@@ -1,4 +1,4 @@
-// A line, laid piece by piece.
+// A line, laid piece by piece. A code is a number, since a list's words may be no finding's.
 ghost use Rattle.std.specs.Prelude.{◌≡◌, [], ◌∷◌, ◌++◌, ◌+◌, ◌≤◌, length, IfSome};
 ghost use Rattle.words.specs.Decimal.{decimal};
 ghost use Rattle.texts.specs.Bytes.{bytes};

@@ -1,4 +1,4 @@
-// The C function of the listing (include/cenguatu.h), as an archive: it calls the one of crate `listing`.
+// The C function of the listing (include/cenguatu.h), as an archive, which is a crate: it calls the one of crate `listing`.
 #![tactic(auto)]
 
 ghost use Rattle.std.specs.Prelude.{◌≡◌, not, eqb, length};

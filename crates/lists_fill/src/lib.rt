@@ -1,5 +1,6 @@
 // Four of the five lists, filled from what both walks left in `found` and from the carried list: scopes and findings as they come, bindings and
-// recorded uses with the first making giving the place and the last one the value.
+// recorded uses with the first making giving the place and the last one the value. Each list has a loop and an adder of its own, as it has a
+// definition and a law of its own; numbers are those of the log.
 #![tactic(auto)]
 
 ghost use Rattle.std.specs.Prelude.{◌≡◌, [], ◌++◌, ℕ, ◌+◌, ◌*◌, ◌≤◌, length};

@@ -1,4 +1,5 @@
-// The message call: the text of a finding at the front of lent bytes, or a refusal (1 to 3, 9, 10), which alters none of them.
+// The message call: the text of a finding at the front of lent bytes, or a refusal (1 to 3, 9, 10), which alters none of them. A host may ask
+// with any numbers, each of which C hands over for itself.
 #![tactic(auto)]
 
 mod pushes;

@@ -94,6 +94,7 @@ impl Names<'_> {
         ensures { result ≡ name_in text.now (names_in self.now.bytes.now self.now.count self.now.places.now) }
     {
         let mut next = chains[slot];
+        // Along the chain: each turn says where the next begins. 0 ends it, as the lent words have it.
         while 0 < next {
             let name = (next - 1) as usize;
             if text == self.text(name) {
@@ -146,6 +147,7 @@ fn slots_in(room: usize, n: usize) -> usize
     ensures { (0 < result) × (result ≤ room) }
 {
     let mut m = 1;
+    // A `while`: it counts no index.
     while m < n && m <= room / 2 {
         m *= 2;
     }

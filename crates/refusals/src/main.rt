@@ -16,6 +16,7 @@ fn refusal(s: &[u8]) -> u32 {
 // Reads past n bytes, room's length at a time, or to the input's end.
 fn skip<R: Read>(input: &mut R, n: usize, room: &mut [u8]) -> io::Result<()> {
     let mut left = n;
+    // Each turn reads as much as there is room for.
     while 0 < left {
         let k = left.min(room.len());
         if k == 0 {

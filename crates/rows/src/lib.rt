@@ -75,6 +75,7 @@ impl Run<'_> {
         ensures { number_of result ≡ seek (id_at (words self.now.bytes.now) self.now.first) variable self.now.count }
     {
         let mut next = chains[slots.of(variable)];
+        // Along the chain: each turn says where the next begins. 0 ends it, as the lent words have it.
         while 0 < next {
             let row = next - 1;
             if self.variable(row) == variable {

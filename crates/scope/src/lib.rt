@@ -1,6 +1,7 @@
 // The scope graph (002) on lent lists: lookup of a name from a scope, and the scope at an offset. Lists are flat words, an entry each:
 // scopes 4 (kind, parent + 1 or 0, start, end), bindings 6 (scope, name, variable, kind, 1 if it replaced one, the variable replaced or
-// 0), carried 3 (barrier, name, variable); a count says how many entries are in use.
+// 0), carried 3 (barrier, name, variable); a count says how many entries are in use. Kinds, and numbers + 1 with 0 for none, are the lists'
+// own words, which may be any.
 #![tactic(auto)]
 
 ghost use Rattle.std.specs.Prelude.{◌≡◌, suc, ◌/◌, ◌<◌, ◌≤◌, length, map, MatchResult};
@@ -77,6 +78,7 @@ impl Graph<'_> {
         ensures { looked_as result ≡ climb (scopes_in self.now) (bindings_in self.now) (carried_in self.now) (suc from) from name }
     {
         let mut scope = from;
+        // Up the scopes: each turn says where the next begins.
         loop {
             if let Some(variable) = self.bound_in(scope, name) {
                 return Ok(Some(variable));

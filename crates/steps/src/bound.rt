@@ -1,4 +1,5 @@
-// What is said, scopes that are opened and left, names that are bound.
+// What is said, scopes that are opened and left, names that are bound. Kinds of scopes and bindings, and sorts of events, are numbers, as the
+// lists and the log have them.
 ghost use Rattle.std.specs.Prelude.{◌≡◌, [], ◌∷◌, suc, ◌<◌, ◌≤◌, Some};
 ghost use Rattle.semantics.specs.Resolve.{lookup, enter, bind_anew, bind_new, binds};
 ghost use Rattle.fused.specs.Fused.{noting, elem_step, when};

@@ -1,4 +1,5 @@
-// The kind walk's findings at a place: a type, a row or a binder against what the place wants.
+// The kind walk's findings at a place: a type, a row or a binder against what the place wants. Codes, kinds and types are numbers, as the
+// lists have them.
 ghost use Rattle.std.specs.Prelude.{◌≤◌, ◌<◌, cond, [], ◌∷◌, suc, eqb};
 ghost use Rattle.tables.specs.Row.{value_kind};
 ghost use Rattle.semantics.specs.Log.{e2007, finding};

@@ -20,6 +20,7 @@ pub fn read_full<R: Read>(input: &mut R, room: &mut [u8]) -> io::Result<usize>
     ensures front { IfOk result (λ n. IfSome (R.remaining input.old) (λ xs. take n room.new ≡ take (length room.new) xs)) }
 {
     let mut done = 0;
+    // Each turn begins where the bytes end that the reader brought.
     while done < room.len() {
         let n = input.read(&mut room[done..])?;
         if n == 0 {

@@ -1,4 +1,5 @@
-// Names: byte length, UTF-8 bytes, zero padding. A position is a byte's number in the names section.
+// Names: byte length, UTF-8 bytes, zero padding. A position is a byte's number in the names section. Names go by their numbers: each is sought
+// among those before it.
 ghost use Rattle.std.specs.Prelude.{◌≡◌, map, ◌+◌, ◌≤◌, length, take, drop};
 ghost use Rattle.words.specs.Fnv.{use_id};
 ghost use Rattle.heads.specs.Answer.{Ans, read_end, is_in};

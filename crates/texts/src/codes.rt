@@ -1,4 +1,4 @@
-// Which text a code and a detail one stand for.
+// Which text a code and a detail one stand for: any numbers, since a list's words may be no finding's.
 ghost use Rattle.std.specs.Prelude.{◌≡◌};
 ghost use Rattle.texts.specs.Codes.{text_for};
 

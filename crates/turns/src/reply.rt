@@ -1,4 +1,4 @@
-// A line of output: what a line of input does, and the text that says so. The definition is specs/Reply.antt.
+// A line of output: what a line of input does, and the text that says so, in lent bytes. The definition is specs/Reply.antt.
 ghost use Rattle.std.specs.Prelude.{◌≡◌, ◌+◌, ◌≤◌, ◌++◌, length};
 ghost use Rattle.dispatcher.specs.Words.{state_of};
 ghost use Rattle.turns.specs.Command.{command_of};

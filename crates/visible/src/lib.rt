@@ -52,6 +52,7 @@ impl Visible<'_> {
         requires { (height ≤ self.old.top) × Sound self.old }
         ensures { Cut height self.old self.new }
     {
+        // From the top down: each turn takes the entry on it away.
         while height < self.top {
             self.top -= 1;
             let k = (self.names as usize) + (self.top as usize) * 4;

@@ -115,6 +115,7 @@ pub fn walk_row(
     let mut set = settings.first;
     let mut later = settings.later;
     let mut d = room;
+    // Down and up the levels: each turn says where the next begins.
     loop {
         if left == 0 {
             if d == room {

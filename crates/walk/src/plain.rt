@@ -1,5 +1,5 @@
 // Plain heads by their code (specs/Plain): which there are, how many parts they have, in which settings these stand, and what the head does
-// itself.
+// itself. Shapes are numbers whose bits the loop of a row reads, as the definition's table has them: one look tells all.
 ghost use Rattle.std.specs.Prelude.{◌≡◌, ℕ, ◌+◌, ◌/◌, ◌%◌, ◌^◌, ◌<◌, ◌≤◌, eqb, length};
 ghost use Rattle.words.specs.Words.{words};
 ghost use Rattle.semantics.specs.Kinds.{settings};

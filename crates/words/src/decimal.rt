@@ -10,6 +10,7 @@ pub fn decimal_width(n: u32) -> usize
 {
     let mut m = n;
     let mut k = 1;
+    // A `while`: it counts no index.
     while 10 <= m {
         m /= 10;
         k += 1;

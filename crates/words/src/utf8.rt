@@ -1,4 +1,4 @@
-// Strict UTF-8, a byte at a time.
+// Strict UTF-8, a byte at a time: the definition is the Unicode table, and the library's reading has a definition of its own.
 ghost use Rattle.std.specs.Prelude.{◌≡◌, []};
 ghost use Rattle.std.proofs.Math.Option.{some};
 ghost use Rattle.words.specs.Utf8.{is_utf8, ranges, step, to, waiting};
