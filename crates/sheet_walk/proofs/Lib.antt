@@ -1,9 +1,6 @@
-pub mod Part
-pub mod Ended
-pub mod Begun
-pub mod Table
 pub mod Rows
-pub mod Known
+pub mod Tables
+pub mod Section
+pub mod Begun
 pub mod Whole
 pub mod Told
-pub mod Caused

@@ -3,14 +3,14 @@
 use Prim.Native.Nat.{ℕ, zero, suc, ◌+◌, ◌*◌, ◌<◌, ◌≤◌}
 use native.Mathlib.Omega.{arith}
 use mathlib.Core.Path.{◌≡◌, refl, ap, sym, ◌∙◌}
-use mathlib.Core.Bool.{Bool, true, false}
+use mathlib.Core.Bool.{Bool}
 use mathlib.Core.List.{List, [], ◌∷◌, ◌++◌, flat_map}
 use lib.ListN.{length, take, drop, get_or, length-take, length-drop}
 use lib.Seq.{get_or-drop, get_or-take}
 use Rattle.words.specs.Words.{words}
 use Rattle.words.proofs.Words.{length-words}
 use Rattle.heads.specs.Got.{ok, many}
-use Rattle.heads.specs.Answer.{Reads, is_in}
+use Rattle.heads.specs.Answer.{Reads, row_ids, is_in}
 use Rattle.expr.proofs.Inverse.{never}
 use Rattle.clauses.specs.Well.{Each}
 use Rattle.clauses.proofs.WrittenClause.{many-gives}
@@ -21,13 +21,14 @@ use Rattle.sheet.specs.Read.{Sheet, accepted, refused, unless, read_rows}
 use Rattle.sheet.specs.Write.{WellRow}
 use Rattle.sheet.specs.Answer.{InPlaces, judged}
 use Rattle.sheet.specs.declared.trailer.Places.{Places}
-use Rattle.std.specs.Prelude.{Ok, Err}
+use Rattle.std.specs.Prelude.{Option, None, Some, Ok, Err}
+use Rattle.std.proofs.Common.{ok_or}
 use Rattle.refusal.specs.declared.Refusal.{Refusal}
+use Rattle.refusal.specs.declared.Refusal.TheVariants.{Bindings}
 use Rattle.sheet.proofs.Cutting.{ids-take}
 use Rattle.sheet.proofs.Reading.{row_gives, rows-read, rows-refused, rows_left, rows_long, rows-done}
-use Rattle.rows.specs.Rows.{id_at, Hung}
-use Rattle.steps.specs.Memory.{mult_in, shift_in, chains_in}
-use Rattle.sheet_walk.specs.Parts.{slots_for, RowedIf, HungUp}
+use Rattle.rows.specs.declared.Index.{Index}
+use Rattle.sheet_walk.specs.Parts.{Hangs, HungIf, HungAs, RowedIf, RowedAs}
 
 -- what is judged refused
 judged-no : {A : Type 0} (x : Sheet A) {c : ℕ} → refused c ≡ judged x → x ≡ refused c
@@ -50,17 +51,21 @@ module _ {s : List ℕ} {p : Places} (h : InPlaces s p) where
         let long = rows_long p.names p.bindings (drop p.rows (take p.head (words s))) {p = q} (take p.head (words s)) x.same (omega (arith, part-long)) in
         omega (arith, long, part-long, length-drop p.rows (take p.head (words s)), h.rows)
 
-    pub rows-hung : {k : ℕ} {tab : List ℕ} {r : Bool} → k ≡ slots_for p.names → HungUp (words s) p.rows p.bindings k tab r → RowedIf s p tab r
-    rows-hung {k} {tab} {r} z y =
-        go r (read_rows p.names p.bindings (section (words s) p.rows p.head)) refl y.hung
-        (rows-done p.names p.bindings (drop p.rows (take p.head (words s))) {p = q} (take p.head (words s)) x.same (omega (arith, part-long))
-        (y.same ∙ sym (ap (distinct is_in) (ids-take p.bindings p.rows p.head (words s) rows-within (omega (arith, part-long, length-take p.head (words s)))))))
+    rows-once : {b : Bool} → b ≡ distinct is_in (row_ids p.bindings (drop p.rows (words s))) → unless 4 b (accepted tt) ≡ judged (read_rows p.names p.bindings (section (words s) p.rows p.head))
+    rows-once e =
+        rows-done p.names p.bindings (drop p.rows (take p.head (words s))) {p = q} (take p.head (words s)) x.same (omega (arith, part-long))
+        (e ∙ sym (ap (distinct is_in) (ids-take p.bindings p.rows p.head (words s) rows-within (omega (arith, part-long, length-take p.head (words s))))))
+
+    pub rows-hung : {old new : List ℕ} {o : Option Index} → HungAs (words s) p.rows p.bindings old new o → RowedAs s p old new (ok_or o Bindings)
+    rows-hung {new = new} {o} y = record { kept = y.kept; rowed = go o y.hung }
       where
-        go : (b : Bool) (g : Sheet (List Row)) → read_rows p.names p.bindings (section (words s) p.rows p.head) ≡ g → (b ≡ true → Hung (mult_in tab) (shift_in tab) p.bindings (id_at (words s) p.rows) (chains_in tab)) → unless 4 b (accepted tt) ≡ judged g → RowedIf s p tab b
-        go true (accepted rs) e k v = record { rows = rs; read = e; slots = y.slots ∙ z; unmarked = y.unmarked; hung = k refl }
-        go true (refused c) e k v = never (cc)
-        go false (accepted rs) e k v = never (cc)
-        go false (refused c) e k v = let z : c ≡ 4 = cc in e ∙ ap refused z
+        rowed : {i : Index} (g : Sheet (List Row)) → read_rows p.names p.bindings (section (words s) p.rows p.head) ≡ g → accepted tt ≡ judged g → Hangs (words s) p.rows p.bindings new i → RowedIf s p new (Ok i)
+        rowed (accepted rs) e k h = record { rows = rs; read = e; first = h.first; count = h.count; stands = h.stands }
+        rowed (refused c) e k h = never (cc)
+
+        go : (o : Option Index) → HungIf (words s) p.rows p.bindings new o → RowedIf s p new (ok_or o Bindings)
+        go (Some i) h = rowed _ refl (rows-once (sym h.apart)) h
+        go None h = judged-no _ (rows-once (sym h))
 
 -- a row's name is one of the names, and its kind at most Value
 well-at : (names : ℕ) (rs : List Row) (r : List ℕ) → Each (WellRow names) rs → (j : ℕ) → j < length rs → (get_or (flat_map row_words rs ++ r) (j * 5 + 1) 0 < names) × (get_or (flat_map row_words rs ++ r) (j * 5 + 2) 0 ≤ 4)

@@ -1,13 +1,14 @@
--- Head and arms one after the other are the whole walk over a sheet: the cause of the first that is refused (`head-refused`,
--- `arms-refused`), then cause 7 (`rows-lacking`), and else both walks are done, and what they carry is in the list (`both-done`).
-use Prim.Native.Nat.{ℕ, zero, suc, ◌+◌, ◌*◌}
+-- Head and arms one after the other are the whole walk over a sheet: the cause of the first that is refused, at its `?` (`head-fell`,
+-- `arms-fell`), then cause 7 (`rows-lacking`), and else both walks are done, and what they carry is in the list (`both-done`).
+use Prim.Native.Nat.{ℕ}
 use native.Mathlib.Omega.{arith}
-use mathlib.Core.Path.{◌≡◌, refl, subst, ◌∙◌}
-use mathlib.Core.Logic.{◌≢◌}
+use mathlib.Core.Path.{◌≡◌, refl, sym, subst, ◌∙◌}
+use mathlib.Core.Bool.{true, false}
 use mathlib.Core.List.{List, flat_map}
-use lib.ListN.{length}
-use borrow.Author.Tests.{eq-eqb, ne_eqb}
-use Rattle.words.specs.Words.{words}
+use Rattle.std.specs.Prelude.{Result, Ok, Err}
+use Rattle.std.specs.Result.{IsErr, IsErrAnd}
+use Rattle.refusal.specs.declared.Refusal.{Refusal}
+use Rattle.refusal.specs.declared.Refusal.TheVariants.{Unbound}
 use Rattle.words.proofs.Words.{length-words}
 use Rattle.sheet.specs.Read.{accepted}
 use Rattle.sheet.specs.declared.trailer.Places.{Places}
@@ -15,80 +16,77 @@ use Rattle.semantics.specs.Log.{carry_of, carries_in}
 use Rattle.theorems.specs.Needs.{carried_in}
 use Rattle.fused.specs.Fused.{Both}
 use Rattle.fused.specs.Sheet.{begun, sheet_go}
-use Rattle.steps.specs.Memory.{lost_of, world_at}
 use Rattle.entries.specs.Filled.{filled}
+use Rattle.steps.specs.Memory.{words_in, world_at}
+use Rattle.steps.specs.Hold.{Still}
+use Rattle.steps.specs.declared.Walk.{Walk}
+use Rattle.steps.specs.declared.context.Context.{Context}
 use Rattle.arm_walk.specs.Taking.{Carries}
-use Rattle.sheet_walk.specs.Parts.{Uses, Wide, Ends, DoneAs, Walks, head_in, arms_in, Begins, WalkedAs, Lengths, WalksBoth}
-
--- as wide as before
-pub wide-same : {w : ℕ} (vis found : List ℕ) {vis' found' : List ℕ} → length vis' ≡ length vis → length found' ≡ length found → Wide w vis found → Wide w vis' found'
-wide-same vis found a b x = record { names = rw a x.names; room = rw b x.room }
+use Rattle.sheet_walk.specs.Parts.{Set, Uses, Ends, Walks, head_in, arms_in, Lasting, Begins, WalksAll}
+use Rattle.sheet_walk.proofs.Section.{cut_to, is-cut}
 
 -- nothing is carried before the head
 carries-none : (p : Places) (old : List ℕ) → Carries old old (begun p).names.log
 unfolding carried_in carries_in carry_of flat_map filled
 carries-none p old = record { kept = refl; has = λ l. record { count = refl; wrote = refl; kept = refl } }
 
-module _ {s : List ℕ} {p : Places} {tab vis found held carried m1 found1 m2 vis2 found2 held2 carried2 : List ℕ} (b : Begins s p tab vis found m1 found1) where
-  pub head-refused : {r : ℕ} → r ≢ 0 → Walks (words s) tab m1 vis found1 held carried m2 vis2 found2 held2 carried2 p.tail (head_in (words s) p tab) r → WalksBoth s p tab vis found held carried m2 vis2 found2 held2 carried2 r
-  head-refused {r} ne x = record { lengths = record { seen = x.seen; wrote = x.wrote ∙ b.wrote; kept = x.kept; lent = x.lent }; walked = go r ne x.done }
-    where
-      go : (r : ℕ) → r ≢ 0 → DoneAs (words s) tab m1 vis found1 m2 vis2 found2 p.tail (head_in (words s) p tab) r → WalkedAs s p tab m2 vis2 found2 carried carried2 r
-      go zero ne d = absurd (ne refl)
-      go (suc c) ne d = λ id us. unfold sheet_go in rw (d id (begun p) (b.holds id us))
+pub lasts : {w w1 w2 : Walk} → Lasting w w1 → Still w1 w2 → Lasting w w2
+lasts x y = record { visible = y.visible.lent ∙ x.visible; seen = y.visible.size ∙ x.seen; log = y.log.lent ∙ x.log; wrote = y.log.size ∙ x.wrote }
 
-  module _ (x : Walks (words s) tab m1 vis found1 held carried m2 vis2 found2 held2 carried2 p.tail (head_in (words s) p tab) 0) where
+module _ {p : Places} {c : Context} {w w1 : Walk} {carried : List ℕ} (b : Begins p c w w1) {w2 : Walk} {carried2 : List ℕ} where
+  pub head-fell : {e : Refusal} (r : Result (Unit {0}) Refusal) → Walks c p.tail w1 carried w2 carried2 (head_in p c) (Err e) → IsErr r × IsErrAnd r (λ y. y ≡ e) → WalksAll p c w carried w2 carried2 r
+  head-fell (Err y) x q = rw q.1 (record { lasting = lasts b.lasting x.still; lent = x.lent; walked = λ id us. unfold sheet_go in rw (x.done id (begun p) (b.holds id us)) })
+  head-fell (Ok u) x q = absurd q.1
+
+  module _ {u : Unit {0}} (x : Walks c p.tail w1 carried w2 carried2 (head_in p c) (Ok u)) where
     -- the head is accepted
-    headed : (id : ℕ → ℕ) → Uses tab id → Ends id tab m2 vis2 found2 (head_in (words s) p tab id (begun p))
+    headed : (id : ℕ → ℕ) → Uses c id → Ends id c w2 (head_in p c id (begun p))
     headed id us = x.done.goes id (begun p) (b.holds id us)
 
-    module _ {m3 vis3 found3 held3 carried3 : List ℕ} where
-      -- the lengths after both
-      kept-both : {r : ℕ} → Walks (words s) tab m2 vis2 found2 held2 carried2 m3 vis3 found3 held3 carried3 p.trailer (arms_in (words s) p tab) r → Lengths vis found held carried vis3 found3 held3 carried3
-      kept-both y = record { seen = y.seen ∙ x.seen; wrote = y.wrote ∙ x.wrote ∙ b.wrote; kept = y.kept ∙ x.kept; lent = y.lent ∙ x.lent }
+    module _ {w3 : Walk} {carried3 : List ℕ} where
+      pub arms-fell : {e : Refusal} (r : Result (Unit {0}) Refusal) → Walks c p.trailer w2 carried2 w3 carried3 (arms_in p c) (Err e) → IsErr r × IsErrAnd r (λ y. y ≡ e) → WalksAll p c w carried w3 carried3 r
+      arms-fell (Err a) y q =
+          rw q.1
+          (record {
+            lasting = lasts (lasts b.lasting x.still) y.still;
+            lent = y.lent ∙ x.lent;
+            walked = λ id us. let e = headed id us in unfold sheet_go in rw (e.same, y.done id e.state e.holds);
+          })
+      arms-fell (Ok a) y q = absurd q.1
 
-      pub arms-refused : {r : ℕ} → r ≢ 0 → Walks (words s) tab m2 vis2 found2 held2 carried2 m3 vis3 found3 held3 carried3 p.trailer (arms_in (words s) p tab) r → WalksBoth s p tab vis found held carried m3 vis3 found3 held3 carried3 r
-      arms-refused {r} ne y = record { lengths = kept-both y; walked = go r ne y.done }
-        where
-          go : (r : ℕ) → r ≢ 0 → DoneAs (words s) tab m2 vis2 found2 m3 vis3 found3 p.trailer (arms_in (words s) p tab) r → WalkedAs s p tab m3 vis3 found3 carried carried3 r
-          go zero ne d = absurd (ne refl)
-          go (suc c) ne d = λ id us. let e = headed id us in unfold sheet_go in rw (e.same, d id e.state e.holds)
-
-      module _ (y : Walks (words s) tab m2 vis2 found2 held2 carried2 m3 vis3 found3 held3 carried3 p.trailer (arms_in (words s) p tab) 0) where
+      module _ {a : Unit {0}} (y : Walks c p.trailer w2 carried2 w3 carried3 (arms_in p c) (Ok a)) where
         -- the arms are accepted
-        armed : (id : ℕ → ℕ) (us : Uses tab id) → Ends id tab m3 vis3 found3 (arms_in (words s) p tab id (headed id us).state)
+        armed : (id : ℕ → ℕ) (us : Uses c id) → Ends id c w3 (arms_in p c id (headed id us).state)
         armed id us = y.done.goes id (headed id us).state (headed id us).holds
 
-        pub rows-lacking : lost_of m3 ≢ 0 → WalksBoth s p tab vis found held carried m3 vis3 found3 held3 carried3 7
-        rows-lacking ne =
+        pub rows-lacking : w3.known ≡ false → WalksAll p c w carried w3 carried3 (Err Unbound)
+        rows-lacking none =
             record {
-              lengths = kept-both y;
-              walked = λ id us.
-                  let f = armed id us in
-                  unfold sheet_go in rw ((headed id us).same, f.same, ← f.holds.known, ne_eqb (lost_of m3) 0 ne);
+              lasting = lasts (lasts b.lasting x.still) y.still;
+              lent = y.lent ∙ x.lent;
+              walked = λ id us. let f = armed id us in unfold sheet_go in rw ((headed id us).same, f.same, sym f.holds.known ∙ none);
             }
 
         -- every binder had a row
-        whole : lost_of m3 ≡ 0 → (id : ℕ → ℕ) (us : Uses tab id) → sheet_go (world_at (words s) tab id) p (words s) ≡ accepted (armed id us).state
-        whole none id us =
-            let f = armed id us in
-            unfold sheet_go in rw ((headed id us).same, f.same, ← f.holds.known, eq-eqb (lost_of m3) 0 none)
+        whole : w3.known ≡ true → (id : ℕ → ℕ) (us : Uses c id) → sheet_go (world_at c id) p (words_in c) ≡ accepted (armed id us).state
+        whole known id us = let f = armed id us in unfold sheet_go in rw ((headed id us).same, f.same, sym f.holds.known ∙ known)
 
-        carries-both : (id : ℕ → ℕ) (us : Uses tab id) → Carries carried carried3 (armed id us).state.names.log
+        carries-both : (id : ℕ → ℕ) (us : Uses c id) → Carries carried carried3 (armed id us).state.names.log
         carries-both id us =
             let e = headed id us in
             let f = armed id us in
             y.takes id e.state f.state carried e.holds f.same (x.takes id (begun p) e.state carried (b.holds id us) e.same (carries-none p carried))
 
-        pub both-done : p.trailer * 4 + 40 ≡ length s → lost_of m3 ≡ 0 → WalksBoth s p tab vis found held carried m3 vis3 found3 held3 carried3 0
-        both-done long none =
+        pub both-done : {d : Unit {0}} → Set p c → w3.known ≡ true → WalksAll p c w carried w3 carried3 (Ok d)
+        both-done h known =
             record {
-              lengths = kept-both y;
+              lasting = lasts (lasts b.lasting x.still) y.still;
+              lent = y.lent ∙ x.lent;
               walked = record {
-                few = omega (arith, y.done.stands.at, y.done.stands.fit.count, length-words s);
-                goes = λ id us. record { state = (armed id us).state; holds = (armed id us).holds; same = whole none id us };
+                few = omega (arith, y.done.stands.at, (y.done.stands.fit (cut_to p.trailer c) (is-cut p.trailer c)).count, h.places.trailer, length-words c.section.bytes.now);
+                goes = λ id us. record { state = (armed id us).state; holds = (armed id us).holds; same = whole known id us };
                 takes = λ id us u e.
-                    let g = whole none id us in
+                    let g = whole known id us in
                     let z : (armed id us).state ≡ u = cc in
                     subst (λ (v : Both). Carries carried carried3 v.names.log) z (carries-both id us);
               };

@@ -1,7 +1,7 @@
--- What the parts of a run ask and leave: the tables of names and bindings, then the sections of head and arms. Only contracts need these.
-use Rattle.std.specs.Prelude.{ℕ, zero, suc, ◌+◌, ◌*◌, ◌<◌, ◌≤◌, ◌≡◌, Bool, true, false, cond, List, [], ◌∷◌, eqb, length, get_or, take, drop, Option, None, Some, Result, Ok, Err}
+-- What the parts of a run ask and leave: the tables of names and bindings, the sections of head and arms, and the walks over a whole sheet. Only
+-- contracts need these.
+use Rattle.std.specs.Prelude.{ℕ, zero, suc, ◌+◌, ◌*◌, ◌<◌, ◌≤◌, ◌≡◌, true, false, List, [], ◌∷◌, length, get_or, take, drop, Option, None, Some, Result, Ok, Err}
 use Rattle.words.specs.Words.{words}
-use Rattle.words.specs.Fnv.{use_id}
 use Rattle.refusal.specs.Number.{number_of}
 use Rattle.refusal.specs.declared.Refusal.{Refusal}
 use Rattle.heads.specs.Answer.{row_ids, is_in}
@@ -19,10 +19,8 @@ use Rattle.fused.proofs.ApartStatement.{HasTables, world_by}
 use Rattle.rows.specs.Slot.{slots}
 use Rattle.rows.specs.Table.{row_by, Stands}
 use Rattle.rows.specs.declared.Index.{Index}
-use Rattle.theorems.specs.Needs as needs
 use Rattle.steps.specs.Memory.{words_in, use_in, world_at}
 use Rattle.steps.specs.Memory as memory
-use Rattle.steps.specs.Said.{kept}
 use Rattle.steps.specs.Hold.{Fine, Fit, Holds}
 use Rattle.steps.specs.Hold as hold
 use Rattle.steps.specs.declared.Walk.{Walk}
@@ -228,3 +226,23 @@ pub record WalksAll (p : Places) (c : Context) (w : Walk) (carried : List ℕ) (
   pub lasting : Lasting w w'
   pub lent : length carried' ≡ length carried
   pub walked : WalkedAs p c w' carried carried' r
+
+-- ---- the whole sheet
+
+-- both tables were read, and what is lent has room for the walks
+pub record Walking (s : List ℕ) (p : Places) (x : Index) (places ids chains held marks : List ℕ) (w : Walk) : Type 0 where
+  pub tables : Reads s p places ids chains x
+  pub placed : length (words s) ≤ length places
+  pub used : length (words s) ≤ length ids
+  pub marked : length (words s) ≤ length marks
+  pub unmarked : (i : ℕ) → get_or marks i 0 ≡ 0
+  pub pairs : 2 * length (words s) ≤ length held
+  pub names : 4 * (length (words s) + 2) ≤ length w.visible.words.now
+  pub unseen : (i : ℕ) → get_or w.visible.words.now i 0 ≡ 0
+  pub room : length (words s) * 6 ≤ length w.log.words.now
+
+-- the walks went by what the tables settle
+pub record WalksBy (s : List ℕ) (p : Places) (choice : Choice) (x : Index) (places ids chains : List ℕ) (w : Walk) (carried : List ℕ) (w' : Walk) (carried' : List ℕ) (r : Result (Unit {0}) Refusal) : Type 0 where
+  pub context : Context
+  pub settles : Settles s p choice x places ids chains context
+  pub walks : WalksAll p context w carried w' carried' r

@@ -16,7 +16,6 @@ use Rattle.theorems.specs.Needs as needs
 use Rattle.rows.specs.Table.{row_by, Stands}
 use Rattle.rows.specs.declared.Index.{Index}
 use Rattle.steps.specs.Said.{events_in, findings_in, kept}
-use Rattle.steps.specs.Hold as hold
 use Rattle.arm_walk.specs.Taking.{Carries}
 use Rattle.sheet_walk.specs.declared.Choice.{Choice}
 use Rattle.sheet_walk.specs.declared.Scratch.{Scratch}

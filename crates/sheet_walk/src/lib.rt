@@ -7,11 +7,12 @@ mod walking;
 ghost use Rattle.std.specs.Prelude.{◌≡◌, length};
 ghost use Rattle.words.specs.Words.{words};
 ghost use Rattle.sheet_walk.specs.Runs.{Clean, Still, Runs};
+ghost use Rattle.sheet_walk.specs.Parts.{Walking, WalksBy};
 
 use reading::{context_of, read_tables};
 use refusal::Refusal;
 use rows::Index;
-use sheet::find_places;
+use sheet::{Places, find_places};
 use steps::Walk;
 use walking::walk_all;
 
@@ -34,6 +35,29 @@ pub struct Scratch<'a> {
     pub walk: Walk<'a>,
 }
 
+// The walks over a sheet whose tables were read.
+fn walk_sheet(
+    s: &[u8],
+    p: Places,
+    choice: Choice,
+    index: Index,
+    places: &[u32],
+    ids: &[u32],
+    chains: &[u32],
+    walk: &mut Walk,
+    held: &mut [u32],
+    marks: &mut [u32],
+    carried: &mut [u32],
+) -> Result<(), Refusal>
+    requires { Walking s.now p index places.now ids.now chains.now held.old marks.old walk.old }
+    ensures same { marks.new ≡ marks.old }
+    ensures kept { length held.new ≡ length held.old }
+    ensures walks { WalksBy s.now p choice index places.now ids.now chains.now walk.old carried.old walk.new carried.new result }
+{
+    let context = context_of(s, p, choice, index, places, ids, chains);
+    walk_all(walk, &context, p, held, marks, carried)
+}
+
 // The whole sheet: where its bindings stand, and how they hang. The carried list has what is carried where it has room for it.
 pub fn run(
     s: &[u8],
@@ -53,7 +77,9 @@ pub fn run(
     let marks = &mut *scratch.marks;
     let held = &mut *scratch.held;
     let index = read_tables(s, p, places, ids, chains, held)?;
-    let context = context_of(s, p, choice, index, places, ids, chains);
-    walk_all(&mut scratch.walk, &context, p, held, marks, carried)?;
+    let walk = &mut scratch.walk;
+    walk_sheet(
+        s, p, choice, index, places, ids, chains, walk, held, marks, carried,
+    )?;
     Ok(index)
 }

@@ -1,14 +1,12 @@
--- Zeros hold nothing, and the Root is said where it is wanted (`begins`).
+-- All numbers of the walk are set, and the Root is said where it is wanted (`begins`).
 use native.Mathlib.Omega.{arith}
 use Rattle.sheet_walk.proofs.Begun.{begin-roomy, begins}
 use Rattle.sheet_walk.proofs.walking.begin.Goals as goal
 
 pub say_wanted-requires : goal.say_wanted-requires
-say_wanted-requires c =
-    let q = c.requires in
-    (omega (arith, q.0.0.fine.long), begin-roomy q.0.0 q.0.1 q.1)
+say_wanted-requires c = begin-roomy c.requires c.max-walk.result
 
 pub returns : goal.returns
 returns c =
-    let q = c.requires in
-    begins q.0.0 q.0.1 q.1 c.say_wanted.ensures
+    let m = c.max-walk.ensures in
+    begins c.requires (omega (arith, m)) (omega (arith, m)) (omega (arith, m)) c.say_wanted.ensures

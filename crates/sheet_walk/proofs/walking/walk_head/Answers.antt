@@ -1,42 +1,29 @@
--- The walk's answer over the part of the words up to the section's end, and whether it reached that end, is the section's.
+-- The walk over the words up to the section's end, and whether it reached that end, is the section's.
 use native.Mathlib.Omega.{arith}
 use mathlib.Core.Path.{refl}
-use lib.ListN.{length-take}
-use Rattle.words.specs.Words.{words}
-use Rattle.sheet.proofs.Cutting.{words-front}
-use Rattle.sheet_walk.proofs.Ended.{walks-no, walks-left, walks-end, head-is, tail-long, ready-in}
+use Rattle.sheet_walk.proofs.Section.{tail-long, head-is, ready-in, held-in, clear-in, walks-fell, walks-left, walks-end}
 use Rattle.sheet_walk.proofs.walking.walk_head.Goals as goal
 
-pub walk_clauses-r-requires : goal.walk_clauses-r-requires
-walk_clauses-r-requires c =
-    let a = c.args in
+pub walk_clauses-requires : goal.walk_clauses-requires
+walk_clauses-requires c =
     let q = c.requires in
-    rw (words-front a.p.tail a.s.now)
-    (record { unmarked = q.0.set.unmarked; room = omega (arith, q.0.pairs, length-take a.p.tail (words a.s.now)); resolves = refl }, ready-in q.0.set (omega (arith, q.0.set.places)) (omega (arith, q.0.set.places)) q.1)
+    let k = c.cut-section.ensures in
+    ((held-in q.0.set k (omega (arith, q.0.set.places)) _ refl q.0, clear-in q.0.set k (omega (arith, q.0.set.places)) q.0), ready-in q.0.set k (omega (arith, q.0.set.places)) q.1)
 
-pub returns-then-r-ne0 : goal.returns-then-r-ne0
-returns-then-r-ne0 c =
-    let a = c.args in
-    let takes = rw (words-front a.p.tail a.s.now) at c.walk_clauses-r.ensures.takes in
-    let passes = rw (words-front a.p.tail a.s.now) at c.walk_clauses-r.ensures.tab_unchanged in
-    let asked = c.requires in
-    let q = asked in
-    (passes.0, walks-no (tail-long q.0.set) q.1 (head-is q.0.set) takes c.if-r-ne0.true passes.1)
+pub returns-in_err-walk_clauses-clause-walks : goal.returns-in_err-walk_clauses-clause-walks
+returns-in_err-walk_clauses-clause-walks c =
+    let q = c.requires in
+    let k = c.cut-section.ensures in
+    walks-fell k q.1 (head-is q.0.set k) c.in_err-walk_clauses.ensures.takes (tail-long q.0.set) _ c.in_err-walk_clauses.ensures.passes c.from_residual.ensures
 
-pub returns-then-m-p : goal.returns-then-m-p
-returns-then-m-p c =
-    let a = c.args in
-    let takes = rw (words-front a.p.tail a.s.now) at c.walk_clauses-r.ensures.takes in
-    let passes = rw (words-front a.p.tail a.s.now) at c.walk_clauses-r.ensures.tab_unchanged in
-    let asked = c.requires in
-    let q = asked in
-    (passes.0, walks-left (tail-long q.0.set) q.1 (head-is q.0.set) takes (rw c.if-r-ne0.false at passes.1) c.if-m-p.true)
+pub returns-then-walk-p-clause-walks : goal.returns-then-walk-p-clause-walks
+returns-then-walk-p-clause-walks c =
+    let q = c.requires in
+    let k = c.cut-section.ensures in
+    walks-left k q.1 (head-is q.0.set k) c.in_ok-walk_clauses.ensures.takes (tail-long q.0.set) c.in_ok-walk_clauses.ensures.passes c.if-walk-p.true
 
-pub returns : goal.returns
-returns c =
-    let a = c.args in
-    let takes = rw (words-front a.p.tail a.s.now) at c.walk_clauses-r.ensures.takes in
-    let passes = rw (words-front a.p.tail a.s.now) at c.walk_clauses-r.ensures.tab_unchanged in
-    let asked = c.requires in
-    let q = asked in
-    (passes.0, walks-end (tail-long q.0.set) q.1 (head-is q.0.set) takes (rw c.if-r-ne0.false at passes.1) c.if-m-p.false)
+pub returns-clause-walks : goal.returns-clause-walks
+returns-clause-walks c =
+    let q = c.requires in
+    let k = c.cut-section.ensures in
+    walks-end k q.1 (head-is q.0.set k) c.in_ok-walk_clauses.ensures.takes (tail-long q.0.set) c.in_ok-walk_clauses.ensures.passes c.if-walk-p.false
