@@ -35,7 +35,7 @@ pub struct Scratch<'a> {
     pub walk: Walk<'a>,
 }
 
-// The walks over a sheet whose tables were read.
+// The walks over a sheet whose tables were read. What a context borrows is known afterwards only where it came as a parameter, so each does.
 fn walk_sheet(
     s: &[u8],
     p: Places,
