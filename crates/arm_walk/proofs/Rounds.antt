@@ -1,41 +1,32 @@
--- A loop of rounds (clause_parts' `Turning`), to which tab is lent and which each leaves as it was: before the first (`set_out`), what each asks
--- (`asks`), what of that `take_carried` asks (`lent`), one that goes on (`turned`), one that refuses (`fallen`), and after the last (`ended`).
-use Prim.Native.Nat.{ℕ, ◌-◌, ◌<◌, ◌≤◌}
+-- A loop of n rounds, of which k were walked (`Rounds`): what it lends has as much room as before, no mark is left set, and each round stores what
+-- it carries. What a round asks is still so (`asks`), and one more may have been walked (`turned`).
+use Rattle.std.specs.Prelude.{None, Ok}
+use Prim.Native.Nat.{ℕ, ◌+◌, ◌<◌}
 use native.Mathlib.Omega.{arith}
-use mathlib.Core.Path.{◌≡◌, refl, ◌∙◌}
+use mathlib.Core.Path.{◌≡◌, ◌∙◌}
 use mathlib.Core.List.{List}
 use lib.ListN.{length}
-use Rattle.fused.specs.Fused.{rounds}
-use Rattle.visible.specs.Visible.{Tabled}
-use Rattle.steps.specs.Memory.{top_of, slots_in}
+use Rattle.fused.specs.Fused.{Mode}
 use Rattle.steps.specs.Hold.{Ready}
+use Rattle.steps.specs.declared.Walk.{Walk}
+use Rattle.steps.specs.declared.context.Context.{Context}
 use Rattle.walk.specs.Goes.{Goer}
-use Rattle.walk.proofs.Stage.{ready}
-use Rattle.clause_parts.specs.Passes.{Held, Passes}
-use Rattle.clause_walk.proofs.Bodies.{cut_all}
-use Rattle.clause_parts.proofs.Passing.{Turning, begun, turn, fall, over, still-held}
+use Rattle.walk.proofs.Stage.{Turning, ready}
+use Rattle.clause_parts.specs.Passes.{Held, Clear, Passes}
+use Rattle.clause_parts.proofs.Passing.{turn, held_on}
+use Rattle.arm_walk.specs.Taking.{Takes}
+use Rattle.arm_walk.proofs.Taken.{Filling, filled}
 
-pub record Rounds (ws tab₀ m₀ vis₀ found₀ held₀ : List ℕ) (n : ℕ) (one : List ℕ → Goer) (tab m vis found held : List ℕ) (left : ℕ) : Type 0 where
-  pub same : tab ≡ tab₀
-  pub turning : Turning ws tab₀ m₀ vis₀ found₀ held₀ n (one tab₀) m vis found held left
+pub record Rounds (c : Context) (w₀ : Walk) (held₀ marks₀ out₀ : List ℕ) (n : ℕ) (one : Goer) (w : Walk) (held marks out : List ℕ) (k : ℕ) : Type 0 where
+  pub turning : Turning None c w₀ n one w k
+  pub filling : Filling c w₀ out₀ n one w out k
+  pub kept : length held ≡ length held₀
+  pub same : marks ≡ marks₀
 
-pub set_out : {ws tab m vis found held : List ℕ} (n : ℕ) (one : List ℕ → Goer) → Ready 0 ws tab m vis found → Rounds ws tab m vis found held n one tab m vis found held n
-set_out {tab = tab} n one h = record { same = refl; turning = begun n (one tab) h }
+module _ {c : Context} {w₀ : Walk} {held₀ marks₀ out₀ : List ℕ} {n : ℕ} {one : Goer} {w : Walk} {held marks out : List ℕ} {k : ℕ} (o : Rounds c w₀ held₀ marks₀ out₀ n one w held marks out k) where
+  pub asks : {mode : Mode} → (Held c held₀ mode × Clear c marks₀) × Ready 0 c w₀ → (Held c held mode × Clear c marks) × Ready 0 c w
+  asks h = rw o.same ((held_on o.kept h.0.0, h.0.1), ready (omega arith) h.1 o.turning.stage)
 
-module _ {ws tab₀ m₀ vis₀ found₀ held₀ : List ℕ} {n : ℕ} {one : List ℕ → Goer} {tab m vis found held : List ℕ} {left : ℕ} (o : Rounds ws tab₀ m₀ vis₀ found₀ held₀ n one tab m vis found held left) where
-  pub asks : {mode : ℕ} → Held ws tab₀ held₀ mode × Ready 0 ws tab₀ m₀ vis₀ found₀ → Held ws tab held mode × Ready 0 ws tab m vis found
-  asks h = rw o.same (still-held o.turning.kept h.0, ready (omega arith) h.1 o.turning.stage)
-
-  pub turned : {tab' m' vis' found' held' : List ℕ} {a : ℕ} → 0 < left → a ≡ 0 → (tab' ≡ tab) × Passes 0 ws tab m vis found held m' vis' found' held' (one tab) a →
-      Rounds ws tab₀ m₀ vis₀ found₀ held₀ n one tab' m' vis' found' held' (left - 1)
-  turned l q x = record { same = x.0 ∙ o.same; turning = turn o.turning l q (rw o.same at x.1) }
-
-  pub fallen : {tab' m' vis' found' held' : List ℕ} (a : ℕ) → 0 < left → (a ≡ 0 → ⊥) → (tab' ≡ tab) × Passes 0 ws tab m vis found held m' vis' found' held' (one tab) a →
-      (tab' ≡ tab₀) × Passes 0 ws tab₀ m₀ vis₀ found₀ held₀ m' vis' found' held' (λ id. rounds n (one tab₀ id)) a
-  fallen a l q x = (x.0 ∙ o.same, fall o.turning a l q (rw o.same at x.1))
-
-  pub ended : left ≤ 0 → (tab ≡ tab₀) × Passes 0 ws tab₀ m₀ vis₀ found₀ held₀ m vis found held (λ id. rounds n (one tab₀ id)) 0
-  ended l = (o.same, over o.turning l)
-
-pub lent : {ws tab m vis found : List ℕ} → Ready 0 ws tab m vis found → (10 ≤ length tab) × ((length m ≡ 64) × Tabled (slots_in tab) (top_of m) vis)
-lent h = let c = cut_all h in (c.0, (c.1.0, c.1.1.1))
+  pub turned : {w' : Walk} {held' marks' out' : List ℕ} {u : Unit {0}} → k < n → length held' ≡ length held → marks' ≡ marks → Passes 0 c w w' one (Ok u) → Takes c w out out' one →
+      Rounds c w₀ held₀ marks₀ out₀ n one w' held' marks' out' (k + 1)
+  turned l e q x y = record { turning = turn o.turning l x; filling = filled o.filling l x y; kept = e ∙ o.kept; same = q ∙ o.same }

@@ -8,25 +8,26 @@ use Rattle.clauses.specs.Tree.{Clause}
 use Rattle.clauses.specs.Read.{read_clause}
 use Rattle.semantics.specs.World.{World}
 use Rattle.semantics.specs.Resolve.{State, clause}
-use Rattle.fused.specs.Fused.{Both, when}
+use Rattle.fused.specs.Fused.{Both, Mode, when}
 use Rattle.fused.proofs.ApartClauses.{walks, apart-clause}
 use Rattle.expr.proofs.Inverse.{never}
-use Rattle.steps.specs.Memory.{tables_in, world_at, mode_of}
+use Rattle.steps.specs.Memory.{tables_in, world_at}
+use Rattle.steps.specs.declared.context.Context.{Context}
 use Rattle.clause_walk.specs.Clauses.{clause_at}
 use Rattle.arm_walk.proofs.Carrying.{Carrying, clause-carries}
 
-resolved : (w : World) (b : Bool) (c : Clause) (s : State) → b ≡ true → Carrying s (when b (clause w c) s)
-resolved w true c s q = clause-carries w c s
-resolved w false c s q = never (cc)
+resolved : (w : World) (b : Bool) (k : Clause) (s : State) → b ≡ true → Carrying s (when b (clause w k) s)
+resolved w true k s q = clause-carries w k s
+resolved w false k s q = never (cc)
 
-pub walked-carries : (ws tab : List ℕ) (mode : ℕ) (id : ℕ → ℕ) (s t : Both) (r rest : List ℕ) → (mode_of mode).resolves ≡ true → clause_at ws tab mode id s r ≡ ok t rest → Carrying s.names t.names
-walked-carries ws tab mode id s t r rest q e = go (read_clause (tables_in tab) r) (sym (apart-clause w (tables_in tab) (λ v. refl) (mode_of mode) s r) ∙ e)
+pub walked-carries : (c : Context) (m : Mode) (id : ℕ → ℕ) (s t : Both) (r rest : List ℕ) → m.resolves ≡ true → clause_at c m id s r ≡ ok t rest → Carrying s.names t.names
+walked-carries c m id s t r rest q e = go (read_clause (tables_in c) r) (sym (apart-clause w (tables_in c) (λ v. refl) m s r) ∙ e)
   where
     w : World
-    w = world_at ws tab id
+    w = world_at c id
 
-    go : (g : Got Clause) → bind g (λ c r2. ok (walks w (mode_of mode) c s) r2) ≡ ok t rest → Carrying s.names t.names
-    go (ok c r2) e =
-        let z : walks w (mode_of mode) c s ≡ t = cc in
-        subst (λ (u : Both). Carrying s.names u.names) z (resolved w (mode_of mode).resolves c s.names q)
-    go (no c) e = never (cc)
+    go : (g : Got Clause) → bind g (λ k r2. ok (walks w m k s) r2) ≡ ok t rest → Carrying s.names t.names
+    go (ok k r2) e =
+        let z : walks w m k s ≡ t = cc in
+        subst (λ (u : Both). Carrying s.names u.names) z (resolved w m.resolves k s.names q)
+    go (no n) e = never (cc)

@@ -1,8 +1,7 @@
 // The clauses of a head and the arms, one after the other. What a WITH carries is stored into the carried list behind it, where that has room.
 #![tactic(auto)]
 
-ghost use Rattle.std.specs.Prelude.{◌≡◌, ◌≤◌, length};
-ghost use Rattle.fused.specs.Clauses.{in_arms};
+ghost use Rattle.std.specs.Prelude.{◌≡◌, length};
 ghost use Rattle.visible.specs.Stack.{Sound};
 ghost use Rattle.steps.specs.Modes.{mode_of};
 ghost use Rattle.steps.specs.Hold.{Ready};

@@ -61,12 +61,7 @@ fn bind_unwind(walk: &mut Walk, context: &Context, head: Head, v: u32)
 }
 
 // Unwind: its list is not resolved.
-fn walk_unwind(
-    walk: &mut Walk,
-    context: &Context,
-    head: Head,
-    mode: Mode,
-) -> Result<(), Refusal>
+fn walk_unwind(walk: &mut Walk, context: &Context, head: Head, mode: Mode) -> Result<(), Refusal>
     requires { ((mode_of mode).resolves ≡ true) × Ready 3 context.now walk.old }
     ensures { Passes 3 context.now walk.old walk.new (unwind_at context.now (mode_of mode) head.start head.end) result }
 {
@@ -135,7 +130,14 @@ fn walk_body(
 {
     match head.kind {
         1 => walk_match(walk, context, head, mode),
-        2 => walk_row(walk, context, DEPTH, 1, mode, Settings::all(Setting::General)),
+        2 => walk_row(
+            walk,
+            context,
+            DEPTH,
+            1,
+            mode,
+            Settings::all(Setting::General),
+        ),
         3 => walk_with(walk, context, held, head, mode),
         4 => walk_return(walk, context, head, mode),
         5 => walk_unwind(walk, context, head, mode),

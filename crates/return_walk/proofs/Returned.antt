@@ -1,28 +1,34 @@
--- A RETURN: its projections are walked as rounds, from outside its scope, which is current after them (`opened-cut`, `inner-ready`,
--- `walked-cut`, `return_refused`, `return-passes`; `lend`: with other words held).
-use Prim.Native.Nat.{ℕ, zero, suc, ◌+◌, ◌≤◌}
+-- A RETURN: its projections are walked as rounds, from outside its scope. They are refused (`return_refused`), or its scope is current after them
+-- (`return-passes`).
+use Rattle.std.specs.Prelude.{Result, Ok, Err}
+use Rattle.std.specs.Result.{IsErr, IsErrAnd}
+use Prim.Native.Nat.{ℕ, zero, suc, ◌+◌}
 use native.Mathlib.Omega.{arith}
-use mathlib.Core.Path.{◌≡◌, refl, ◌∙◌}
+use mathlib.Core.Path.{◌≡◌, refl, ap, sym, subst, ◌∙◌}
 use mathlib.Core.Bool.{Bool, true, false}
 use mathlib.Core.List.{List, [], ◌++◌}
-use lib.ListN.{length, drop}
+use lib.ListN.{drop}
+use Rattle.refusal.specs.declared.Refusal.{Refusal}
 use Rattle.heads.specs.Got.{Got, ok, no, bind, word_in, any_word}
 use Rattle.heads.specs.Head.{Tables}
 use Rattle.clauses.specs.Read.{alias_of}
 use Rattle.semantics.specs.World.{World}
-use Rattle.semantics.specs.Resolve.{enter, leave, alias_in}
+use Rattle.semantics.specs.Resolve.{Seen, enter, leave, standing, alias_in}
 use Rattle.semantics.specs.Kinds.{general}
 use Rattle.fused.specs.Fused.{Both, Mode, Go, rounds, step}
 use Rattle.fused.specs.Clauses.{within, aliased, projections_go, returned, return_go}
-use Rattle.visible.specs.Visible.{Tabled}
-use Rattle.steps.specs.Memory.{at_of, top_of, cur_of, last_of, said_of, told_of, lost_of, held_of, slots_in, tables_in, world_at, mode_of}
-use Rattle.steps.specs.Hold.{Fit, Holds, Frame, Steps, Ready, Left, on_names}
-use Rattle.steps.proofs.Held.{Numbers, unset, store, lower, refit, framed, frame-more, recounted}
-use Rattle.steps.proofs.Moved.{left-numbers, left-fits, left-frame, left-holds}
-use Rattle.walk.specs.Goes.{Goer, Walked}
+use Rattle.visible.specs.Visible.{seens}
+use Rattle.visible.specs.Stack.{entries}
+use Rattle.steps.specs.Memory.{words_in, tables_in, world_at}
+use Rattle.steps.specs.Hold.{Fit, Holds, Frame, Still, Steps, Ready, Left, on_names}
+use Rattle.steps.specs.declared.Walk.{Walk}
+use Rattle.steps.specs.declared.context.Context.{Context}
+use Rattle.steps.proofs.Held.{lower, framed, frame-more, still-then}
+use Rattle.steps.proofs.Moved.{left-fits, left-frame, left-holds}
+use Rattle.walk.specs.Goes.{Walked, rest_in}
 use Rattle.clause_parts.specs.Passes.{Passes}
+use Rattle.clause_parts.proofs.Cleared.{below-descends, cut_still, cut_fits, cut_holds, cut_at, names-step}
 use Rattle.return_walk.specs.Returns.{output_at, hushed_at, outside_at, return_at}
-use Rattle.clause_parts.proofs.Cleared.{below-descends, names-step}
 
 -- ---- projections whose aliases nobody asks for
 module _ (P : List ℕ → Both → List ℕ → Got (Both × List ℕ)) (R : Go) (f : Both → Both) (same : (xs : List ℕ) (s : Both) (r : List ℕ) → bind (P xs s r) (λ x r2. ok (f x.0) r2) ≡ bind (R s r) (λ u r2. ok (f u) r2))
@@ -47,121 +53,91 @@ module _ (w : World) (t : Tables) (m : Mode) (f : Both → Both) where
 
 -- ---- a RETURN
 -- what is walked from outside the scope, and then its scope is current
-module _ (ws tab : List ℕ) (mode a b : ℕ) (id : ℕ → ℕ) (s : Both) where
+module _ (c : Context) (m : Mode) (a b : ℕ) (id : ℕ → ℕ) (s : Both) where
   abbrev outside : Both
-  outside = step (mode_of mode) (λ y. leave y (enter 8 a b y)) [] s
+  outside = step m (λ y. leave y (enter 8 a b y)) [] s
 
   abbrev ended : Both → List ℕ → Got Both
-  ended u r = ok (returned (mode_of mode) s u) r
+  ended u r = ok (returned m s u) r
 
-  return-as : (sorts : Bool) (r : List ℕ) → return_at ws tab mode sorts a b id s r ≡ bind (outside_at ws tab mode sorts id outside r) ended
+  return-as : (sorts : Bool) (r : List ℕ) → return_at c m sorts a b id s r ≡ bind (outside_at c m sorts id outside r) ended
   unfolding return_go
   return-as false r = go (any_word r)
     where
-      go : (g : Got ℕ) → bind g (λ n r1. bind (projections_go (world_at ws tab id) (tables_in tab) aliased (mode_of mode) n [] outside r1) (λ x r2. ended x.0 r2)) ≡ bind (bind g (λ n r1. rounds n (output_at ws tab mode id) outside r1)) ended
-      go (ok n r1) = outputs-as (world_at ws tab id) (tables_in tab) (mode_of mode) (returned (mode_of mode) s) n [] outside r1
+      go : (g : Got ℕ) → bind g (λ n r1. bind (projections_go (world_at c id) (tables_in c) aliased m n [] outside r1) (λ x r2. ended x.0 r2)) ≡ bind (bind g (λ n r1. rounds n (output_at c m id) outside r1)) ended
+      go (ok n r1) = outputs-as (world_at c id) (tables_in c) m (returned m s) n [] outside r1
       go (no e) = refl
   return-as true r = go (any_word r)
     where
       P : ℕ → List ℕ → Got (Both × List ℕ)
-      P n r1 = projections_go (world_at ws tab id) (tables_in tab) aliased (mode_of mode) n [] outside r1
+      P n r1 = projections_go (world_at c id) (tables_in c) aliased m n [] outside r1
 
-      inner : (g : Got (Both × List ℕ)) → bind g (λ x r2. bind (hushed_at ws tab mode x.1 id x.0 r2) ended) ≡ bind (bind g (λ x r2. hushed_at ws tab mode x.1 id x.0 r2)) ended
+      inner : (g : Got (Both × List ℕ)) → bind g (λ x r2. bind (hushed_at c m x.1 id x.0 r2) ended) ≡ bind (bind g (λ x r2. hushed_at c m x.1 id x.0 r2)) ended
       inner (ok x r2) = refl
       inner (no e) = refl
 
-      go : (g : Got ℕ) → bind g (λ n r1. bind (P n r1) (λ x r2. bind (hushed_at ws tab mode x.1 id x.0 r2) ended)) ≡ bind (bind g (λ n r1. bind (P n r1) (λ x r2. hushed_at ws tab mode x.1 id x.0 r2))) ended
+      go : (g : Got ℕ) → bind g (λ n r1. bind (P n r1) (λ x r2. bind (hushed_at c m x.1 id x.0 r2) ended)) ≡ bind (bind g (λ n r1. bind (P n r1) (λ x r2. hushed_at c m x.1 id x.0 r2))) ended
       go (ok n r1) = inner (P n r1)
       go (no e) = refl
 
--- what `leave` asks
-pub opened-cut : {ws tab m vis found m1 vis1 found1 : List ℕ} {F : (ℕ → ℕ) → Both → Both} → Ready 3 ws tab m vis found → Steps 1 ws tab m vis found m1 vis1 found1 F → (10 ≤ length tab) × ((length m1 ≡ 64) × ((top_of m ≤ top_of m1) × Tabled (slots_in tab) (top_of m1) vis1))
-opened-cut h x =
-    let f = x.fit 2 2 h.fit in
-    let l = h.fine.long in
-    (omega arith, (f.size, (x.frame.top, f.tabled)))
+-- the names before it are visible again, and its scope is current
+returned-as : (m : Mode) (s u : Both) {l : List Seen} {k : ℕ} → m.resolves ≡ true → l ≡ s.names.visible → k ≡ suc s.names.last → on_names (standing l k) u ≡ returned m s u
+returned-as m s u q e f = rw (e, f, q)
 
--- the scope is opened and left (m2), the expressions are walked (m3), and its scope is current with the names that were visible (m4)
-module _ {ws tab m vis found m1 found1 m2 vis2 : List ℕ} {a b : ℕ} (ready : Ready 3 ws tab m vis found) (x : Steps 1 ws tab m vis found m1 vis found1 (λ id. on_names (enter 8 a b)))
-    (p : Left tab m1 vis m2 vis2 (top_of m) (cur_of m)) where
-  inner-fits : (k : ℕ) → Fit (3 + k) ws tab m vis found → Fit (2 + k) ws tab m2 vis2 found1
-  inner-fits k f = left-fits f (x.fit (2 + k) (2 + k) (lower (omega arith) (omega arith) f)) x.frame p
+-- the scope is opened (w1) and left (w2), the expressions are walked (w3), and its scope is current with the names that were visible (w4)
+module _ {c : Context} {w w1 w2 : Walk} {a b : ℕ} (ready : Ready 3 c w) (x : Steps 1 c w w1 (λ id. on_names (enter 8 a b))) (p : Left w1 w2 w.visible.top w.cur) where
+  opened-fits : (k : ℕ) → Fit (3 + k) c w → Fit (2 + k) c w1
+  opened-fits k f = x.fit (2 + k) (2 + k) (lower (omega arith) (omega arith) f)
 
-  inner-frame : Frame 0 tab m vis m2 vis2
-  inner-frame = left-frame ready.fit (x.fit 2 2 ready.fit) x.frame p
+  inner-fits : (k : ℕ) → Fit (3 + k) c w → Fit (2 + k) c w2
+  inner-fits k f = left-fits f (opened-fits k f) x.still x.frame p
 
-  inner-holds : {id : ℕ → ℕ} {s : Both} → Holds id tab m vis found s → Holds id tab m2 vis2 found1 (on_names (λ y. leave y (enter 8 a b y)) s)
-  inner-holds {id} {s} h = left-holds ready.fit (x.fit 2 2 ready.fit) x.frame p h (x.goes id s h)
+  inner-frame : Frame 0 w w2
+  inner-frame = left-frame ready.fit (opened-fits 0 ready.fit) x.still x.frame p
 
-  pub inner-ready : Ready 0 ws tab m2 vis2 found1
-  inner-ready = record { fine = ready.fine; fit = lower (omega arith) (omega arith) (inner-fits 0 ready.fit) }
+  inner-still : Still w w2
+  inner-still = still-then x.still (cut_still p)
 
-  inner-sizes : (length m2 ≡ length m) × ((length vis2 ≡ length vis) × (last_of m2 ≡ last_of m1))
-  inner-sizes =
-      let q = left-numbers ready.fit (x.fit 2 2 ready.fit) x.frame p in
-      (q.size ∙ x.sized, (p.kept, q.last))
+  inner-at : w2.at ≡ w.at
+  inner-at = cut_at p ∙ x.at
 
-  pub walked-cut : {m3 vis3 found3 : List ℕ} {G : Goer} (e : ℕ) → e ≡ 0 → Walked 48 ws tab m2 vis2 found1 m3 vis3 found3 G e → (10 ≤ length tab) × ((length m3 ≡ 64) × ((top_of m ≤ top_of m3) × Tabled (slots_in tab) (top_of m3) vis3))
-  walked-cut e q w =
-      let y = rw q at w.goes in
-      let g = y.fit 2 (inner-fits 0 ready.fit) in
-      let l = ready.fine.long in
-      let a = inner-frame.top in
-      let b = y.frame.top in
-      (omega arith, (g.size, (omega arith, g.tabled)))
+  inner-holds : {id : ℕ → ℕ} {s : Both} → Holds id c w s → Holds id c w2 (on_names (λ y. leave y (enter 8 a b y)) s)
+  inner-holds {id} {s} h = left-holds ready.fit (opened-fits 0 ready.fit) x.still x.frame p h (x.goes id s h)
 
-  pub return_refused : {m3 vis3 found3 held held' : List ℕ} (mode e : ℕ) (sorts : Bool) → (mode_of mode).resolves ≡ true → (e ≡ 0 → ⊥) → length held' ≡ length held → Walked 48 ws tab m2 vis2 found1 m3 vis3 found3 (outside_at ws tab mode sorts) e → Passes 3 ws tab m vis found held m3 vis3 found3 held' (return_at ws tab mode sorts a b) e
-  return_refused mode zero sorts live q k w = absurd (q refl)
-  return_refused mode (suc e) sorts live q k w =
-      let z = inner-sizes in
-      let at : at_of m2 ≡ at_of m = (left-numbers ready.fit (x.fit 2 2 ready.fit) x.frame p).at ∙ x.at in
-      record {
-        sized = w.sized ∙ z.0;
-        seen = w.seen ∙ z.1.0;
-        wrote = w.wrote ∙ x.wrote;
-        kept = k;
-        passes = λ id s h. return-as ws tab mode a b id s sorts (drop (at_of m) ws) ∙ rw (names-step (mode_of mode) (λ y. leave y (enter 8 a b y)) s live, ← at, w.goes id _ (inner-holds h));
-      }
+  inner-go : (m : Mode) (sorts : Bool) → m.resolves ≡ true → (id : ℕ → ℕ) (s : Both) →
+      return_at c m sorts a b id s (rest_in c w) ≡ bind (outside_at c m sorts id (on_names (λ y. leave y (enter 8 a b y)) s) (rest_in c w2)) (ended c m a b id s)
+  inner-go m sorts live id s =
+      return-as c m a b id s sorts (rest_in c w)
+      ∙ rw (names-step m (λ y. leave y (enter 8 a b y)) s live) (ap (λ (k : ℕ). bind (outside_at c m sorts id (on_names (λ y. leave y (enter 8 a b y)) s) (drop k (words_in c))) (ended c m a b id s)) (sym inner-at))
 
-  pub return-passes : {m3 vis3 found3 m4 vis4 held held' : List ℕ} (mode e : ℕ) (sorts : Bool) → (mode_of mode).resolves ≡ true → e ≡ 0 → length held' ≡ length held → Walked 48 ws tab m2 vis2 found1 m3 vis3 found3 (outside_at ws tab mode sorts) e → Left tab m3 vis3 m4 vis4 (top_of m) (cur_of m1) → Passes 3 ws tab m vis found held m4 vis4 found3 held' (return_at ws tab mode sorts a b) 0
-  return-passes {m3 = m3} {m4 = m4} mode e sorts live none' still w l =
-      let z = inner-sizes in
-      let y = rw none' at w.goes in
-      let g₀ = y.fit 2 (inner-fits 0 ready.fit) in
-      let q : Numbers m3 m4 (at_of m3) (top_of m) (cur_of m1) (last_of m3) (said_of m3) (told_of m3) (lost_of m3) (held_of m3) =
-      rw l.numbers (store 2 (cur_of m1) (omega arith) g₀.size (store 1 (top_of m) (omega arith) g₀.size unset)) in
-      let at : at_of m2 ≡ at_of m = (left-numbers ready.fit (x.fit 2 2 ready.fit) x.frame p).at ∙ x.at in
-      let fr = framed (frame-more {j = 48} (omega arith) inner-frame) y.frame in
-      let see = l.below ∙ fr.below in
-      record {
-        sized = q.size ∙ w.sized ∙ z.0;
-        seen = l.kept ∙ w.seen ∙ z.1.0;
-        wrote = w.wrote ∙ x.wrote;
-        kept = still;
-        passes = record {
-          from = omega (arith, q.at, y.from, at);
-          fit = λ k f. let g1 = x.fit (2 + k) (2 + k) (lower (omega arith) (omega arith) f) in let g = y.fit (2 + k) (inner-fits k f) in
-              refit g q l.kept refl l.tabled
-              (rw see (below-descends (slots_in tab) (top_of m) (top_of m1) (cur_of m1) vis x.frame.top g1.descends))
-              (omega (arith, g1.cur, z.1.1, y.frame.last)) (omega (arith, g.last)) (omega (arith, g.count)) (omega (arith, g.stack, fr.top)) (omega arith);
-          goes = λ id s h. let v = y.goes id _ (inner-holds h) in
-              record {
-                state = returned (mode_of mode) s v.state;
-                holds = record {
-                  visible = rw (q.top, see, live) h.visible;
-                  cur = rw (q.cur, live) (x.goes id s h).cur;
-                  last = rw (q.last, live) v.holds.last;
-                  log = rw (q.said, live) v.holds.log;
-                  kinds = rw q.told v.holds.kinds;
-                  known = rw q.lost v.holds.known;
-                  counts = rw live (recounted q v.holds.counts);
-                  uses = v.holds.uses;
+  module _ (m : Mode) (sorts : Bool) (live : m.resolves ≡ true) {w3 : Walk} where
+    pub return_refused : {e : Refusal} (r : Result (Unit {0}) Refusal) → Walked 48 c w2 w3 (outside_at c m sorts) (Err e) → IsErr r × IsErrAnd r (λ y. y ≡ e) → Passes 3 c w w3 (return_at c m sorts a b) r
+    return_refused (Err e) y q =
+        record {
+          still = still-then inner-still y.still;
+          passes = record { same = λ id s h. inner-go m sorts live id s ∙ rw (y.goes.same id _ (inner-holds h), q.1) };
+        }
+    return_refused (Ok u) y q = absurd q.1
+
+    pub return-passes : {w4 : Walk} {u : Unit {0}} → Walked 48 c w2 w3 (outside_at c m sorts) (Ok u) → Left w3 w4 w.visible.top w1.cur → Passes 3 c w w4 (return_at c m sorts a b) (Ok u)
+    return-passes {w4} {u} y l =
+        let z = y.goes in
+        let frame = framed {room = 48} inner-still (frame-more {j = 48} (omega arith) inner-frame) z.frame in
+        let still = still-then inner-still y.still in
+        let see : seens w3.visible.names w.visible.top w3.visible.words.now ≡ entries w.visible = rw still.visible.names frame.below in
+        record {
+          still = still-then still (cut_still l);
+          passes = record {
+            from = omega (arith, z.from, inner-at, cut_at l);
+            fit = λ k f. let g1 = opened-fits k f in let g = z.fit (2 + k) (inner-fits k f) in
+                cut_fits l (lower (omega arith) (omega arith) g) frame.top
+                (rw (see, ← x.frame.below, ← x.still.visible.names) (below-descends w1.visible.names w.visible.top w1.visible.top w1.cur w1.visible.words.now x.frame.top g1.descends))
+                (omega (arith, g1.cur, ap (λ (v : Walk). v.last) p.same, z.frame.last));
+            goes = λ id s h. let v = z.goes id _ (inner-holds h) in
+                record {
+                  state = returned m s v.state;
+                  holds = subst (λ t. Holds id c w4 t) (returned-as m s v.state live (see ∙ h.visible) (x.goes id s h).cur) (cut_holds l v.holds);
+                  same = inner-go m sorts live id s ∙ rw v.same (ap (λ (k : ℕ). ok (returned m s v.state) (drop k (words_in c))) (sym (cut_at l)));
                 };
-                same = return-as ws tab mode a b id s sorts (drop (at_of m) ws) ∙ rw (names-step (mode_of mode) (λ y. leave y (enter 8 a b y)) s live, ← at, v.same, q.at);
-              };
-        };
-      }
-
--- with other words held
-pub lend : {j : ℕ} {ws tab m vis found m' vis' found' l l' held held' : List ℕ} {G : Goer} {r : ℕ} → length held' ≡ length held → Passes j ws tab m vis found l m' vis' found' l' G r → Passes j ws tab m vis found held m' vis' found' held' G r
-lend e x = record { sized = x.sized; seen = x.seen; wrote = x.wrote; kept = e; passes = x.passes }
+          };
+        }

@@ -3,91 +3,61 @@ use Rattle.std.specs.Prelude.{None}
 use mathlib.Core.List.{[]}
 use mathlib.Core.Path.{refl}
 use native.Mathlib.Omega.{arith}
-use Rattle.fused.specs.Clauses.{arm_go}
 use Rattle.heads.proofs.Chain.{step, last}
 use Rattle.heads.specs.Got.{word_in}
 use Rattle.semantics.specs.Resolve.{standing}
-use Rattle.steps.specs.Hold.{on_names}
-use Rattle.walk.proofs.Stage.{start, ready}
-use Rattle.words.specs.Words.{words}
-use Rattle.clause_walk.proofs.Bodies.{cut_all}
-use Rattle.clause_parts.proofs.Passing.{asked, last_one, past, halted}
+use Rattle.fused.specs.Clauses.{arm_go}
+use Rattle.steps.specs.Hold.{Ready, on_names}
+use Rattle.steps.specs.declared.Walk.{Walk}
+use Rattle.steps.specs.declared.context.Context.{Context}
+use Rattle.walk.proofs.Stage.{Stage, start, ready}
+use Rattle.clause_parts.proofs.Passing.{last_one, past, halted}
 use Rattle.clause_parts.proofs.Cleared.{cleared}
+use Rattle.clause_walk.specs.Clauses.{names_alone}
+use Rattle.arm_walk.specs.Clauses.{both_walks, arm_at, clauses_at}
 use Rattle.arm_walk.proofs.Taken.{refused-takes}
 use Rattle.arm_walk.proofs.Arms.{arm-takes}
-use Rattle.arm_walk.specs.Clauses.{arm_at, clauses_at}
 use Rattle.arm_walk.proofs.walk_arm.Goals as goal
 
-pub next_word-requires : goal.next_word-requires
+begun : {c : Context} {w : Walk} → Ready 0 c w →
+    Stage None 0 c w (arm_at c both_walks) 0 w (λ id u v. step (word_in 0 4294967296) (λ x. step (word_in x 4294967296) (λ y. step (word_in 0 4294967296) (λ n. last (clauses_at c names_alone n id (on_names (standing [] 0) v))))))
 unfolding arm_go
-next_word-requires c =
-    asked c.requires.1
+begun h = start _ h (λ id s r. refl)
 
-pub returns-in_default : goal.returns-in_default
-unfolding arm_go
-returns-in_default c =
-    let begun = let a = c.args in start {keep = None} {G = arm_at (words a.s.now) a.tab.now 192} (λ id u w. step (word_in 0 4294967296) (λ x. step (word_in x 4294967296) (λ y. step (word_in 0 4294967296) (λ n. last (clauses_at (words a.s.now) a.tab.now 64 n id (on_names (standing [] 0) w)))))) c.requires.1 (λ id s r. refl) in
-    let fell = halted begun c.next_word.ensures c.in_default.is refl in
-    record { takes = refused-takes 5 (λ z. omega arith) refl fell; tab_unchanged = (refl, fell) }
+pub returns-in_err-start-clause-takes : goal.returns-in_err-start-clause-takes
+returns-in_err-start-clause-takes c =
+    refused-takes _ c.from_residual.ensures.0 refl (halted _ (begun c.requires.1) c.in_err-start.ensures c.from_residual.ensures)
 
-pub next_word-requires-2 : goal.next_word-requires-2
-unfolding arm_go
-next_word-requires-2 c =
-    let begun = let a = c.args in start {keep = None} {G = arm_at (words a.s.now) a.tab.now 192} (λ id u w. step (word_in 0 4294967296) (λ x. step (word_in x 4294967296) (λ y. step (word_in 0 4294967296) (λ n. last (clauses_at (words a.s.now) a.tab.now 64 n id (on_names (standing [] 0) w)))))) c.requires.1 (λ id s r. refl) in
-    let one = past begun c.next_word.ensures c.in-Some.is in
-    asked (ready {i = 0} (omega arith) c.requires.1 one)
+pub returns-in_err-start-clause-passes : goal.returns-in_err-start-clause-passes
+returns-in_err-start-clause-passes c =
+    halted _ (begun c.requires.1) c.in_err-start.ensures c.from_residual.ensures
 
-pub returns-in_default-next_word : goal.returns-in_default-next_word
-unfolding arm_go
-returns-in_default-next_word c =
-    let begun = let a = c.args in start {keep = None} {G = arm_at (words a.s.now) a.tab.now 192} (λ id u w. step (word_in 0 4294967296) (λ x. step (word_in x 4294967296) (λ y. step (word_in 0 4294967296) (λ n. last (clauses_at (words a.s.now) a.tab.now 64 n id (on_names (standing [] 0) w)))))) c.requires.1 (λ id s r. refl) in
-    let one = past begun c.next_word.ensures c.in-Some.is in
-    let fell2 = halted one c.next_word-2.ensures c.in_default-next_word.is refl in
-    record { takes = refused-takes 5 (λ z. omega arith) refl fell2; tab_unchanged = (refl, fell2) }
+pub returns-in_err-next_word-clause-takes : goal.returns-in_err-next_word-clause-takes
+returns-in_err-next_word-clause-takes c =
+    refused-takes _ c.from_residual-in_err-next_word.ensures.0 refl (halted _ (past (begun c.requires.1) c.in_ok-start.ensures) c.in_err-next_word.ensures c.from_residual-in_err-next_word.ensures)
 
-pub next_word-requires-3 : goal.next_word-requires-3
-unfolding arm_go
-next_word-requires-3 c =
-    let begun = let a = c.args in start {keep = None} {G = arm_at (words a.s.now) a.tab.now 192} (λ id u w. step (word_in 0 4294967296) (λ x. step (word_in x 4294967296) (λ y. step (word_in 0 4294967296) (λ n. last (clauses_at (words a.s.now) a.tab.now 64 n id (on_names (standing [] 0) w)))))) c.requires.1 (λ id s r. refl) in
-    let one = past begun c.next_word.ensures c.in-Some.is in
-    let two = past one c.next_word-2.ensures c.in-Some-next_word.is in
-    asked (ready {i = 0} (omega arith) c.requires.1 two)
+pub returns-in_err-next_word-clause-passes : goal.returns-in_err-next_word-clause-passes
+returns-in_err-next_word-clause-passes c =
+    halted _ (past (begun c.requires.1) c.in_ok-start.ensures) c.in_err-next_word.ensures c.from_residual-in_err-next_word.ensures
 
-pub returns-in_default-next_word-2 : goal.returns-in_default-next_word-2
-unfolding arm_go
-returns-in_default-next_word-2 c =
-    let begun = let a = c.args in start {keep = None} {G = arm_at (words a.s.now) a.tab.now 192} (λ id u w. step (word_in 0 4294967296) (λ x. step (word_in x 4294967296) (λ y. step (word_in 0 4294967296) (λ n. last (clauses_at (words a.s.now) a.tab.now 64 n id (on_names (standing [] 0) w)))))) c.requires.1 (λ id s r. refl) in
-    let one = past begun c.next_word.ensures c.in-Some.is in
-    let two = past one c.next_word-2.ensures c.in-Some-next_word.is in
-    let fell3 = halted two c.next_word-3.ensures c.in_default-next_word-2.is refl in
-    record { takes = refused-takes 5 (λ z. omega arith) refl fell3; tab_unchanged = (refl, fell3) }
+pub returns-in_err-n-clause-takes : goal.returns-in_err-n-clause-takes
+returns-in_err-n-clause-takes c =
+    refused-takes _ c.from_residual-in_err-n.ensures.0 refl (halted _ (past (past (begun c.requires.1) c.in_ok-start.ensures) c.in_ok-next_word.ensures) c.in_err-n.ensures c.from_residual-in_err-n.ensures)
 
-pub leave-requires : goal.leave-requires
-unfolding arm_go
-leave-requires c =
-    let begun = let a = c.args in start {keep = None} {G = arm_at (words a.s.now) a.tab.now 192} (λ id u w. step (word_in 0 4294967296) (λ x. step (word_in x 4294967296) (λ y. step (word_in 0 4294967296) (λ n. last (clauses_at (words a.s.now) a.tab.now 64 n id (on_names (standing [] 0) w)))))) c.requires.1 (λ id s r. refl) in
-    let one = past begun c.next_word.ensures c.in-Some.is in
-    let two = past one c.next_word-2.ensures c.in-Some-next_word.is in
-    let three = past two c.next_word-3.ensures c.in-Some-next_word-2.is in
-    cut_all (ready {i = 0} (omega arith) c.requires.1 three)
+pub returns-in_err-n-clause-passes : goal.returns-in_err-n-clause-passes
+returns-in_err-n-clause-passes c =
+    halted _ (past (past (begun c.requires.1) c.in_ok-start.ensures) c.in_ok-next_word.ensures) c.in_err-n.ensures c.from_residual-in_err-n.ensures
 
 pub walk_clauses-requires : goal.walk_clauses-requires
-unfolding arm_go
 walk_clauses-requires c =
-    let begun = let a = c.args in start {keep = None} {G = arm_at (words a.s.now) a.tab.now 192} (λ id u w. step (word_in 0 4294967296) (λ x. step (word_in x 4294967296) (λ y. step (word_in 0 4294967296) (λ n. last (clauses_at (words a.s.now) a.tab.now 64 n id (on_names (standing [] 0) w)))))) c.requires.1 (λ id s r. refl) in
-    let one = past begun c.next_word.ensures c.in-Some.is in
-    let two = past one c.next_word-2.ensures c.in-Some-next_word.is in
-    let three = past two c.next_word-3.ensures c.in-Some-next_word-2.is in
-    let four = let a = c.args in cleared (λ id u w. last (clauses_at (words a.s.now) a.tab.now 64 c.in-Some-next_word-2.n id w)) c.leave.ensures three in
-    (c.requires.0, ready (omega arith) c.requires.1 four)
+    let three = past (past (past (begun c.requires.1) c.in_ok-start.ensures) c.in_ok-next_word.ensures) c.in_ok-n.ensures in
+    (c.requires.0, ready (omega arith) c.requires.1 (cleared (λ id u v. last (clauses_at c.args.context.now names_alone c.in_ok-n.n id v)) c.leave.ensures three))
 
-pub returns : goal.returns
-unfolding arm_go
-returns c =
-    let begun = let a = c.args in start {keep = None} {G = arm_at (words a.s.now) a.tab.now 192} (λ id u w. step (word_in 0 4294967296) (λ x. step (word_in x 4294967296) (λ y. step (word_in 0 4294967296) (λ n. last (clauses_at (words a.s.now) a.tab.now 64 n id (on_names (standing [] 0) w)))))) c.requires.1 (λ id s r. refl) in
-    let one = past begun c.next_word.ensures c.in-Some.is in
-    let two = past one c.next_word-2.ensures c.in-Some-next_word.is in
-    let three = past two c.next_word-3.ensures c.in-Some-next_word-2.is in
-    let four = let a = c.args in cleared (λ id u w. last (clauses_at (words a.s.now) a.tab.now 64 c.in-Some-next_word-2.n id w)) c.leave.ensures three in
-    let ended = last_one _ (omega arith) refl four c.walk_clauses.ensures.tab_unchanged.1 in
-    record { takes = arm-takes c.requires.1.fit.size c.next_word.ensures c.in-Some.is c.next_word-2.ensures c.in-Some-next_word.is c.next_word-3.ensures c.in-Some-next_word-2.is c.leave.ensures c.walk_clauses.ensures.takes; tab_unchanged = (c.walk_clauses.ensures.tab_unchanged.0, ended) }
+pub returns-clause-takes : goal.returns-clause-takes
+returns-clause-takes c =
+    arm-takes c.in_ok-start.ensures c.in_ok-next_word.ensures c.in_ok-n.ensures c.leave.ensures c.walk_clauses.ensures.takes
+
+pub returns-clause-passes : goal.returns-clause-passes
+returns-clause-passes c =
+    let three = past (past (past (begun c.requires.1) c.in_ok-start.ensures) c.in_ok-next_word.ensures) c.in_ok-n.ensures in
+    last_one _ (omega arith) (cleared (λ id u v. last (clauses_at c.args.context.now names_alone c.in_ok-n.n id v)) c.leave.ensures three) c.walk_clauses.ensures.passes

@@ -1,37 +1,31 @@
--- A loop of rounds, to which tab is lent (`Rounds`), each of which stores what it carries (`Filling`).
+-- A loop of rounds, each of which stores what it carries (`Rounds`).
 use mathlib.Core.Path.{◌∙◌}
 use native.Mathlib.Omega.{arith}
-use Rattle.arm_walk.proofs.Rounds.{set_out, asks, turned, fallen, ended}
-use Rattle.arm_walk.proofs.Taken.{unfilled, filled, full, refused-takes}
+use Rattle.clause_parts.proofs.Passing.{fall, over}
+use Rattle.arm_walk.proofs.Rounds.{asks, turned}
+use Rattle.arm_walk.proofs.Taken.{full, refused-takes}
 use Rattle.arm_walk.proofs.walk_arms.Goals as goal
 
-pub loop-left-init : goal.loop-left-init
-loop-left-init c =
-    (set_out _ _ c.requires.1, unfilled)
+pub walk_arm-requires : goal.walk_arm-requires
+walk_arm-requires c = asks c.loop.invariant c.requires
 
-pub walk_arm-r-requires : goal.walk_arm-r-requires
-walk_arm-r-requires c =
-    asks c.loop-left.invariant.0 c.requires
+pub returns-in_err-walk_arm-clause-takes : goal.returns-in_err-walk_arm-clause-takes
+returns-in_err-walk_arm-clause-takes c =
+    let o = c.loop.invariant in
+    let e = c.in_err-walk_arm.ensures in
+    refused-takes _ c.from_residual.ensures.0 (e.takes.kept ∙ o.filling.kept) (fall o.turning _ (omega arith) e.passes c.from_residual.ensures)
 
-pub returns-then-r-ne0 : goal.returns-then-r-ne0
-returns-then-r-ne0 c =
-    let fell = fallen c.loop-left.invariant.0 _ c.loop-left-test.true c.if-r-ne0.true c.walk_arm-r.ensures.tab_unchanged in
-    let size = c.walk_arm-r.ensures.takes.kept ∙ c.loop-left.invariant.1.kept in
-    record { takes = refused-takes _ c.if-r-ne0.true size fell.1; tab_unchanged = fell }
+pub returns-in_err-walk_arm-clause-passes : goal.returns-in_err-walk_arm-clause-passes
+returns-in_err-walk_arm-clause-passes c =
+    fall c.loop.invariant.turning _ (omega arith) c.in_err-walk_arm.ensures.passes c.from_residual.ensures
 
-pub overflow_sub-left : goal.overflow_sub-left
-overflow_sub-left c =
-    omega (arith, c.loop-left-test.true)
+pub loop-preserved : goal.loop-preserved
+loop-preserved c =
+    let e = c.in_ok-walk_arm.ensures in
+    turned c.loop.invariant (omega arith) e.kept e.same e.passes e.takes
 
-pub loop-left-smaller : goal.loop-left-smaller
-loop-left-smaller c =
-    omega (arith, c.loop-left-test.true)
+pub returns-clause-takes : goal.returns-clause-takes
+returns-clause-takes c = full c.loop.invariant.filling (omega arith)
 
-pub loop-left-preserved : goal.loop-left-preserved
-loop-left-preserved c =
-    (turned c.loop-left.invariant.0 c.loop-left-test.true c.if-r-ne0.false c.walk_arm-r.ensures.tab_unchanged, filled c.loop-left.invariant.0 c.loop-left.invariant.1 c.loop-left-test.true c.if-r-ne0.false c.walk_arm-r.ensures.tab_unchanged c.walk_arm-r.ensures.takes)
-
-pub returns : goal.returns
-returns c =
-    let over = ended c.loop-left.invariant.0 c.loop-left-test.false in
-    record { takes = full c.loop-left.invariant.1 c.loop-left-test.false; tab_unchanged = over }
+pub returns-clause-passes : goal.returns-clause-passes
+returns-clause-passes c = over c.loop.invariant.turning (omega arith)

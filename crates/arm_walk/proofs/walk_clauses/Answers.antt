@@ -1,45 +1,35 @@
--- A loop of rounds, to which tab is lent (`Rounds`), and after each of which what it carries is stored (`Filling`).
+-- A loop of rounds, after each of which what it carries is stored (`Rounds`).
 use native.Mathlib.Omega.{arith}
-use Rattle.arm_walk.proofs.Rounds.{set_out, asks, turned, fallen, ended, lent}
-use Rattle.arm_walk.proofs.Taken.{unfilled, filled, full, refused-takes, clause-takes}
+use Rattle.steps.specs.Modes.{mode_of}
+use Rattle.clause_parts.proofs.Passing.{fall, over}
+use Rattle.arm_walk.proofs.Rounds.{asks, turned}
+use Rattle.arm_walk.proofs.Taken.{full, refused-takes, clause-takes}
 use Rattle.arm_walk.proofs.walk_clauses.Goals as goal
 
-pub loop-left-init : goal.loop-left-init
-loop-left-init c =
-    (set_out _ _ c.requires.1, unfilled)
+pub walk_clause-requires : goal.walk_clause-requires
+walk_clause-requires c = asks c.loop.invariant c.requires
 
-pub bounds-m-9 : goal.bounds-m-9
-bounds-m-9 c =
-    omega (arith, (asks c.loop-left.invariant.0 c.requires).1.fit.size)
+pub returns-in_err-walk_clause-clause-takes : goal.returns-in_err-walk_clause-clause-takes
+returns-in_err-walk_clause-clause-takes c =
+    let o = c.loop.invariant in
+    let e = c.in_err-walk_clause.ensures in
+    refused-takes _ c.from_residual.ensures.0 o.filling.kept (fall o.turning _ (omega arith) e.passes c.from_residual.ensures)
 
-pub walk_clause-r-requires : goal.walk_clause-r-requires
-walk_clause-r-requires c =
-    asks c.loop-left.invariant.0 c.requires
-
-pub returns-then-r-ne0 : goal.returns-then-r-ne0
-returns-then-r-ne0 c =
-    let fell = fallen c.loop-left.invariant.0 _ c.loop-left-test.true c.if-r-ne0.true c.walk_clause-r.ensures in
-    record { takes = refused-takes _ c.if-r-ne0.true c.loop-left.invariant.1.kept fell.1; tab_unchanged = fell }
+pub returns-in_err-walk_clause-clause-passes : goal.returns-in_err-walk_clause-clause-passes
+returns-in_err-walk_clause-clause-passes c =
+    fall c.loop.invariant.turning _ (omega arith) c.in_err-walk_clause.ensures.passes c.from_residual.ensures
 
 pub take_carried-requires : goal.take_carried-requires
 take_carried-requires c =
-    let on = turned c.loop-left.invariant.0 c.loop-left-test.true c.if-r-ne0.false c.walk_clause-r.ensures in
-    lent (asks on c.requires).1
+    (c.in_ok-walk_clause.ensures.passes.passes.fit 0 (asks c.loop.invariant c.requires).1.fit).sound
 
-pub overflow_sub-left : goal.overflow_sub-left
-overflow_sub-left c =
-    omega (arith, c.loop-left-test.true)
+pub loop-preserved : goal.loop-preserved
+loop-preserved c =
+    let e = c.in_ok-walk_clause.ensures in
+    turned c.loop.invariant (omega arith) e.kept e.same e.passes (clause-takes (mode_of c.args.mode) c.requires.0.0.resolves e.passes c.take_carried.ensures)
 
-pub loop-left-smaller : goal.loop-left-smaller
-loop-left-smaller c =
-    omega (arith, c.loop-left-test.true)
+pub returns-clause-takes : goal.returns-clause-takes
+returns-clause-takes c = full c.loop.invariant.filling (omega arith)
 
-pub loop-left-preserved : goal.loop-left-preserved
-loop-left-preserved c =
-    let on = turned c.loop-left.invariant.0 c.loop-left-test.true c.if-r-ne0.false c.walk_clause-r.ensures in
-    (on, filled c.loop-left.invariant.0 c.loop-left.invariant.1 c.loop-left-test.true c.if-r-ne0.false c.walk_clause-r.ensures (clause-takes c.requires.0 c.if-r-ne0.false c.walk_clause-r.ensures c.take_carried.ensures))
-
-pub returns : goal.returns
-returns c =
-    let over = ended c.loop-left.invariant.0 c.loop-left-test.false in
-    record { takes = full c.loop-left.invariant.1 c.loop-left-test.false; tab_unchanged = over }
+pub returns-clause-passes : goal.returns-clause-passes
+returns-clause-passes c = over c.loop.invariant.turning (omega arith)

@@ -1,65 +1,53 @@
 -- The scope is opened, the arguments are walked unresolved, and the yields are bound.
-use Rattle.std.specs.Prelude.{None}
-use Prim.Native.Nat.{◌*◌, ◌/◌}
-use mathlib.Core.List.{[]}
-use mathlib.Core.Path.{refl}
+use Rattle.std.specs.Prelude.{None, Ok}
+use Prim.Native.Nat.{ℕ}
+use mathlib.Core.Bool.{true}
+use mathlib.Core.Path.{◌≡◌}
 use native.Mathlib.Omega.{arith}
+use Rattle.scope.specs.Graph.{call_scope}
 use Rattle.heads.proofs.Chain.{step, last}
 use Rattle.heads.specs.Got.{word_in}
-use Rattle.scope.specs.Graph.{call_scope}
 use Rattle.semantics.specs.Resolve.{enter}
-use Rattle.steps.proofs.Held.{ready-less}
-use Rattle.steps.specs.Hold.{on_names}
-use Rattle.walk.proofs.Stage.{did, start, ready}
-use Rattle.words.specs.Words.{words}
-use Rattle.clause_parts.proofs.Passing.{forget, asked, went, fell, last_one, past, halted}
-use Rattle.clause_walk.proofs.Rescoped.{call-as}
+use Rattle.fused.specs.Fused.{Mode, unresolving}
+use Rattle.steps.specs.Modes.{mode_of}
+use Rattle.steps.specs.Hold.{Ready, Steps, on_names}
+use Rattle.steps.specs.declared.Walk.{Walk}
+use Rattle.steps.specs.declared.context.Context.{Context}
+use Rattle.walk.specs.Goes.{Walked}
+use Rattle.walk.proofs.Stage.{Rest, Stage, did, start, ready}
 use Rattle.clause_parts.specs.Passes.{counted_at}
+use Rattle.clause_parts.proofs.Passing.{forget, went, fell, last_one, past, halted}
+use Rattle.clause_walk.proofs.Rescoped.{call-as}
 use Rattle.clause_walk.specs.Clauses.{call_at, yields_at}
 use Rattle.clause_walk.proofs.walk_call.Goals as goal
 
-pub enter-requires : goal.enter-requires
-enter-requires c =
-    ready-less (omega arith) c.requires.1
+-- a count, and as many yields
+abbrev Yields : Context → (a b : ℕ) → Rest
+Yields c a b id u v = step (word_in 0 4294967296) (λ n. last (yields_at c a b n id v))
 
-pub walk_counted-r-requires : goal.walk_counted-r-requires
-walk_counted-r-requires c =
-    let begun = let a = c.args in start {keep = None} {G = call_at (words a.s.now) a.tab.now a.mode a.head.start a.head.end} (λ id u w. step (counted_at (words a.s.now) a.tab.now (a.mode / 128 * 128) id (on_names (enter call_scope a.head.start a.head.end) w)) (λ x. step (word_in 0 4294967296) (λ n. last (yields_at (words a.s.now) a.tab.now a.head.start a.head.end n id x)))) c.requires.1 (λ id s r. call-as (words a.s.now) a.tab.now a.mode a.head.start a.head.end id s r c.requires.0) in
-    let one = let a = c.args in did (λ id u w. step (counted_at (words a.s.now) a.tab.now (a.mode / 128 * 128) id w) (λ x. step (word_in 0 4294967296) (λ n. last (yields_at (words a.s.now) a.tab.now a.head.start a.head.end n id x)))) 2 (omega arith) (omega arith) begun c.enter.ensures in
-    ready (omega arith) c.requires.1 one
+opened : {c : Context} {w w1 : Walk} (m : Mode) (a b : ℕ) → m.resolves ≡ true → Ready 3 c w → Steps 1 c w w1 (λ id. on_names (enter call_scope a b)) →
+    Stage None 3 c w (call_at c m a b) 2 w1 (λ id u v. step (counted_at c (unresolving m) id v) (Yields c a b id u))
+opened {c} m a b live h x =
+    did (λ id u v. step (counted_at c (unresolving m) id v) (Yields c a b id u)) 2 (omega arith) (omega arith)
+    (start {keep = None} (λ id u v. step (counted_at c (unresolving m) id (on_names (enter call_scope a b) v)) (Yields c a b id u)) h (λ id s r. call-as c m a b id s r live))
+    x
 
-pub returns-then-r-ne0 : goal.returns-then-r-ne0
-returns-then-r-ne0 c =
-    let begun = let a = c.args in start {keep = None} {G = call_at (words a.s.now) a.tab.now a.mode a.head.start a.head.end} (λ id u w. step (counted_at (words a.s.now) a.tab.now (a.mode / 128 * 128) id (on_names (enter call_scope a.head.start a.head.end) w)) (λ x. step (word_in 0 4294967296) (λ n. last (yields_at (words a.s.now) a.tab.now a.head.start a.head.end n id x)))) c.requires.1 (λ id s r. call-as (words a.s.now) a.tab.now a.mode a.head.start a.head.end id s r c.requires.0) in
-    let one = let a = c.args in did (λ id u w. step (counted_at (words a.s.now) a.tab.now (a.mode / 128 * 128) id w) (λ x. step (word_in 0 4294967296) (λ n. last (yields_at (words a.s.now) a.tab.now a.head.start a.head.end n id x)))) 2 (omega arith) (omega arith) begun c.enter.ensures in
-    fell _ c.if-r-ne0.true refl one (forget {held = []} _ c.walk_counted-r.ensures)
+walked : {c : Context} {w w1 w2 : Walk} {u : Unit {0}} (m : Mode) (a b : ℕ) → m.resolves ≡ true → Ready 3 c w → Steps 1 c w w1 (λ id. on_names (enter call_scope a b)) → Walked 48 c w1 w2 (counted_at c (unresolving m)) (Ok u) →
+    Stage None 3 c w (call_at c m a b) 2 w2 (Yields c a b)
+walked m a b live h x y = went 2 (omega arith) (opened m a b live h x) (forget _ y)
 
-pub next_word-requires : goal.next_word-requires
-next_word-requires c =
-    let begun = let a = c.args in start {keep = None} {G = call_at (words a.s.now) a.tab.now a.mode a.head.start a.head.end} (λ id u w. step (counted_at (words a.s.now) a.tab.now (a.mode / 128 * 128) id (on_names (enter call_scope a.head.start a.head.end) w)) (λ x. step (word_in 0 4294967296) (λ n. last (yields_at (words a.s.now) a.tab.now a.head.start a.head.end n id x)))) c.requires.1 (λ id s r. call-as (words a.s.now) a.tab.now a.mode a.head.start a.head.end id s r c.requires.0) in
-    let one = let a = c.args in did (λ id u w. step (counted_at (words a.s.now) a.tab.now (a.mode / 128 * 128) id w) (λ x. step (word_in 0 4294967296) (λ n. last (yields_at (words a.s.now) a.tab.now a.head.start a.head.end n id x)))) 2 (omega arith) (omega arith) begun c.enter.ensures in
-    let two = went 2 c.if-r-ne0.false (omega arith) one (forget {held = []} _ c.walk_counted-r.ensures) in
-    asked (ready {i = 0} (omega arith) c.requires.1 two)
+pub returns-in_err-walk_counted : goal.returns-in_err-walk_counted
+returns-in_err-walk_counted c =
+    let a = c.args in fell _ (opened (mode_of a.mode) a.head.start a.head.end c.requires.0 c.requires.1 c.enter.ensures) (forget _ (rw c.unresolving.ensures at c.in_err-walk_counted.ensures)) c.from_residual.ensures
 
-pub returns-in_default : goal.returns-in_default
-returns-in_default c =
-    let begun = let a = c.args in start {keep = None} {G = call_at (words a.s.now) a.tab.now a.mode a.head.start a.head.end} (λ id u w. step (counted_at (words a.s.now) a.tab.now (a.mode / 128 * 128) id (on_names (enter call_scope a.head.start a.head.end) w)) (λ x. step (word_in 0 4294967296) (λ n. last (yields_at (words a.s.now) a.tab.now a.head.start a.head.end n id x)))) c.requires.1 (λ id s r. call-as (words a.s.now) a.tab.now a.mode a.head.start a.head.end id s r c.requires.0) in
-    let one = let a = c.args in did (λ id u w. step (counted_at (words a.s.now) a.tab.now (a.mode / 128 * 128) id w) (λ x. step (word_in 0 4294967296) (λ n. last (yields_at (words a.s.now) a.tab.now a.head.start a.head.end n id x)))) 2 (omega arith) (omega arith) begun c.enter.ensures in
-    let two = went 2 c.if-r-ne0.false (omega arith) one (forget {held = []} _ c.walk_counted-r.ensures) in
-    halted two c.next_word.ensures c.in_default.is refl
+pub returns-in_err-n : goal.returns-in_err-n
+returns-in_err-n c =
+    let a = c.args in halted _ (walked (mode_of a.mode) a.head.start a.head.end c.requires.0 c.requires.1 c.enter.ensures (rw c.unresolving.ensures at c.in_ok-walk_counted.ensures)) c.in_err-n.ensures c.from_residual-in_err-n.ensures
 
 pub walk_yields-requires : goal.walk_yields-requires
 walk_yields-requires c =
-    let begun = let a = c.args in start {keep = None} {G = call_at (words a.s.now) a.tab.now a.mode a.head.start a.head.end} (λ id u w. step (counted_at (words a.s.now) a.tab.now (a.mode / 128 * 128) id (on_names (enter call_scope a.head.start a.head.end) w)) (λ x. step (word_in 0 4294967296) (λ n. last (yields_at (words a.s.now) a.tab.now a.head.start a.head.end n id x)))) c.requires.1 (λ id s r. call-as (words a.s.now) a.tab.now a.mode a.head.start a.head.end id s r c.requires.0) in
-    let one = let a = c.args in did (λ id u w. step (counted_at (words a.s.now) a.tab.now (a.mode / 128 * 128) id w) (λ x. step (word_in 0 4294967296) (λ n. last (yields_at (words a.s.now) a.tab.now a.head.start a.head.end n id x)))) 2 (omega arith) (omega arith) begun c.enter.ensures in
-    let two = went 2 c.if-r-ne0.false (omega arith) one (forget {held = []} _ c.walk_counted-r.ensures) in
-    let three = past two c.next_word.ensures c.in-Some.is in
-    ready (omega arith) c.requires.1 three
+    let a = c.args in ready (omega arith) c.requires.1 (past (walked (mode_of a.mode) a.head.start a.head.end c.requires.0 c.requires.1 c.enter.ensures (rw c.unresolving.ensures at c.in_ok-walk_counted.ensures)) c.in_ok-n.ensures)
 
 pub returns : goal.returns
 returns c =
-    let begun = let a = c.args in start {keep = None} {G = call_at (words a.s.now) a.tab.now a.mode a.head.start a.head.end} (λ id u w. step (counted_at (words a.s.now) a.tab.now (a.mode / 128 * 128) id (on_names (enter call_scope a.head.start a.head.end) w)) (λ x. step (word_in 0 4294967296) (λ n. last (yields_at (words a.s.now) a.tab.now a.head.start a.head.end n id x)))) c.requires.1 (λ id s r. call-as (words a.s.now) a.tab.now a.mode a.head.start a.head.end id s r c.requires.0) in
-    let one = let a = c.args in did (λ id u w. step (counted_at (words a.s.now) a.tab.now (a.mode / 128 * 128) id w) (λ x. step (word_in 0 4294967296) (λ n. last (yields_at (words a.s.now) a.tab.now a.head.start a.head.end n id x)))) 2 (omega arith) (omega arith) begun c.enter.ensures in
-    let two = went 2 c.if-r-ne0.false (omega arith) one (forget {held = []} _ c.walk_counted-r.ensures) in
-    let three = past two c.next_word.ensures c.in-Some.is in
-    last_one _ (omega arith) refl three c.walk_yields.ensures
+    let a = c.args in last_one _ (omega arith) (past (walked (mode_of a.mode) a.head.start a.head.end c.requires.0 c.requires.1 c.enter.ensures (rw c.unresolving.ensures at c.in_ok-walk_counted.ensures)) c.in_ok-n.ensures) c.walk_yields.ensures

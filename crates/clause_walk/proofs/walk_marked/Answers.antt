@@ -1,44 +1,31 @@
 -- The count is read, and the marks are the walk's.
-use Rattle.heads.specs.Answer.{kind_of}
 use Rattle.std.specs.Prelude.{None}
-use borrow.Author.Rules.{rules}
+use Prim.Native.Nat.{ℕ}
 use mathlib.Core.Path.{refl}
 use native.Mathlib.Omega.{arith}
-use Rattle.fused.specs.Clauses.{within, marked_go}
-use Rattle.fused.specs.Fused.{rounds, mark_go}
 use Rattle.heads.proofs.Chain.{step, last}
 use Rattle.heads.specs.Got.{word_in}
+use Rattle.heads.specs.Answer.{kind_of}
+use Rattle.fused.specs.Fused.{Mode}
+use Rattle.fused.specs.Clauses.{marked_go}
+use Rattle.steps.specs.Modes.{mode_of}
 use Rattle.steps.specs.Hold.{Ready}
-use Rattle.steps.specs.Memory.{tables_in, world_at, mode_of}
-use Rattle.walk.proofs.Stage.{start, ready}
-use Rattle.words.specs.Words.{words}
+use Rattle.steps.specs.declared.Walk.{Walk}
+use Rattle.steps.specs.declared.context.Context.{Context}
+use Rattle.walk.specs.Goes.{marks_at}
+use Rattle.walk.proofs.Stage.{Stage, start}
 use Rattle.clause_parts.proofs.Passing.{forget, last_one, past, halted}
+use Rattle.clause_walk.specs.Clauses.{marked_at}
 use Rattle.clause_walk.proofs.walk_marked.Goals as goal
 
-pub next_word-requires : goal.next_word-requires
+begun : {c : Context} {w : Walk} (m : Mode) (kind : ℕ) → Ready 0 c w → Stage None 0 c w (marked_at c m 0 0 kind) 0 w (λ id u v. step (word_in 0 4294967296) (λ n. last (marks_at c 48 m kind n id v)))
 unfolding marked_go
-next_word-requires c =
-    search rules
+begun m kind h = start _ h (λ id s r. refl)
 
-pub returns-in_default : goal.returns-in_default
-unfolding marked_go
-returns-in_default c =
-    let given = let a = c.args in let p : Ready 0 (words a.s.now) a.tab.now a.m.now a.vis.now a.found.now = c.requires in p in
-    let begun = let a = c.args in start {keep = None} (λ id u v. step (word_in 0 4294967296) (λ n. last (rounds n (mark_go (world_at (words a.s.now) a.tab.now id) (within (world_at (words a.s.now) a.tab.now id) (tables_in a.tab.now)) (mode_of a.mode) (kind_of a.kind)) v))) given (λ id s r. refl) in
-    halted begun c.next_word.ensures c.in_default.is refl
-
-pub walk_marks-requires : goal.walk_marks-requires
-unfolding marked_go
-walk_marks-requires c =
-    let given = let a = c.args in let p : Ready 0 (words a.s.now) a.tab.now a.m.now a.vis.now a.found.now = c.requires in p in
-    let begun = let a = c.args in start {keep = None} (λ id u v. step (word_in 0 4294967296) (λ n. last (rounds n (mark_go (world_at (words a.s.now) a.tab.now id) (within (world_at (words a.s.now) a.tab.now id) (tables_in a.tab.now)) (mode_of a.mode) (kind_of a.kind)) v))) given (λ id s r. refl) in
-    let one = past begun c.next_word.ensures c.in-Some.is in
-    (omega arith, ready (omega arith) given one)
+pub returns-in_err-n : goal.returns-in_err-n
+returns-in_err-n c =
+    halted _ (begun (mode_of c.args.mode) (kind_of c.args.kind) c.requires) c.in_err-n.ensures c.from_residual.ensures
 
 pub returns : goal.returns
-unfolding marked_go
 returns c =
-    let given = let a = c.args in let p : Ready 0 (words a.s.now) a.tab.now a.m.now a.vis.now a.found.now = c.requires in p in
-    let begun = let a = c.args in start {keep = None} (λ id u v. step (word_in 0 4294967296) (λ n. last (rounds n (mark_go (world_at (words a.s.now) a.tab.now id) (within (world_at (words a.s.now) a.tab.now id) (tables_in a.tab.now)) (mode_of a.mode) (kind_of a.kind)) v))) given (λ id s r. refl) in
-    let one = past begun c.next_word.ensures c.in-Some.is in
-    last_one _ (omega arith) refl one (forget _ c.walk_marks.ensures)
+    last_one _ (omega arith) (past (begun (mode_of c.args.mode) (kind_of c.args.kind) c.requires) c.in_ok-n.ensures) (forget _ c.walk_marks.ensures)

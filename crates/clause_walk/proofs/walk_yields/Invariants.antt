@@ -1,12 +1,8 @@
 -- A loop of rounds (`Turning`).
-use mathlib.Core.List.{[]}
-use Rattle.words.specs.Words.{words}
-use Rattle.clause_parts.proofs.Passing.{Turning}
+use Rattle.std.specs.Prelude.{None}
+use Rattle.walk.proofs.Stage.{Turning}
 use Rattle.clause_walk.specs.Clauses.{yield_at}
 use Rattle.clause_walk.proofs.walk_yields.Given as goal
 
-abbrev pub invariant-loop-left : goal.invariant-loop-left
-invariant-loop-left l = Turning (words l.s) l.tab l.initial.m l.initial.vis l.initial.found [] l.n (yield_at (words l.s) l.tab l.head.start l.head.end) l.m l.vis l.found [] l.left
-
-abbrev pub decreases-loop-left : goal.decreases-loop-left
-decreases-loop-left l = l.left
+abbrev pub invariant-loop : goal.invariant-loop
+invariant-loop l = Turning None l.context l.initial.walk l.n (yield_at l.context l.head.start l.head.end) l.walk l.counter

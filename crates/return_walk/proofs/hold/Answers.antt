@@ -2,10 +2,8 @@
 use Rattle.return_walk.proofs.Marking.{hold-none, hold-one}
 use Rattle.return_walk.proofs.hold.Goals as goal
 
-pub returns-then-a-eq0 : goal.returns-then-a-eq0
-returns-then-a-eq0 c =
-    hold-none c.args.k c.args.a _ c.if-a-eq0.true
+pub returns-in-Some : goal.returns-in-Some
+returns-in-Some c = hold-one c.in-Some.is c.requires.0
 
-pub returns : goal.returns
-returns c =
-    hold-one c.args.k c.args.a _ c.if-a-eq0.false c.requires.0
+pub returns-in-None : goal.returns-in-None
+returns-in-None c = hold-none c.in-None.is

@@ -2,32 +2,21 @@
 use Rattle.std.specs.Prelude.{Some}
 use mathlib.Core.Path.{refl}
 use native.Mathlib.Omega.{arith}
-use Rattle.fused.specs.Fused.{rounds}
 use Rattle.heads.proofs.Chain.{step, last}
 use Rattle.heads.specs.Got.{word_in}
+use Rattle.fused.specs.Fused.{Mode}
+use Rattle.steps.specs.Modes.{mode_of}
 use Rattle.steps.specs.Hold.{Ready}
-use Rattle.walk.proofs.Stage.{refused, tail, start, ready}
-use Rattle.words.specs.Words.{words}
-use Rattle.clause_parts.proofs.Passing.{past, stays, stopped}
-use Rattle.return_walk.specs.Returns.{output_at}
+use Rattle.steps.specs.declared.Walk.{Walk}
+use Rattle.steps.specs.declared.context.Context.{Context}
+use Rattle.walk.proofs.Stage.{Stage, tail, start}
+use Rattle.clause_parts.proofs.Passing.{past}
+use Rattle.return_walk.specs.Returns.{outputs_at, returned_at}
 use Rattle.return_walk.proofs.walk_returned.Goals as goal
 
-pub returns-in_default : goal.returns-in_default
-returns-in_default c =
-    let given = let a = c.args in let p : Ready 0 (words a.s.now) a.tab.now a.m.now a.vis.now a.found.now = c.requires in p in
-    let begun = let a = c.args in start {keep = Some 48} (λ id u v. step (word_in 0 4294967296) (λ n. last (rounds n (output_at (words a.s.now) a.tab.now a.mode id) v))) given (λ id s r. refl) in
-    rw (stays c.next_word.ensures c.in_default.is) (refused 5 (λ e. omega arith) begun (stopped begun c.next_word.ensures c.in_default.is))
-
-pub walk_outputs-requires : goal.walk_outputs-requires
-walk_outputs-requires c =
-    let given = let a = c.args in let p : Ready 0 (words a.s.now) a.tab.now a.m.now a.vis.now a.found.now = c.requires in p in
-    let begun = let a = c.args in start {keep = Some 48} (λ id u v. step (word_in 0 4294967296) (λ n. last (rounds n (output_at (words a.s.now) a.tab.now a.mode id) v))) given (λ id s r. refl) in
-    let one = past begun c.next_word.ensures c.in-Some.is in
-    ready (omega arith) given one
+begun : {c : Context} {w : Walk} (m : Mode) → Ready 0 c w → Stage (Some 48) 0 c w (returned_at c m) 0 w (λ id u v. step (word_in 0 4294967296) (λ n. last (outputs_at c m n id v)))
+begun m h = start _ h (λ id s r. refl)
 
 pub returns : goal.returns
 returns c =
-    let given = let a = c.args in let p : Ready 0 (words a.s.now) a.tab.now a.m.now a.vis.now a.found.now = c.requires in p in
-    let begun = let a = c.args in start {keep = Some 48} (λ id u v. step (word_in 0 4294967296) (λ n. last (rounds n (output_at (words a.s.now) a.tab.now a.mode id) v))) given (λ id s r. refl) in
-    let one = past begun c.next_word.ensures c.in-Some.is in
-    tail _ (omega arith) one c.walk_outputs.ensures
+    tail _ (omega arith) (past (begun (mode_of c.args.mode) c.requires) c.in_ok-n.ensures) c.walk_outputs.ensures
