@@ -7,9 +7,6 @@ use mathlib.Core.Bool.{Bool, true, false}
 use mathlib.Core.List.{List, [], ◌∷◌, ◌++◌, map, flat_map}
 use lib.ListN.{take}
 use Rattle.std.specs.Prelude.{None}
-use Rattle.refusal.specs.Number.{number_of}
-use Rattle.refusal.specs.declared.Refusal.{Refusal}
-use Rattle.refusal.specs.declared.Refusal.TheVariants as refusals
 use Rattle.words.specs.Words.{words}
 use Rattle.heads.specs.Got.{Got, ok, no, many}
 use Rattle.heads.specs.Answer.{is_in, known_at}
@@ -60,20 +57,6 @@ loose s =
     (λ rows.
     let st : List Clause × List Arm → Statement = λ z. record { names = names; bindings = rows; head = z.0; arms = z.1; start = p.start; stop = p.end } in
     loose-parts (used_up (many (read_clause (any_binder p.names)) p.clauses (section (words s) p.head p.tail))) (used_up (many (read_arm (any_binder p.names)) p.arms (section (words s) p.tail p.trailer))) (λ head arms. all_known (λ v. is_in v (map row_id rows)) (flat_map binders_c head ++ flat_map binders_a arms)) st (λ z. conditions_of p z.0 z.1))))
-
--- 7 is the cause of a variable without a binding, and of nothing else
-pub unbound-is-seven : (e : Refusal) → number_of e ≡ 7 → e ≡ refusals.Unbound
-unbound-is-seven refusals.Unbound h = refl
-unbound-is-seven refusals.Size h = never (cc)
-unbound-is-seven refusals.Places h = never (cc)
-unbound-is-seven refusals.Names h = never (cc)
-unbound-is-seven refusals.Bindings h = never (cc)
-unbound-is-seven refusals.Word h = never (cc)
-unbound-is-seven refusals.Depth h = never (cc)
-unbound-is-seven refusals.Entries h = never (cc)
-unbound-is-seven refusals.Asked h = never (cc)
-unbound-is-seven refusals.Page h = never (cc)
-unbound-is-seven refusals.Room h = never (cc)
 
 -- an answer that is not 7 is kept
 not_seven : (s : List ℕ) {A : Type 0} {a : Sheet Places} {x : Sheet Statement} {y : Sheet A} → Loose x y → a ≡ with_value (places_of (words s)) x → (a ≡ refused 7 → ⊥) → a ≡ opened_for y s

@@ -1,12 +1,13 @@
 -- A row that is read flat: its loop's invariant, and the laws of its turns.
-use Rattle.std.specs.Prelude.{Result, Ok, Err, Option, Some, None}
+use Rattle.std.specs.Prelude.{Result, Ok, Err, Some}
 use Rattle.std.specs.Result.{IsErr, IsErrAnd}
 use Rattle.refusal.specs.Number.{number_of}
 use Rattle.refusal.specs.declared.Refusal.{Refusal}
-use Rattle.refusal.specs.declared.Refusal.TheVariants.{Size, Places, Names, Bindings, Word, Depth, Unbound, Entries, Asked, Page, Room}
+use Rattle.refusal.specs.declared.Refusal.TheVariants.{Depth}
+use Rattle.refusal.proofs.Numbers.{same_cause}
 use Prim.Native.Nat.{ℕ, suc, ◌+◌, ◌-◌, ◌<◌, ◌≤◌}
 use native.Mathlib.Omega.{arith}
-use mathlib.Core.Path.{◌≡◌, refl, ap, ◌∙◌}
+use mathlib.Core.Path.{◌≡◌, refl, ap}
 use mathlib.Core.List.{List}
 use lib.ListN.{length, drop}
 use Rattle.heads.specs.Got.{Got, ok, no, bare}
@@ -138,25 +139,7 @@ module _ {w : Tables} {ws : List ℕ} {at room n p left d : ℕ} (l : Skimmed w 
         skim-none z = record { same = under_same l.same (plain-none w f (left - 1) (d - 1) (omega arith) (omega arith) (omega arith) (omega arith)); from = omega arith; within = f.within }
 
 -- an answer that is not Depth is the definition's
-depth-is-six : (e : Refusal) → number_of e ≡ 6 → e ≡ Depth
-depth-is-six Depth h = refl
-depth-is-six Size h = never (cc)
-depth-is-six Places h = never (cc)
-depth-is-six Names h = never (cc)
-depth-is-six Bindings h = never (cc)
-depth-is-six Word h = never (cc)
-depth-is-six Unbound h = never (cc)
-depth-is-six Entries h = never (cc)
-depth-is-six Asked h = never (cc)
-depth-is-six Page h = never (cc)
-depth-is-six Room h = never (cc)
-
 pub told : {A : Type 0} {ws : List ℕ} {at : ℕ} {f : List ℕ → Got A} (r : Result ℕ Refusal) → Skims ws at f r → (r ≡ Err Depth → ⊥) → Reads ws at f r
 told (Ok p) x h = record { same = x.same (λ y. never (cc)); from = x.from; within = x.within }
 told (Err e) x h =
-    record { same = x.same (λ y. h (ap (λ (z : Refusal). Err z) (depth-is-six e (let z : number_of e ≡ 6 = cc in z)))); from = x.from; within = x.within }
-
--- what a `?` answers where no head reads
-pub other_none : {ws : List ℕ} (names at : ℕ) (e : Refusal) {q : ℕ} (r : Result (Option (ℕ × ℕ)) Refusal) → Ans ws at (read_form names (drop at ws)) (no (number_of e)) q → IsErr r × IsErrAnd r (λ y. y ≡ e) → PlainAt ws names at r
-other_none names at e (Err y) a f = rw f.1 a.same
-other_none names at e (Ok y) a f = absurd f.1
+    record { same = x.same (λ y. h (ap (λ (z : Refusal). Err z) (same_cause e Depth cc))); from = x.from; within = x.within }

@@ -1,10 +1,10 @@
 -- Where a head doesn't read, the cause is 5: of a word, and of what is put together from words.
-use Rattle.std.proofs.Common.{◌≡◌, refl, ℕ, Bool, true, false, List, [], ◌∷◌, length, drop, Option, Some, None, Result, Ok, Err, arith}
+use Rattle.std.proofs.Common.{◌≡◌, refl, ℕ, Bool, true, false, List, [], ◌∷◌, length, Result, Ok, Err}
 use Rattle.std.specs.Prelude.{cond, leb, ltb, eqb}
 use Rattle.refusal.specs.Number.{number_of}
 use Rattle.refusal.specs.declared.Refusal.{Refusal}
-use Rattle.heads.specs.Got.{Got, ok, no, bind, look, word_in, any_word, flag}
-use Rattle.heads.specs.Form.{shape_of, limit_of, form_none, form_one, case_rest, comp_rest, rest_of, read_form}
+use Rattle.heads.specs.Got.{Got, ok, no, bind, word_in, any_word, flag}
+use Rattle.heads.specs.Form.{shape_of, limit_of, case_rest, comp_rest, rest_of, read_form}
 use Rattle.heads.specs.Head.{read_maybe, read_part, read_elem}
 use Rattle.heads.specs.Answer.{Ans, got, end}
 

@@ -5,8 +5,13 @@ use Rattle.std.specs.Prelude.{cond}
 use Rattle.std.specs.Result.{IsErr, IsErrAnd}
 use Rattle.refusal.specs.Number.{number_of}
 use Rattle.refusal.specs.declared.Refusal.{Refusal}
+use Rattle.refusal.proofs.Handed.{handed}
 use Rattle.heads.specs.Got.{Got, ok, no, bind, bare}
 use Rattle.heads.specs.Answer.{Ans, got, end, longer, read_got, read_end}
+
+-- what a `?` answers
+pub refused : {ws : List ℕ} {at : ℕ} {g : Got (Unit {0})} (e : Refusal) {p : ℕ} (r : Result ℕ Refusal) → IsErr r × IsErrAnd r (λ y. y ≡ e) → Ans ws at g (no (number_of e)) p → Ans ws at g (read_got ws r) (read_end ws r)
+refused e r h a = rw (handed e r h) (record { same = a.same; from = omega arith; within = omega arith })
 
 module _ {A B : Type 0} {ws : List ℕ} {at : ℕ} {g : Got A} (k : A → List ℕ → Got B) where
   pub onward : {x : A} {p : ℕ} {h : Got B} {e : ℕ} → Ans ws at g (ok x (drop p ws)) p → Ans ws p (k x (drop p ws)) h e → Ans ws at (bind g k) h e
@@ -16,8 +21,7 @@ module _ {A B : Type 0} {ws : List ℕ} {at : ℕ} {g : Got A} (k : A → List �
   none a = record { same = rw a.same; from = a.from; within = a.within }
 
   pub halted : (e : Refusal) {p : ℕ} (r : Result (B × ℕ) Refusal) → Ans ws at g (no (number_of e)) p → IsErr r × IsErrAnd r (λ y. y ≡ e) → Ans ws at (bind g k) (got ws r) (end ws r)
-  halted e (Err y) a h = record { same = rw (a.same, h.1); from = omega arith; within = omega arith }
-  halted e (Ok x) a h = absurd h.1
+  halted e r a h = rw (handed e r h) (record { same = rw a.same; from = omega arith; within = omega arith })
 
 -- the same where only the words after it are told
 module _ {A B : Type 0} {ws : List ℕ} {at : ℕ} {g : Got A} (k : A → List ℕ → Got B) where
@@ -25,13 +29,7 @@ module _ {A B : Type 0} {ws : List ℕ} {at : ℕ} {g : Got A} (k : A → List �
   past a b = record { same = rw (a.same, b.same); from = omega arith; within = b.within }
 
   pub failed : (e : Refusal) {p : ℕ} (r : Result ℕ Refusal) → Ans ws at g (no (number_of e)) p → IsErr r × IsErrAnd r (λ y. y ≡ e) → Ans ws at (bare (bind g k)) (read_got ws r) (read_end ws r)
-  failed e (Err y) a h = record { same = rw (a.same, h.1); from = omega arith; within = omega arith }
-  failed e (Ok x) a h = absurd h.1
-
--- what a `?` answers
-pub refused : {ws : List ℕ} {at : ℕ} {g : Got (Unit {0})} (e : Refusal) {p : ℕ} (r : Result ℕ Refusal) → IsErr r × IsErrAnd r (λ y. y ≡ e) → Ans ws at g (no (number_of e)) p → Ans ws at g (read_got ws r) (read_end ws r)
-refused e (Err y) h a = record { same = rw h.1 a.same; from = omega arith; within = omega arith }
-refused e (Ok y) h a = absurd h.1
+  failed e r a h = refused e r h (record { same = rw a.same; from = a.from; within = a.within })
 
 was_read : {B : Type 0} (g : Got B) {r : List ℕ} → bare g ≡ ok tt r → (x : B) × (g ≡ ok x r)
 was_read (ok x s) e = (x, cc)

@@ -1,10 +1,11 @@
 -- A loop that reads the same thing n times: its invariant, and the laws of its turns.
-use Rattle.std.proofs.Common.{◌≡◌, ◌∙◌, refl, ap, ℕ, zero, suc, ◌+◌, ◌-◌, ◌<◌, ◌≤◌, List, ◌∷◌, length, drop, Result, Ok, Err, arith}
+use Rattle.std.proofs.Common.{◌≡◌, ◌∙◌, refl, ap, ℕ, zero, suc, ◌+◌, ◌-◌, ◌<◌, ◌≤◌, List, ◌∷◌, length, drop, Result, arith}
 use Rattle.std.specs.Result.{IsErr, IsErrAnd}
 use Rattle.refusal.specs.Number.{number_of}
 use Rattle.refusal.specs.declared.Refusal.{Refusal}
 use Rattle.heads.specs.Got.{Got, ok, no, next, bare, many}
 use Rattle.heads.specs.Answer.{Ans, read_got, read_end}
+use Rattle.heads.proofs.Reading.{refused}
 use Rattle.heads.proofs.Shapes.{Rest, bare-bind, bare-map}
 
 -- how n are read, and how one is
@@ -36,8 +37,7 @@ module _ {R : Rows} {ws : List ℕ} {at n i p : ℕ} (l : Row R ws at n i p) whe
   row_next h x = record { same = l.same ∙ ahead R n i _ h x.same; from = omega arith; within = x.within }
 
   pub row_stop : {q : ℕ} (e : Refusal) (r : Result ℕ Refusal) → i < n → Ans ws p (R.one (drop p ws)) (no (number_of e)) q → IsErr r × IsErrAnd r (λ y. y ≡ e) → Ans ws at (R.all n (drop at ws)) (read_got ws r) (read_end ws r)
-  row_stop e (Err y) h x f = record { same = l.same ∙ ahead R n i _ h x.same ∙ rw f.1; from = omega arith; within = omega arith }
-  row_stop e (Ok y) h x f = absurd f.1
+  row_stop e r h x f = refused e r f (record { same = l.same ∙ ahead R n i _ h x.same; from = omega arith; within = x.within })
 
   pub row_done : n ≤ i → Ans ws at (R.all n (drop at ws)) (ok tt (drop p ws)) p
   row_done h =

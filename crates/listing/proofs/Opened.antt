@@ -2,18 +2,19 @@
 -- are the definition's, and what is written of them and of the names that a table has is the listing.
 use Prim.Native.Nat.{ℕ, ◌+◌, ◌*◌, ◌<◌, ◌≤◌}
 use native.Mathlib.Omega.{arith}
-use mathlib.Core.Path.{◌≡◌, refl, sym, subst}
-use mathlib.Core.Bool.{Bool, true, false, ◌&&◌, and-false}
+use mathlib.Core.Path.{◌≡◌, refl, sym}
+use mathlib.Core.Bool.{Bool, false, ◌&&◌, and-false}
 use mathlib.Core.List.{List}
 use borrow.Author.Tests.{le-leb, lt-leb}
 use lib.Dec.{leb}
 use lib.ListN.{take}
-use Rattle.std.specs.Prelude.{Result, Ok, Err}
+use Rattle.std.specs.Prelude.{Result, Err}
 use Rattle.words.specs.Words.{words}
 use Rattle.refusal.specs.Number.{number_of}
 use Rattle.refusal.specs.declared.Refusal.{Refusal}
 use Rattle.refusal.specs.declared.Refusal.TheVariants.{Entries}
-use Rattle.refusal.specs.declared.Refusal.TheVariants as refusals
+use Rattle.refusal.proofs.Numbers.{small}
+use Rattle.refusal.proofs.Handed.{handed}
 use Rattle.std.specs.Result.{IsErr, IsErrAnd}
 use Rattle.sheet.specs.declared.trailer.Places.{Places}
 use Rattle.sheet.specs.Answer.{sheet_of}
@@ -48,32 +49,17 @@ pub unplaced : (s : List ℕ) {c : ℕ} → locate s ≡ refused c → read_shee
 unfolding read_sheet
 unplaced s e = rw e
 
-small : (e : Refusal) → number_of e < 4294967296
-small refusals.Size = omega arith
-small refusals.Places = omega arith
-small refusals.Names = omega arith
-small refusals.Bindings = omega arith
-small refusals.Word = omega arith
-small refusals.Depth = omega arith
-small refusals.Unbound = omega arith
-small refusals.Entries = omega arith
-small refusals.Asked = omega arith
-small refusals.Page = omega arith
-small refusals.Room = omega arith
+-- a run that refused
+pub ran-no : (warns : Bool) (page s : List ℕ) (e : Refusal) (r : Result ℕ Refusal) → read_sheet s ≡ refused (number_of e) → IsErr r × IsErrAnd r (λ y. y ≡ e) → Writes (listing warns s) page page r × (number (answered r) < 4294967296)
+ran-no warns page s e r x f = rw (handed e r f) (refused-listing warns s page refl x, omega (arith, small e))
 
 -- what a `?` answers where the sections stand nowhere
 pub unplaced-listing : (warns : Bool) (s page : List ℕ) (e : Refusal) (r : Result ℕ Refusal) → sheet_of {A = Places} (Err e) ≡ locate s → IsErr r × IsErrAnd r (λ y. y ≡ e) → Writes (listing warns s) page page r × (number (answered r) < 4294967296)
-unplaced-listing warns s page e (Err y) h f = rw f.1 (refused-listing warns s page refl (unplaced s (sym h)), small e)
-unplaced-listing warns s page e (Ok y) h f = absurd f.1
+unplaced-listing warns s page e r h f = ran-no warns page s e r (unplaced s (sym h)) f
 
 -- the choice of a listing: findings alone
 abbrev pub choice_of : Bool → Choice
 choice_of warns = record { warns = warns; wants = false }
-
--- a run that refused
-pub ran-no : (warns : Bool) (page s : List ℕ) (e : Refusal) (r : Result ℕ Refusal) → read_sheet s ≡ refused (number_of e) → IsErr r × IsErrAnd r (λ y. y ≡ e) → Writes (listing warns s) page page r × (number (answered r) < 4294967296)
-ran-no warns page s e (Err y) x f = rw f.1 (refused-listing warns s page refl x, small e)
-ran-no warns page s e (Ok y) x f = absurd f.1
 
 -- what a run for findings alone leaves
 module _ (warns : Bool) {s : List ℕ} {a : Scratch} {old carried : List ℕ} {x : Index} (r : RanTo (choice_of warns) s a old carried x) where

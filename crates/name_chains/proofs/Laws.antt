@@ -1,18 +1,16 @@
 -- Laws of names in chains: only a text's chain matters (`skip`); a search in it begins (`from-head`), goes on (`from-prev`), and ends with
--- the answer (`found`, `missed`); one name more is hung up (`one_more`), and none yet (`none-hung`). Two texts are the same where `==` says so
--- (`same-pointwise`).
+-- the answer (`found`, `missed`); one name more is hung up (`one_more`), and none yet (`none-hung`).
 use Prim.Native.Nat.{ℕ, zero, suc, ◌+◌, ◌-◌, ◌<◌, ◌≤◌}
 use native.Mathlib.Omega.{arith}
 use native.Mathlib.Nat.{mod-lt}
 use mathlib.Core.Path.{◌≡◌, refl, ap, sym, ◌∙◌}
-use mathlib.Core.Bool.{Bool, true, false, cond, ◌&&◌, ◌||◌}
+use mathlib.Core.Bool.{Bool, true, false, cond, ◌||◌}
 use mathlib.Core.List.{List, [], ◌∷◌, ◌++◌, map-append}
 use lib.Dec.{eqb}
 use lib.ListN.{length, get_or, set, length-set}
 use lib.Seq.{take-suc, get_or-set_same, get_or-set_other}
 use borrow.Author.Tests.{eqb-true, eqb-false}
 use mathlib.Core.Logic.{◌≢◌}
-use Rattle.std.specs.Str.{bytes_eq}
 use Rattle.tables.specs.Distinct.{same_bytes, name_in}
 use Rattle.tables.specs.Answer.{names_in}
 use Rattle.tables.proofs.Fresh.{is-not, same-eq}
@@ -35,13 +33,6 @@ cleared_more {i} {old} {new} c h =
     go b l false e =
         let ne : b ≢ i = eqb-false b i e in
         get_or-set_other new i b 0 0 ne ∙ c.zeros b (omega arith)
-
-pub same-pointwise : (a b : List ℕ) → same_bytes a b ≡ bytes_eq a b
-unfolding same_bytes
-same-pointwise [] [] = refl
-same-pointwise [] (y ∷ b) = refl
-same-pointwise (x ∷ a) [] = refl
-same-pointwise (x ∷ a) (y ∷ b) = ap (◌&&◌ (eqb x y)) (same-pointwise a b)
 
 -- the names from the newest on
 unfoldable pub among : List ℕ → (ℕ → List ℕ) → ℕ → Bool

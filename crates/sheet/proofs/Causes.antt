@@ -1,10 +1,11 @@
 -- From answers to verdicts: a section's, two sections' one after the other, and cause 7 by reading strictly first.
-use Prim.Native.Nat.{ℕ, suc, ◌+◌, ◌-◌, ◌*◌, ◌≤◌}
+use Prim.Native.Nat.{ℕ, ◌+◌, ◌*◌, ◌≤◌}
 use native.Mathlib.Omega.{arith}
 use mathlib.Core.Path.{◌≡◌, refl, sym, ap, ◌∙◌}
-use mathlib.Core.Bool.{Bool, true, false, ◌&&◌, and_assoc, and-false, cond}
+use mathlib.Core.Bool.{Bool, true, false, ◌&&◌, and_assoc, and-false}
 use mathlib.Core.List.{List, [], ◌∷◌, ◌++◌, flat_map}
 use borrow.Author.Tests.{ltb-true, ltb-false}
+use denote.Enum.Bare.{same_true, same_false}
 use lib.Dec.{ltb}
 use lib.ListN.{length, take, drop}
 use Rattle.words.specs.Words.{words}
@@ -17,7 +18,10 @@ use Rattle.std.specs.Result.{IsErr, IsErrAnd}
 use Rattle.refusal.specs.Number.{number_of}
 use Rattle.refusal.specs.declared.Refusal.{Refusal}
 use Rattle.refusal.specs.declared.Refusal.TheVariants as refusals
+use Rattle.refusal.specs.contracts.Refusal.{the_type}
 use Rattle.refusal.specs.contracts.RefusalPartialEq.TheImpl.{eq-value}
+use Rattle.refusal.proofs.Numbers.{same_cause}
+use Rattle.refusal.proofs.Handed.{handed}
 use Rattle.std.specs.Result.{result_eq}
 use Rattle.expr.specs.Binders.{all_known}
 use Rattle.expr.proofs.Strict.{Strict, same, refused, unknown, earlier}
@@ -41,8 +45,7 @@ ends p ws false e = rw (drop-none ws p (ltb-false p (length ws) e))
 
 -- what a `?` answers
 pub refusal_told : {A : Type 0} (e : Refusal) (r : Result A Refusal) → IsErr r × IsErrAnd r (λ y. y ≡ e) → sheet_of r ≡ sheets.refused (number_of e)
-refusal_told e (Err y) f = rw f.1
-refusal_told e (Ok y) f = absurd f.1
+refusal_told e r f = rw (handed e r f)
 
 -- a section of the sheet, read in the bytes up to where it ends
 module _ {A : Type 0} (one : Tables → List ℕ → Got A) (s : List ℕ) (p : Places) (bound : Option ℕ) (n from to : ℕ) where
@@ -143,31 +146,11 @@ module _ {B C : Type 0} where
 module _ (f : Unit {0} → Unit {0} → Bool) where
   pub is_unbound : (r : Result (Unit {0}) Refusal) → true ≡ result_eq f eq-value.it r (Err refusals.Unbound) → r ≡ Err refusals.Unbound
   is_unbound (Ok u) h = cc
-  is_unbound (Err refusals.Unbound) h = refl
-  is_unbound (Err refusals.Size) h = cc
-  is_unbound (Err refusals.Places) h = cc
-  is_unbound (Err refusals.Names) h = cc
-  is_unbound (Err refusals.Bindings) h = cc
-  is_unbound (Err refusals.Word) h = cc
-  is_unbound (Err refusals.Depth) h = cc
-  is_unbound (Err refusals.Entries) h = cc
-  is_unbound (Err refusals.Asked) h = cc
-  is_unbound (Err refusals.Page) h = cc
-  is_unbound (Err refusals.Room) h = cc
+  is_unbound (Err e) h = ap Err (same_true the_type tt e refusals.Unbound (sym h))
 
   pub not_unbound : (r : Result (Unit {0}) Refusal) → false ≡ result_eq f eq-value.it r (Err refusals.Unbound) → sheet_of r ≡ sheets.refused 7 → ⊥
   not_unbound (Ok u) h e = cc
-  not_unbound (Err refusals.Unbound) h e = cc
-  not_unbound (Err refusals.Size) h e = cc
-  not_unbound (Err refusals.Places) h e = cc
-  not_unbound (Err refusals.Names) h e = cc
-  not_unbound (Err refusals.Bindings) h e = cc
-  not_unbound (Err refusals.Word) h e = cc
-  not_unbound (Err refusals.Depth) h e = cc
-  not_unbound (Err refusals.Entries) h e = cc
-  not_unbound (Err refusals.Asked) h e = cc
-  not_unbound (Err refusals.Page) h e = cc
-  not_unbound (Err refusals.Room) h e = cc
+  not_unbound (Err c) h e = same_false the_type c refusals.Unbound (sym h) (same_cause c refusals.Unbound cc)
 
 -- the two readings of a sheet's head and arms
 known_same : (f g : ℕ → Bool) → ((v : ℕ) → f v ≡ g v) → (xs : List ℕ) → all_known f xs ≡ all_known g xs

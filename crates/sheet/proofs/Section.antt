@@ -10,8 +10,8 @@ use lib.Seq.{length-take-le, get_or-take, take-take, take-length}
 use Rattle.words.proofs.Words.{drop-word, drop-none}
 use Rattle.std.specs.Prelude.{Result, Ok, Err}
 use Rattle.std.specs.Result.{IsErr, IsErrAnd}
-use Rattle.refusal.specs.Number.{number_of}
 use Rattle.refusal.specs.declared.Refusal.{Refusal}
+use Rattle.refusal.proofs.Handed.{handed}
 use Rattle.refusal.specs.declared.Refusal.TheVariants as refusals
 use Rattle.tables.specs.Distinct.{name_in, distinct}
 use Rattle.tables.specs.Name.{name_at}
@@ -84,5 +84,4 @@ find-part {s} {p} i {r} e h x =
 -- a sheet that is refused by its trailer has no name
 pub not_found : (s : List ℕ) (i : ℕ) (e : Refusal) (r : Result (ℕ × ℕ) Refusal) → sheet_of {A = Places} (Err e) ≡ locate s → IsErr r × IsErrAnd r (λ y. y ≡ e) → FindsName i s r
 unfolding read_text
-not_found s i e (Err y) h f = record { same = rw (← h, f.1); reads = rw (← h, f.1); within = omega arith }
-not_found s i e (Ok y) h f = absurd f.1
+not_found s i e r h f = rw (handed e r f) (record { same = rw (← h); reads = rw (← h); within = omega arith })

@@ -10,6 +10,7 @@ use Rattle.words.specs.Fnv.{use_id}
 use Rattle.heads.specs.Got.{Got, ok, no, bind, many}
 use Rattle.heads.specs.Answer.{Ans, read_end}
 use Rattle.refusal.specs.declared.Refusal.{Refusal}
+use Rattle.refusal.proofs.Handed.{handed}
 use Rattle.std.specs.Prelude.{Result, Ok, Err}
 use Rattle.std.specs.Result.{IsErr, IsErrAnd}
 use Rattle.tables.specs.Name.{read_name, name_at, name_words, places_from}
@@ -84,8 +85,7 @@ module _ {s tab ids : List ℕ} {n p i : ℕ} where
   pub refused : (left : ℕ) (k : Refusal) (r : Result ℕ Refusal) → Scan s n tab ids p i left → Named s p (Err k) → 0 < left → IsErr r × IsErrAnd r (λ y. y ≡ k) → Scanned s n tab ids r
   unfolding many
   refused zero k r x b h f = absurd (omega arith)
-  refused (suc m) k (Err y) x b h f = record { same = x.same ∙ rw (b.1.same, f.1); fit = tt; placed = tt; ends = tt }
-  refused (suc m) k (Ok y) x b h f = absurd f.1
+  refused (suc m) k r x b h f = rw (handed k r f) (record { same = x.same ∙ rw b.1.same; fit = tt; placed = tt; ends = tt })
 
   pub done : (left : ℕ) → Scan s n tab ids p i left → left ≤ 0 → Scanned s n tab ids (Ok p)
   unfolding many

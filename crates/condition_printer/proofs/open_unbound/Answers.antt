@@ -1,12 +1,12 @@
 -- The sheet's own reading answers, unless it gives 7; then head and arms are read again, with binders not looked up (`Unbound`).
-use Rattle.std.proofs.Common.{◌≡◌, ◌∙◌, sym, rules}
+use Rattle.std.proofs.Common.{◌∙◌, sym, rules}
 use denote.Enum.Bare.{differs_true, differs_false}
-use Rattle.refusal.specs.Number.{number_of}
 use Rattle.refusal.specs.contracts.Refusal.{the_type}
 use Rattle.refusal.specs.declared.Refusal.TheVariants.{Unbound}
+use Rattle.refusal.proofs.Numbers.{same_cause}
 use Rattle.sheet.proofs.Placing.{placed_at}
 use Rattle.sheet.proofs.Causes.{refusal_told}
-use Rattle.condition_printer.proofs.Unbound.{unbound-is-seven, kept, places-refused, gave-seven, loose-no, loose_at}
+use Rattle.condition_printer.proofs.Unbound.{kept, places-refused, gave-seven, loose-no, loose_at}
 use Rattle.condition_printer.proofs.open_unbound.Goals as goal
 
 pub returns-in_err-p : goal.returns-in_err-p
@@ -34,4 +34,4 @@ returns-in_default c = kept _ c.open-told.ensures (λ e. let x = rw c.in_default
 
 pub returns-then-ne : goal.returns-then-ne
 returns-then-ne c =
-    kept _ c.in-Err.ensures (λ e. let seven : number_of c.in-Err.refusal ≡ 7 = cc in differs_true the_type _ _ (sym c.if-ne.ensures) (unbound-is-seven c.in-Err.refusal seven))
+    kept _ c.in-Err.ensures (λ e. differs_true the_type _ _ (sym c.if-ne.ensures) (same_cause c.in-Err.refusal Unbound cc))

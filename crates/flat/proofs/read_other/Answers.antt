@@ -1,11 +1,11 @@
 -- What `read_form` read, where no pattern and no items follow.
 use Rattle.std.proofs.Common.{refl, sym, ◌∙◌}
+use Rattle.refusal.proofs.Handed.{handed}
 use Rattle.flat.specs.Plain.{Simple}
-use Rattle.flat.proofs.Skimmed.{other_none}
 use Rattle.flat.proofs.read_other.Goals as goal
 
 pub returns-in_err-form : goal.returns-in_err-form
-returns-in_err-form c = other_none _ _ _ c.from_residual.result c.in_err-form.ensures.takes c.from_residual.ensures
+returns-in_err-form c = rw (handed _ _ c.from_residual.ensures) c.in_err-form.ensures.takes.same
 
 pub returns-then-items-eq0 : goal.returns-then-items-eq0
 returns-then-items-eq0 c =

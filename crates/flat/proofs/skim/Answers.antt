@@ -1,9 +1,8 @@
 -- A turn takes a plain head, whose parts join the row with a level of room less, or has an expression read whole. What is left tells the
 -- answer unless room runs out (`Skimmed`), and each turn ends later, or leaves one less: the measure counts more for a word than a head
 -- has parts.
-use Rattle.std.proofs.Common.{ℕ, arith}
-use Rattle.heads.specs.Answer.{words_of}
-use Rattle.flat.proofs.Skimmed.{Found, found, skim-begin, skim-deep, skim-done, skim-next, skim-stop, skim-no, skim-parts, skim-none}
+use Rattle.std.proofs.Common.{arith}
+use Rattle.flat.proofs.Skimmed.{found, skim-begin, skim-done, skim-next, skim-stop, skim-no, skim-parts, skim-none}
 use Rattle.flat.proofs.skim.Goals as goal
 
 pub loop-left-init : goal.loop-left-init

@@ -1,8 +1,7 @@
--- The loop's invariant: whether the whole table has v is whether the rows that are left have it.
-use Rattle.std.proofs.Common.{◌≡◌, rules, ◌+◌, ◌-◌, ◌∙◌, true, false, refl, sym, arith, slice_index_or}
+-- The next row has v, or those after it decide; past the words and past the last row there is none.
+use Rattle.std.proofs.Common.{◌≡◌, rules, ◌+◌, ◌-◌, ◌∙◌, true, false, sym, arith}
 use Rattle.std.specs.Prelude.{get_or, eqb}
 use borrow.Author.Tests.{eq-eqb, ne_eqb}
-use Rattle.words.specs.Words.{words}
 use Rattle.words.proofs.Words.{length-words}
 use Rattle.heads.specs.Answer.{words_of}
 use Rattle.heads.proofs.Bindings.{rows_more, rows-past, rows_none}

@@ -1,4 +1,4 @@
-use Rattle.std.proofs.Common.{rules}
+-- With no bindings given any variable may be bound; else it is sought in their rows, as the definition seeks it.
 use Rattle.heads.specs.Answer.{known_at}
 use Rattle.heads.proofs.Section.knows.Goals as goal
 

@@ -1,3 +1,4 @@
+-- The code is one word, so a head takes at least one; what follows the code is read as the definition reads it.
 use Rattle.std.proofs.Common.{rules, arith, ◌≡◌, ◌+◌, ◌<◌}
 use Rattle.heads.specs.Form.{read_form}
 use Rattle.heads.proofs.Reading.{onward, halted, longer_from}

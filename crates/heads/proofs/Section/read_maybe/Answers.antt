@@ -1,3 +1,4 @@
+-- The flag says, here as in the definition, whether a variable is read after it; what doesn't read is the refusal.
 use Rattle.std.proofs.Common.{rules}
 use borrow.Author.Tests.{eq-eqb, ne_eqb}
 use Rattle.heads.specs.Head.{read_maybe}

@@ -1,3 +1,4 @@
+-- The path variable and the count are read in the definition's order, and the first that doesn't read is the refusal.
 use Rattle.std.proofs.Common.{rules}
 use Rattle.heads.proofs.Reading.{onward, halted, over}
 use Rattle.heads.specs.Head.{read_part}

@@ -1,5 +1,5 @@
 -- The shape of a code says which of the definition's entries its arm is.
-use Rattle.std.proofs.Common.{rules, ◌≡◌, refl, arith}
+use Rattle.std.proofs.Common.{rules, arith}
 use borrow.Author.Tests.{ne_eqb}
 use Rattle.heads.specs.Form.{rest_of}
 use Rattle.heads.proofs.Reading.{onward, halted, over}

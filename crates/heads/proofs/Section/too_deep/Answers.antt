@@ -1,4 +1,5 @@
-use Rattle.std.proofs.Common.{rules, arith}
+-- The words from `at` on have a first exactly where there is a word at `at`.
+use Rattle.std.proofs.Common.{arith}
 use Rattle.words.specs.Words.{words}
 use Rattle.words.proofs.Words.{drop-word, drop-none}
 use Rattle.heads.specs.Head.{deep_cause}

@@ -1,7 +1,7 @@
-use Rattle.std.proofs.Common.{rules, arith, ◌≡◌, ℕ, length, drop}
+-- The words from `at` on begin with the word at `at`, which is tested as in the definition; past the last word there are none.
+use Rattle.std.proofs.Common.{arith}
 use Rattle.std.proofs.lemmas.Grind.{common_steps}
 use Rattle.words.proofs.Words.{drop-word, drop-none}
-use Rattle.words.specs.Words.{words}
 use Rattle.heads.specs.Got.{word_in}
 use Rattle.heads.proofs.Section.word_in.Goals as goal
 

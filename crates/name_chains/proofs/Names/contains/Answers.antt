@@ -1,6 +1,7 @@
 -- The loop's invariant: the search stands in the text's chain, and the text is sought among the names from there on.
 use Rattle.std.proofs.Common.{sym, ◌∙◌}
-use Rattle.name_chains.proofs.Laws.{from-head, prev-less, found, from-prev, missed, same-pointwise}
+use Rattle.tables.proofs.Fresh.{same-pointwise}
+use Rattle.name_chains.proofs.Laws.{from-head, prev-less, found, from-prev, missed}
 use Rattle.name_chains.proofs.Names.contains.Goals as goal
 
 pub loop-next-init : goal.loop-next-init
