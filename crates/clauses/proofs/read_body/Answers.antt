@@ -23,7 +23,7 @@ returns-in-3 c =
 pub returns-in-4 : goal.returns-in-4
 unfolding read_body
 returns-in-4 c =
-    rw (c.in-4.is, return-bare) c.counted_projections.ensures
+    rw (c.in-4.is, return-bare) c.counted.ensures
 
 pub returns-in-5 : goal.returns-in-5
 unfolding read_body

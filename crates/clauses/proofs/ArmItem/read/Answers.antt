@@ -1,7 +1,7 @@
 use Rattle.std.proofs.Common.{rules}
 use Rattle.heads.proofs.Reading.{past, failed, beyond, stopped, ended, over, chosen, otherwise}
 use Rattle.clauses.specs.Read.{read_arm}
-use Rattle.clauses.proofs.read_arm.Goals as goal
+use Rattle.clauses.proofs.ArmItem.read.Goals as goal
 
 pub returns-in_err-start : goal.returns-in_err-start
 unfolding read_arm

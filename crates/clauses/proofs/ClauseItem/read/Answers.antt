@@ -2,7 +2,7 @@ use Rattle.std.proofs.Common.{rules}
 use Rattle.heads.proofs.Reading.{past, failed, beyond, stopped, ended, over, chosen, otherwise}
 use Rattle.clauses.specs.Read.{read_clause}
 use Rattle.clauses.proofs.Body.{body-bare}
-use Rattle.clauses.proofs.read_clause.Goals as goal
+use Rattle.clauses.proofs.ClauseItem.read.Goals as goal
 
 pub returns-in_err-kind : goal.returns-in_err-kind
 unfolding read_clause

@@ -1,7 +1,7 @@
 use Rattle.std.proofs.Common.{rules}
 use Rattle.heads.proofs.Reading.{past, failed, beyond, stopped, ended, over, chosen, otherwise}
 use Rattle.clauses.specs.Read.{read_yield}
-use Rattle.clauses.proofs.read_yield.Goals as goal
+use Rattle.clauses.proofs.YieldItem.read.Goals as goal
 
 pub returns-in_err-at : goal.returns-in_err-at
 unfolding read_yield
