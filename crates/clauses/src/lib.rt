@@ -17,7 +17,7 @@ use refusal::Refusal;
 // The deepest expression that is read.
 pub const MAX_DEPTH: u32 = 48;
 
-// What stands in rows, one after the other.
+// What stands in rows, one after the other, and of which some rows have a count before them.
 pub trait Item {
     ghost Tree: { Type 0 };
 
@@ -31,7 +31,7 @@ pub trait Item {
 }
 
 // n of a kind.
-pub fn read_row<I: Item>(section: &Section, at: usize, n: u32) -> Result<usize, Refusal>
+pub fn read_many<I: Item>(section: &Section, at: usize, n: u32) -> Result<usize, Refusal>
     requires { at ≤ length (words_of section.now) }
     ensures { Reads (words_of section.now) at (many (I.one (tables_of section.now)) n) result }
 {
@@ -48,18 +48,12 @@ pub fn counted<I: Item>(section: &Section, at: usize) -> Result<usize, Refusal>
     ensures { Reads (words_of section.now) at (counted (I.one (tables_of section.now))) result }
 {
     let (n, at) = section.any_word(at)?;
-    read_row::<I>(section, at, n)
+    read_many::<I>(section, at, n)
 }
 
+// A projection: an alias or none, and an expression.
 pub struct Projection;
 
-pub struct Yield;
-
-pub struct Clause;
-
-pub struct Arm;
-
-// A projection: an alias or none, and an expression.
 impl Item for Projection {
     ghost Tree = { tree.Projection };
 
@@ -72,6 +66,8 @@ impl Item for Projection {
 }
 
 // A yield: a name, an alias or none, a variable.
+pub struct Yield;
+
 impl Item for Yield {
     ghost Tree = { tree.Yield };
 
@@ -185,6 +181,8 @@ pub fn read_body(section: &Section, at: usize, kind: u32) -> Result<usize, Refus
 }
 
 // A clause: kind, span, and what follows.
+pub struct Clause;
+
 impl Item for Clause {
     ghost Tree = { tree.Clause };
 
@@ -199,6 +197,8 @@ impl Item for Clause {
 }
 
 // An arm: span, a count, and as many clauses.
+pub struct Arm;
+
 impl Item for Arm {
     ghost Tree = { tree.Arm };
 

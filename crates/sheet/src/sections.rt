@@ -9,7 +9,7 @@ ghost use Rattle.sheet.specs.Answer.{InPlaces, sheet_of, judged, reached, Settle
 
 use crate::names::are_names;
 use crate::trailer::Places;
-use clauses::{read_arms, read_clauses};
+use clauses::{Arm, Clause, read_many};
 use heads::Section;
 use refusal::Refusal;
 use tables::{distinct_ids, read_rows};
@@ -70,7 +70,7 @@ fn check_head(s: &[u8], p: Places, bound: Option<usize>) -> Result<(), Refusal>
         rows: p.rows,
         bound,
     };
-    let at = read_clauses(&section, p.head, p.clauses)?;
+    let at = read_many::<Clause>(&section, p.head, p.clauses)?;
     check_end(at, count(section.bytes))
 }
 
@@ -85,7 +85,7 @@ fn check_arms(s: &[u8], p: Places, bound: Option<usize>) -> Result<(), Refusal>
         rows: p.rows,
         bound,
     };
-    let at = read_arms(&section, p.tail, p.arms)?;
+    let at = read_many::<Arm>(&section, p.tail, p.arms)?;
     check_end(at, count(section.bytes))
 }
 

@@ -8,8 +8,8 @@ use Rattle.sheet.proofs.Cutting.{words-front}
 use Rattle.sheet.proofs.Causes.{part_refused, part_read}
 use Rattle.sheet.proofs.sections.check_arms.Goals as goal
 
-pub read_arms-requires : goal.read_arms-requires
-read_arms-requires c =
+pub read_many-requires : goal.read_many-requires
+read_many-requires c =
     let a = c.args in
     rw (words-front a.p.trailer a.s.now) (omega (arith, length-take a.p.trailer (words a.s.now), length-words a.s.now))
 

@@ -8,8 +8,8 @@ use Rattle.sheet.proofs.Cutting.{words-front}
 use Rattle.sheet.proofs.Causes.{part_refused, part_read}
 use Rattle.sheet.proofs.sections.check_head.Goals as goal
 
-pub read_clauses-requires : goal.read_clauses-requires
-read_clauses-requires c =
+pub read_many-requires : goal.read_many-requires
+read_many-requires c =
     let a = c.args in
     rw (words-front a.p.tail a.s.now) (omega (arith, length-take a.p.tail (words a.s.now), length-words a.s.now))
 
