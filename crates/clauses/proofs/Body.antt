@@ -1,5 +1,6 @@
 -- What follows the kind and the span of a clause: which words it is does not go by the span, and of some kinds it is one reading.
 use Prim.Native.Nat.{ℕ}
+use Rattle.std.specs.Prelude.{◌≢◌}
 use mathlib.Core.Path.{◌≡◌, refl, sym, ◌∙◌}
 use mathlib.Core.Bool.{Bool, true, false, cond}
 use mathlib.Core.List.{List}
@@ -8,6 +9,11 @@ use Rattle.heads.specs.Head.{Tables}
 use Rattle.heads.proofs.Shapes.{bare-map, bare-end}
 use Rattle.expr.specs.Read.{no_more, times, pattern, maybe_pattern}
 use Rattle.clauses.specs.Tree.{Opening, Reading, where', delete, Keys, unsorted, sorted, opening, reading, with', return, unwind}
+use Rattle.clauses.specs.Kind.{code_of}
+use Rattle.clauses.specs.declared.ClauseKind.{ClauseKind}
+use Rattle.clauses.specs.declared.ClauseKind.TheVariants.{Match, Where, With, Return, Unwind, Create, Merge, Set, Remove, Delete, Call, SortedWith, SortedReturn}
+use lib.Dec.{eqb}
+use borrow.Author.Tests.{ne_eqb}
 use Rattle.clauses.specs.Read.{clause_expr, read_projection, read_yield, counted_exprs, counted_marks, no_keys, some_keys, read_match, read_opening, read_where, read_with, read_return, read_unwind, read_marked, read_delete, read_call, read_body}
 
 bare-both : {A : Type 0} (b : Bool) (x y : Got A) → bare (cond b x y) ≡ cond b (bare x) (bare y)
@@ -104,3 +110,10 @@ pub body-bare : (w : Tables) (a b : ℕ) (ws : List ℕ) (kind : ℕ) → bare (
 unfolding read_body
 body-bare w a b ws kind =
     simp (bare-both, opening-bare, where-bare, return-bare, marked-bare, delete-bare, match-bare w a b ws, with-bare w a b ws, sorted-bare w a b ws, unwind-bare w a b ws, call-bare w a b ws)
+
+-- a code that no kind has
+pub no-kind : (w : Tables) (a b : ℕ) (ws : List ℕ) (code : ℕ) → ((k : ClauseKind) → code_of k ≢ code) → read_body w a b code ws ≡ no 5
+unfolding read_body
+no-kind w a b ws code h =
+    let other : (k : ClauseKind) → eqb code (code_of k) ≡ false = λ k. ne_eqb _ _ (λ e. h k (sym e)) in
+    simp (other Match, other Where, other With, other Return, other Unwind, other Create, other Merge, other Set, other Remove, other Delete, other Call, other SortedWith, other SortedReturn)

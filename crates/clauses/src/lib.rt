@@ -7,6 +7,7 @@ ghost use Rattle.heads.specs.Head.{Tables};
 ghost use Rattle.heads.specs.Answer.{Reads, words_of, tables_of, kind_of};
 ghost use Rattle.clauses.specs.Tree as tree;
 ghost use Rattle.clauses.specs.Read.{read_projection, read_yield, counted_exprs, counted_marks, no_keys, read_match, read_with, read_unwind, read_call, read_body, read_clause, read_arm};
+ghost use Rattle.clauses.specs.Kind.{code_of, KindOf};
 ghost use Rattle.clauses.specs.Sorted.{sorted_with, sorted_return};
 
 use expr::{read_marks, read_pattern};
@@ -16,6 +17,48 @@ use refusal::Refusal;
 
 // The deepest expression that is read.
 pub const MAX_DEPTH: u32 = 48;
+
+// What a clause is.
+#[derive(Clone, Copy)]
+pub enum ClauseKind {
+    Match,
+    Where,
+    With,
+    Return,
+    Unwind,
+    Create,
+    Merge,
+    Set,
+    Remove,
+    Delete,
+    Call,
+    SortedWith,
+    SortedReturn,
+}
+
+impl ClauseKind {
+    // The kind with a code, if there is one.
+    pub fn of(code: u32) -> Option<ClauseKind>
+        ensures { KindOf code result }
+    {
+        match code {
+            1 => Some(ClauseKind::Match),
+            2 => Some(ClauseKind::Where),
+            3 => Some(ClauseKind::With),
+            4 => Some(ClauseKind::Return),
+            5 => Some(ClauseKind::Unwind),
+            6 => Some(ClauseKind::Create),
+            7 => Some(ClauseKind::Merge),
+            8 => Some(ClauseKind::Set),
+            9 => Some(ClauseKind::Remove),
+            10 => Some(ClauseKind::Delete),
+            11 => Some(ClauseKind::Call),
+            12 => Some(ClauseKind::SortedWith),
+            13 => Some(ClauseKind::SortedReturn),
+            _ => None,
+        }
+    }
+}
 
 // What stands in rows, one after the other, and of which some rows have a count before them.
 pub trait Item {
@@ -158,25 +201,24 @@ pub fn read_call(section: &Section, at: usize) -> Result<usize, Refusal>
 }
 
 // What follows the kind and the span of a clause.
-pub fn read_body(section: &Section, at: usize, kind: u32) -> Result<usize, Refusal>
+pub fn read_body(section: &Section, at: usize, kind: ClauseKind) -> Result<usize, Refusal>
     requires { at ≤ length (words_of section.now) }
-    ensures { Reads (words_of section.now) at (read_body (tables_of section.now) 0 0 kind) result }
+    ensures { Reads (words_of section.now) at (read_body (tables_of section.now) 0 0 (code_of kind)) result }
 {
     match kind {
-        1 => read_match(section, at),
-        2 => read_kids(section, at, MAX_DEPTH, 1),
-        3 => read_with(section, at),
-        4 => counted::<Projection>(section, at),
-        5 => read_unwind(section, at),
-        6 => read_pattern(section, at, MAX_DEPTH, true),
-        7 => read_pattern(section, at, MAX_DEPTH, true),
-        8 => counted_marks(section, at, MarkKind::Set),
-        9 => counted_marks(section, at, MarkKind::Remove),
-        10 => counted_exprs(section, at),
-        11 => read_call(section, at),
-        12 => read_sorted_with(section, at),
-        13 => read_sorted_return(section, at),
-        _ => Err(Refusal::Word),
+        ClauseKind::Match => read_match(section, at),
+        ClauseKind::Where => read_kids(section, at, MAX_DEPTH, 1),
+        ClauseKind::With => read_with(section, at),
+        ClauseKind::Return => counted::<Projection>(section, at),
+        ClauseKind::Unwind => read_unwind(section, at),
+        ClauseKind::Create => read_pattern(section, at, MAX_DEPTH, true),
+        ClauseKind::Merge => read_pattern(section, at, MAX_DEPTH, true),
+        ClauseKind::Set => counted_marks(section, at, MarkKind::Set),
+        ClauseKind::Remove => counted_marks(section, at, MarkKind::Remove),
+        ClauseKind::Delete => counted_exprs(section, at),
+        ClauseKind::Call => read_call(section, at),
+        ClauseKind::SortedWith => read_sorted_with(section, at),
+        ClauseKind::SortedReturn => read_sorted_return(section, at),
     }
 }
 
@@ -189,9 +231,12 @@ impl Item for Clause {
     ghost one = { read_clause };
 
     fn read(section: &Section, at: usize) -> Result<usize, Refusal> {
-        let (kind, at) = section.any_word(at)?;
+        let (code, at) = section.any_word(at)?;
         let (start, at) = section.any_word(at)?;
         let (_, at) = section.word_in(at, start, 4294967296)?;
+        let Some(kind) = ClauseKind::of(code) else {
+            return Err(Refusal::Word);
+        };
         read_body(section, at, kind)
     }
 }

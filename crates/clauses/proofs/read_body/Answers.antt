@@ -1,77 +1,69 @@
 -- Each arm is the definition's entry for its kind, of which the `..-bare` laws leave what the code reads.
-use native.Mathlib.Omega.{arith}
-use borrow.Author.Tests.{ne_eqb}
 use Rattle.clauses.specs.Read.{read_body}
 use Rattle.clauses.proofs.Body.{where-bare, return-bare, opening-bare, marked-bare, delete-bare}
 use Rattle.clauses.proofs.read_body.Goals as goal
 
-pub returns-in-1 : goal.returns-in-1
+pub returns-in-Match : goal.returns-in-Match
 unfolding read_body
-returns-in-1 c =
-    rw c.in-1.is c.read_match.ensures
+returns-in-Match c =
+    rw c.in-Match.is c.read_match.ensures
 
-pub returns-in-2 : goal.returns-in-2
+pub returns-in-Where : goal.returns-in-Where
 unfolding read_body
-returns-in-2 c =
-    rw (c.in-2.is, where-bare) c.read_kids.ensures
+returns-in-Where c =
+    rw (c.in-Where.is, where-bare) c.read_kids.ensures
 
-pub returns-in-3 : goal.returns-in-3
+pub returns-in-With : goal.returns-in-With
 unfolding read_body
-returns-in-3 c =
-    rw c.in-3.is c.read_with.ensures
+returns-in-With c =
+    rw c.in-With.is c.read_with.ensures
 
-pub returns-in-4 : goal.returns-in-4
+pub returns-in-Return : goal.returns-in-Return
 unfolding read_body
-returns-in-4 c =
-    rw (c.in-4.is, return-bare) c.counted.ensures
+returns-in-Return c =
+    rw (c.in-Return.is, return-bare) c.counted.ensures
 
-pub returns-in-5 : goal.returns-in-5
+pub returns-in-Unwind : goal.returns-in-Unwind
 unfolding read_body
-returns-in-5 c =
-    rw c.in-5.is c.read_unwind.ensures
+returns-in-Unwind c =
+    rw c.in-Unwind.is c.read_unwind.ensures
 
-pub returns-in-6 : goal.returns-in-6
+pub returns-in-Create : goal.returns-in-Create
 unfolding read_body
-returns-in-6 c =
-    rw (c.in-6.is, opening-bare) c.read_pattern.ensures
+returns-in-Create c =
+    rw (c.in-Create.is, opening-bare) c.read_pattern.ensures
 
-pub returns-in-7 : goal.returns-in-7
+pub returns-in-Merge : goal.returns-in-Merge
 unfolding read_body
-returns-in-7 c =
-    rw (c.in-7.is, opening-bare) c.read_pattern-in-7.ensures
+returns-in-Merge c =
+    rw (c.in-Merge.is, opening-bare) c.read_pattern-in-Merge.ensures
 
-pub returns-in-8 : goal.returns-in-8
+pub returns-in-Set : goal.returns-in-Set
 unfolding read_body
-returns-in-8 c =
-    rw (c.in-8.is, marked-bare) c.counted_marks.ensures
+returns-in-Set c =
+    rw (c.in-Set.is, marked-bare) c.counted_marks.ensures
 
-pub returns-in-9 : goal.returns-in-9
+pub returns-in-Remove : goal.returns-in-Remove
 unfolding read_body
-returns-in-9 c =
-    rw (c.in-9.is, marked-bare) c.counted_marks-in-9.ensures
+returns-in-Remove c =
+    rw (c.in-Remove.is, marked-bare) c.counted_marks-in-Remove.ensures
 
-pub returns-in-10 : goal.returns-in-10
+pub returns-in-Delete : goal.returns-in-Delete
 unfolding read_body
-returns-in-10 c =
-    rw (c.in-10.is, delete-bare) c.counted_exprs.ensures
+returns-in-Delete c =
+    rw (c.in-Delete.is, delete-bare) c.counted_exprs.ensures
 
-pub returns-in-11 : goal.returns-in-11
+pub returns-in-Call : goal.returns-in-Call
 unfolding read_body
-returns-in-11 c =
-    rw c.in-11.is c.read_call.ensures
+returns-in-Call c =
+    rw c.in-Call.is c.read_call.ensures
 
-pub returns-in-12 : goal.returns-in-12
+pub returns-in-SortedWith : goal.returns-in-SortedWith
 unfolding read_body
-returns-in-12 c =
-    rw c.in-12.is c.read_sorted_with.ensures
+returns-in-SortedWith c =
+    rw c.in-SortedWith.is c.read_sorted_with.ensures
 
-pub returns-in-13 : goal.returns-in-13
+pub returns-in-SortedReturn : goal.returns-in-SortedReturn
 unfolding read_body
-returns-in-13 c =
-    rw c.in-13.is c.read_sorted_return.ensures
-
-pub returns-in_default : goal.returns-in_default
-unfolding read_body
-returns-in_default c =
-    let r = c.in_default.in_default-own.rest in
-    record { same = simp (ne_eqb _ 1 r.0.0.0.0.0.0.0.0.0.0.0.0.1, ne_eqb _ 2 r.0.0.0.0.0.0.0.0.0.0.0.1, ne_eqb _ 3 r.0.0.0.0.0.0.0.0.0.0.1, ne_eqb _ 4 r.0.0.0.0.0.0.0.0.0.1, ne_eqb _ 5 r.0.0.0.0.0.0.0.0.1, ne_eqb _ 6 r.0.0.0.0.0.0.0.1, ne_eqb _ 7 r.0.0.0.0.0.0.1, ne_eqb _ 8 r.0.0.0.0.0.1, ne_eqb _ 9 r.0.0.0.0.1, ne_eqb _ 10 r.0.0.0.1, ne_eqb _ 11 r.0.0.1, ne_eqb _ 12 r.0.1, ne_eqb _ 13 r.1); from = omega arith; within = omega arith }
+returns-in-SortedReturn c =
+    rw c.in-SortedReturn.is c.read_sorted_return.ensures

@@ -1,0 +1,24 @@
+-- The kinds of clauses and their codes (document 01, "Clause").
+use Rattle.std.specs.Prelude.{ℕ, ◌≡◌, ◌≢◌, Option, None, Some}
+use Rattle.clauses.specs.declared.ClauseKind.{ClauseKind}
+use Rattle.clauses.specs.declared.ClauseKind.TheVariants.{Match, Where, With, Return, Unwind, Create, Merge, Set, Remove, Delete, Call, SortedWith, SortedReturn}
+
+abbrev pub code_of : ClauseKind → ℕ
+code_of Match = 1
+code_of Where = 2
+code_of With = 3
+code_of Return = 4
+code_of Unwind = 5
+code_of Create = 6
+code_of Merge = 7
+code_of Set = 8
+code_of Remove = 9
+code_of Delete = 10
+code_of Call = 11
+code_of SortedWith = 12
+code_of SortedReturn = 13
+
+-- the kind with a code, or no kind has it
+abbrev pub KindOf : ℕ → Option ClauseKind → Type 0
+KindOf code (Some k) = code_of k ≡ code
+KindOf code None = (k : ClauseKind) → code_of k ≢ code
