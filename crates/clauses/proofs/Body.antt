@@ -1,17 +1,20 @@
 -- What follows the kind and the span of a clause: which words it is does not go by the span, and of some kinds it is one reading.
 use Prim.Native.Nat.{ℕ}
-use Rattle.std.specs.Prelude.{◌≢◌}
+use Rattle.std.proofs.Common.{Err, ◌≤◌, length, drop, arith}
+use Rattle.refusal.specs.Number.{number_of}
+use Rattle.refusal.specs.declared.Refusal.{Refusal}
 use mathlib.Core.Path.{◌≡◌, refl, sym, ◌∙◌}
 use mathlib.Core.Bool.{Bool, true, false, cond}
 use mathlib.Core.List.{List}
 use Rattle.heads.specs.Got.{Got, ok, no, bind, bare, any_word, flag, counted}
 use Rattle.heads.specs.Head.{Tables}
+use Rattle.heads.specs.Answer.{Ans}
 use Rattle.heads.proofs.Shapes.{bare-map, bare-end}
 use Rattle.expr.specs.Read.{no_more, times, pattern, maybe_pattern}
 use Rattle.clauses.specs.Tree.{Opening, Reading, where', delete, Keys, unsorted, sorted, opening, reading, with', return, unwind}
-use Rattle.clauses.specs.Kind.{code_of}
-use Rattle.clauses.specs.declared.ClauseKind.{ClauseKind}
-use Rattle.clauses.specs.declared.ClauseKind.TheVariants.{Match, Where, With, Return, Unwind, Create, Merge, Set, Remove, Delete, Call, SortedWith, SortedReturn}
+use Rattle.clauses.specs.Kind.{code_of, Decodes}
+use Rattle.clauses.specs.declared.kind.ClauseKind.{ClauseKind}
+use Rattle.clauses.specs.declared.kind.ClauseKind.TheVariants.{Match, Where, With, Return, Unwind, Create, Merge, Set, Remove, Delete, Call, SortedWith, SortedReturn}
 use lib.Dec.{eqb}
 use borrow.Author.Tests.{ne_eqb}
 use Rattle.clauses.specs.Read.{clause_expr, read_projection, read_yield, counted_exprs, counted_marks, no_keys, some_keys, read_match, read_opening, read_where, read_with, read_return, read_unwind, read_marked, read_delete, read_call, read_body}
@@ -112,8 +115,12 @@ body-bare w a b ws kind =
     simp (bare-both, opening-bare, where-bare, return-bare, marked-bare, delete-bare, match-bare w a b ws, with-bare w a b ws, sorted-bare w a b ws, unwind-bare w a b ws, call-bare w a b ws)
 
 -- a code that no kind has
-pub no-kind : (w : Tables) (a b : ℕ) (ws : List ℕ) (code : ℕ) → ((k : ClauseKind) → code_of k ≢ code) → read_body w a b code ws ≡ no 5
+pub no-kind : (w : Tables) (a b code : ℕ) (e : Refusal) {ws : List ℕ} {at : ℕ} → at ≤ length ws → Decodes code (Err e) → Ans ws at (bare (read_body w a b code (drop at ws))) (no (number_of e)) at
 unfolding read_body
-no-kind w a b ws code h =
-    let other : (k : ClauseKind) → eqb code (code_of k) ≡ false = λ k. ne_eqb _ _ (λ e. h k (sym e)) in
-    simp (other Match, other Where, other With, other Return, other Unwind, other Create, other Merge, other Set, other Remove, other Delete, other Call, other SortedWith, other SortedReturn)
+no-kind w a b code e l h =
+    let other : (k : ClauseKind) → eqb code (code_of k) ≡ false = λ k. ne_eqb _ _ (λ x. h.1 k (sym x)) in
+    record {
+      same = simp (h.0, other Match, other Where, other With, other Return, other Unwind, other Create, other Merge, other Set, other Remove, other Delete, other Call, other SortedWith, other SortedReturn);
+      from = omega arith;
+      within = l;
+    }

@@ -1,7 +1,9 @@
 -- The kinds of clauses and their codes (document 01, "Clause").
-use Rattle.std.specs.Prelude.{ℕ, ◌≡◌, ◌≢◌, Option, None, Some}
-use Rattle.clauses.specs.declared.ClauseKind.{ClauseKind}
-use Rattle.clauses.specs.declared.ClauseKind.TheVariants.{Match, Where, With, Return, Unwind, Create, Merge, Set, Remove, Delete, Call, SortedWith, SortedReturn}
+use Rattle.std.specs.Prelude.{ℕ, ◌≡◌, ◌≢◌, Result, Ok, Err}
+use Rattle.refusal.specs.declared.Refusal.{Refusal}
+use Rattle.refusal.specs.declared.Refusal.TheVariants.{Word}
+use Rattle.clauses.specs.declared.kind.ClauseKind.{ClauseKind}
+use Rattle.clauses.specs.declared.kind.ClauseKind.TheVariants.{Match, Where, With, Return, Unwind, Create, Merge, Set, Remove, Delete, Call, SortedWith, SortedReturn}
 
 abbrev pub code_of : ClauseKind → ℕ
 code_of Match = 1
@@ -18,7 +20,7 @@ code_of Call = 11
 code_of SortedWith = 12
 code_of SortedReturn = 13
 
--- the kind with a code, or no kind has it
-abbrev pub KindOf : ℕ → Option ClauseKind → Type 0
-KindOf code (Some k) = code_of k ≡ code
-KindOf code None = (k : ClauseKind) → code_of k ≢ code
+-- the kind with a code, or cause 5 for a code that no kind has
+abbrev pub Decodes : ℕ → Result ClauseKind Refusal → Type 0
+Decodes code (Ok kind) = code_of kind ≡ code
+Decodes code (Err e) = (e ≡ Word) × ((kind : ClauseKind) → code_of kind ≢ code)

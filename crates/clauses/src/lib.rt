@@ -1,64 +1,25 @@
 // Clauses and arms of a section, read in place.
 #![tactic(auto)]
 
+mod kind;
+
 ghost use Rattle.std.specs.Prelude.{Bool, true, false, ℕ, List, ◌≤◌, length, drop};
 ghost use Rattle.heads.specs.Got.{Got, many, counted};
 ghost use Rattle.heads.specs.Head.{Tables};
 ghost use Rattle.heads.specs.Answer.{Reads, words_of, tables_of, kind_of};
 ghost use Rattle.clauses.specs.Tree as tree;
 ghost use Rattle.clauses.specs.Read.{read_projection, read_yield, counted_exprs, counted_marks, no_keys, read_match, read_with, read_unwind, read_call, read_body, read_clause, read_arm};
-ghost use Rattle.clauses.specs.Kind.{code_of, KindOf};
+ghost use Rattle.clauses.specs.Kind.{code_of};
 ghost use Rattle.clauses.specs.Sorted.{sorted_with, sorted_return};
 
 use expr::{read_marks, read_pattern};
 use flat::{read_expr, read_kids};
 use heads::{MarkKind, Section};
+pub use kind::ClauseKind;
 use refusal::Refusal;
 
 // The deepest expression that is read.
 pub const MAX_DEPTH: u32 = 48;
-
-// What a clause is.
-#[derive(Clone, Copy)]
-pub enum ClauseKind {
-    Match,
-    Where,
-    With,
-    Return,
-    Unwind,
-    Create,
-    Merge,
-    Set,
-    Remove,
-    Delete,
-    Call,
-    SortedWith,
-    SortedReturn,
-}
-
-impl ClauseKind {
-    // The kind with a code, if there is one.
-    pub fn of(code: u32) -> Option<ClauseKind>
-        ensures { KindOf code result }
-    {
-        match code {
-            1 => Some(ClauseKind::Match),
-            2 => Some(ClauseKind::Where),
-            3 => Some(ClauseKind::With),
-            4 => Some(ClauseKind::Return),
-            5 => Some(ClauseKind::Unwind),
-            6 => Some(ClauseKind::Create),
-            7 => Some(ClauseKind::Merge),
-            8 => Some(ClauseKind::Set),
-            9 => Some(ClauseKind::Remove),
-            10 => Some(ClauseKind::Delete),
-            11 => Some(ClauseKind::Call),
-            12 => Some(ClauseKind::SortedWith),
-            13 => Some(ClauseKind::SortedReturn),
-            _ => None,
-        }
-    }
-}
 
 // What stands in rows, one after the other, and of which some rows have a count before them.
 pub trait Item {
@@ -234,9 +195,7 @@ impl Item for Clause {
         let (code, at) = section.any_word(at)?;
         let (start, at) = section.any_word(at)?;
         let (_, at) = section.word_in(at, start, 4294967296)?;
-        let Some(kind) = ClauseKind::of(code) else {
-            return Err(Refusal::Word);
-        };
+        let kind = ClauseKind::try_from(code)?;
         read_body(section, at, kind)
     }
 }

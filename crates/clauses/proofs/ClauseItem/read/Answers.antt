@@ -1,5 +1,5 @@
 use Rattle.std.proofs.Common.{ap, rules, arith}
-use Rattle.heads.proofs.Reading.{past, failed, beyond, stopped, ended, over, chosen, otherwise}
+use Rattle.heads.proofs.Reading.{past, refused, failed, beyond, stopped, ended, over, chosen, otherwise}
 use Rattle.heads.specs.Got.{bare}
 use Rattle.clauses.specs.Read.{read_clause}
 use Rattle.clauses.proofs.Body.{body-bare, no-kind}
@@ -17,16 +17,14 @@ pub returns-in_err-at : goal.returns-in_err-at
 unfolding read_clause
 returns-in_err-at c = search (rules, past, failed, beyond, stopped, ended, over, chosen, otherwise)
 
-pub returns-in_default : goal.returns-in_default
+pub returns-in_err-kind : goal.returns-in_err-kind
 unfolding read_clause
-returns-in_default c =
-    let none = rw c.in_default.is at c.of.ensures in
+returns-in_err-kind c =
     let span = c.in_ok-at.ensures.takes in
-    past _ c.in_ok-code.ensures.takes (past _ c.in_ok-start.ensures.takes (past _ span (record { same = ap bare (no-kind _ _ _ _ _ none); from = span.within; within = omega arith })))
+    past _ c.in_ok-code.ensures.takes (past _ c.in_ok-start.ensures.takes (past _ span (refused _ _ c.from_residual-in_err-kind.ensures (no-kind _ _ _ _ _ span.within c.in_err-kind.ensures))))
 
 pub returns : goal.returns
 unfolding read_clause
 returns c =
-    let is = rw c.in-Some.is at c.of.ensures in
-    let read = rw is at c.read_body.ensures in
+    let read = rw c.in_ok-kind.ensures at c.read_body.ensures in
     past _ c.in_ok-code.ensures.takes (past _ c.in_ok-start.ensures.takes (past _ c.in_ok-at.ensures.takes (rw body-bare read)))
