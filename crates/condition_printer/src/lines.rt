@@ -6,7 +6,7 @@ ghost use Rattle.clauses.specs.Read.{read_clause, read_arm};
 ghost use Rattle.condition_text.specs.Write.{Ready};
 ghost use Rattle.condition_printer.specs.Page.{IsWith, Placed, PutClause, PutClauses, PutArm, PutArms};
 
-use clauses::{Clause, Item, MAX_DEPTH, Projection, counted};
+use clauses::{Clause, ClauseKind, Item, MAX_DEPTH, Projection, counted};
 use condition_text::{Page, print};
 use heads::Section;
 use words::word;
@@ -29,9 +29,9 @@ fn place_of(section: &Section, at: usize) -> Option<usize>
     requires { (is_ok (read_clause (tables_of section.now) (drop at (words_of section.now))) ≡ true) × (at ≤ length (words_of section.now)) }
     ensures { Placed (words_of section.now) (tables_of section.now) at result }
 {
-    match word(section.bytes, at) {
-        2 => Some(at + 3),
-        3 | 12 => filter_of(section, at),
+    match ClauseKind::try_from(word(section.bytes, at)) {
+        Ok(ClauseKind::Where) => Some(at + 3),
+        Ok(ClauseKind::With | ClauseKind::SortedWith) => filter_of(section, at),
         _ => None,
     }
 }

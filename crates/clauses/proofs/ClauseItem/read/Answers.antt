@@ -1,21 +1,8 @@
-use Rattle.std.proofs.Common.{ap, rules, arith}
-use Rattle.heads.proofs.Reading.{past, refused, failed, beyond, stopped, ended, over, chosen, otherwise}
-use Rattle.heads.specs.Got.{bare}
+-- Which words follow does not go by the span (`body-bare`), and none follow a code that no kind has.
+use Rattle.heads.proofs.Reading.{past, refused}
 use Rattle.clauses.specs.Read.{read_clause}
 use Rattle.clauses.proofs.Body.{body-bare, no-kind}
 use Rattle.clauses.proofs.ClauseItem.read.Goals as goal
-
-pub returns-in_err-code : goal.returns-in_err-code
-unfolding read_clause
-returns-in_err-code c = search (rules, past, failed, beyond, stopped, ended, over, chosen, otherwise)
-
-pub returns-in_err-start : goal.returns-in_err-start
-unfolding read_clause
-returns-in_err-start c = search (rules, past, failed, beyond, stopped, ended, over, chosen, otherwise)
-
-pub returns-in_err-at : goal.returns-in_err-at
-unfolding read_clause
-returns-in_err-at c = search (rules, past, failed, beyond, stopped, ended, over, chosen, otherwise)
 
 pub returns-in_err-kind : goal.returns-in_err-kind
 unfolding read_clause
