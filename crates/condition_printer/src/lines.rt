@@ -29,9 +29,12 @@ fn place_of(section: &Section, at: usize) -> Option<usize>
     requires { (is_ok (read_clause (tables_of section.now) (drop at (words_of section.now))) ≡ true) × (at ≤ length (words_of section.now)) }
     ensures { Placed (words_of section.now) (tables_of section.now) at result }
 {
-    match ClauseKind::try_from(word(section.bytes, at)) {
-        Ok(ClauseKind::Where) => Some(at + 3),
-        Ok(ClauseKind::With | ClauseKind::SortedWith) => filter_of(section, at),
+    let Ok(kind) = ClauseKind::try_from(word(section.bytes, at)) else {
+        return None;
+    };
+    match kind {
+        ClauseKind::Where => Some(at + 3),
+        ClauseKind::With | ClauseKind::SortedWith => filter_of(section, at),
         _ => None,
     }
 }
