@@ -11,11 +11,10 @@ use lib.ListN.{length, get_or}
 use Rattle.words.specs.Words.{words}
 use Rattle.words.proofs.Words.{length-words}
 use Rattle.sheet.specs.Trailer.{max_bytes, sized, trailer_at, trailer, in_place, places_of}
-use Rattle.sheet.specs.Read.{Sheet, accepted, refused, unless, locate}
+use Rattle.sheet.specs.Read.{accepted, refused, unless, locate}
 use Rattle.sheet.specs.Answer.{sheet_of, InPlaces}
 use Rattle.sheet.specs.declared.trailer.Places.{Places}
-use Rattle.refusal.specs.declared.Refusal.{Refusal}
-use Rattle.std.specs.Prelude.{Result, Ok, Err}
+use Rattle.std.specs.Prelude.{Ok}
 
 pub both : (a b : Bool) → a && b ≡ true → (a ≡ true) × (b ≡ true)
 both true b e = (refl, e)

@@ -10,7 +10,6 @@ use lib.Seq.{length-take-le, get_or-take, take-take, take-length}
 use Rattle.words.proofs.Words.{drop-word, drop-none}
 use Rattle.std.specs.Prelude.{Result, Ok, Err}
 use Rattle.std.specs.Result.{IsErr, IsErrAnd}
-use Rattle.refusal.specs.Number.{number_of}
 use Rattle.refusal.specs.declared.Refusal.{Refusal}
 use Rattle.refusal.specs.declared.Refusal.TheVariants as refusals
 use Rattle.tables.specs.Distinct.{name_in, distinct}

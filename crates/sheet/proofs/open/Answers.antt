@@ -1,5 +1,5 @@
 -- Each size has tables with a place for every word, and a sheet that is longer is refused by cause 1.
-use Rattle.std.proofs.Common.{sym, ◌∙◌}
+use Rattle.std.proofs.Common.{sym}
 use Rattle.sheet.proofs.Placing.{too_long}
 use Rattle.sheet.proofs.Whole.{places-refused}
 use Rattle.sheet.proofs.open.Goals as goal

@@ -1,6 +1,6 @@
 -- Places, tables, head and arms, in the definition's order: the first that is refused refuses the sheet. Where none is, the lent tables
 -- hold the names of their section, which are the statement's (`names-kept`).
-use Rattle.std.proofs.Common.{refl, sym, ◌∙◌, arith}
+use Rattle.std.proofs.Common.{refl, ◌∙◌, arith}
 use Rattle.sheet.proofs.Placing.{placed_at}
 use Rattle.sheet.proofs.Causes.{refusal_told}
 use Rattle.sheet.proofs.Whole.{places-refused, tables-refused, rows_fit, clauses-refused, whole-accepted, no_names, names-kept}

@@ -1,5 +1,4 @@
 -- Tables of N places.
-use Rattle.std.proofs.Common.{ℕ, arith}
 use lib.ListN.{length-replicate}
 use Rattle.sheet.proofs.open_sized.Goals as goal
 

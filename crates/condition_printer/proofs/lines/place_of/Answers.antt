@@ -1,8 +1,7 @@
 -- By the clause's kind, which its first word tells.
-use Rattle.std.proofs.Common.{◌∙◌, sym, ap, arith}
+use Rattle.std.proofs.Common.{◌∙◌, sym, arith}
 use Rattle.words.proofs.Words.{length-words}
 use Rattle.heads.specs.Answer.{words_of, tables_of}
-use Rattle.clauses.specs.Kind.{code_of}
 use Rattle.condition_printer.proofs.Clauses.{where-stands, other-kind, no-kind}
 use Rattle.condition_printer.proofs.lines.place_of.Goals as goal
 

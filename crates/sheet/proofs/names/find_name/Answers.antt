@@ -1,8 +1,7 @@
 -- The names' section is the part of the sheet before the bindings; what is found there is found in the sheet (`find-part`).
-use Rattle.std.proofs.Common.{◌≡◌, ◌*◌, ◌∙◌, sym, arith}
+use Rattle.std.proofs.Common.{◌*◌, sym, arith}
 use lib.ListN.{length-take}
 use lib.Seq.{length-take-le}
-use Rattle.sheet.specs.Read.{read_text}
 use Rattle.sheet.proofs.Placing.{placed_at}
 use Rattle.sheet.proofs.Section.{find-part, not_found}
 use Rattle.sheet.proofs.names.find_name.Goals as goal

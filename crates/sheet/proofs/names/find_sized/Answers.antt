@@ -1,5 +1,5 @@
 -- Where the bytes are n names, the table has the place of each.
-use Rattle.std.proofs.Common.{refl, arith, ℕ}
+use Rattle.std.proofs.Common.{refl, arith}
 use lib.ListN.{length-replicate}
 use Rattle.sheet.proofs.Section.{find_at, find_past, find_none}
 use Rattle.sheet.proofs.names.find_sized.Goals as goal

@@ -1,5 +1,5 @@
 -- The head's refusal is the whole's; where it is accepted, the arms decide.
-use Rattle.std.proofs.Common.{◌∙◌, sym}
+use Rattle.std.proofs.Common.{◌∙◌}
 use Rattle.clauses.specs.Read.{read_clause, read_arm}
 use Rattle.sheet.specs.Answer.{section_of}
 use Rattle.sheet.proofs.Causes.{refusal_told, then-refused, then-accepted}

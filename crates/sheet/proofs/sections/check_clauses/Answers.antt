@@ -1,8 +1,6 @@
 -- Read strictly, and again only where that gives 7: each answer is the definition's, by how the two readings differ.
-use Rattle.std.proofs.Common.{◌≡◌, ◌∙◌, ap, sym, Result, Err}
-use Rattle.refusal.specs.declared.Refusal.{Refusal}
+use Rattle.std.proofs.Common.{◌≡◌, ◌∙◌, Err}
 use Rattle.refusal.specs.declared.Refusal.TheVariants.{Unbound}
-use Rattle.sheet.specs.Answer.{sheet_of}
 use Rattle.sheet.proofs.Causes.{clauses-both, both-first, both-again, both-unbound, is_unbound, not_unbound, refusal_told}
 use Rattle.sheet.proofs.sections.check_clauses.Goals as goal
 

@@ -1,5 +1,5 @@
 -- The reader's answer, where the section ends, is the section's.
-use Rattle.std.proofs.Common.{arith, length}
+use Rattle.std.proofs.Common.{arith}
 use lib.ListN.{length-take}
 use Rattle.words.specs.Words.{words}
 use Rattle.words.proofs.Words.{length-words}
