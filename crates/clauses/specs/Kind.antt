@@ -1,4 +1,4 @@
--- The kinds of clauses and their codes (document 01, "Clause").
+-- The kinds of clauses and their codes (document 01, "Clause"; document 02 adds 12 and 13, a WITH and a RETURN with sort keys).
 use Rattle.std.specs.Prelude.{ℕ, ◌≡◌, ◌≢◌, Result, Ok, Err}
 use Rattle.refusal.specs.declared.Refusal.{Refusal}
 use Rattle.refusal.specs.declared.Refusal.TheVariants.{Word}

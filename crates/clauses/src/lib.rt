@@ -21,20 +21,21 @@ use refusal::Refusal;
 // The deepest expression that is read.
 pub const MAX_DEPTH: u32 = 48;
 
-// What stands in rows, one after the other, and of which some rows have a count before them.
+// What a section has many of, one after the other.
 pub trait Item {
+    // one of them as a tree
     ghost Tree: { Type 0 };
 
     // how the definition reads one
     ghost one: { Tables → List ℕ → Got Tree };
 
-    // One of them.
+    // Reads one.
     fn read(section: &Section, at: usize) -> Result<usize, Refusal>
         requires { at ≤ length (words_of section.now) }
         ensures { Reads (words_of section.now) at (one (tables_of section.now)) result };
 }
 
-// n of a kind.
+// n items of a kind.
 pub fn read_many<I: Item>(section: &Section, at: usize, n: u32) -> Result<usize, Refusal>
     requires { at ≤ length (words_of section.now) }
     ensures { Reads (words_of section.now) at (many (I.one (tables_of section.now)) n) result }
@@ -46,7 +47,7 @@ pub fn read_many<I: Item>(section: &Section, at: usize, n: u32) -> Result<usize,
     Ok(p)
 }
 
-// A count, and as many of a kind.
+// A count, and as many items of a kind.
 pub fn counted<I: Item>(section: &Section, at: usize) -> Result<usize, Refusal>
     requires { at ≤ length (words_of section.now) }
     ensures { Reads (words_of section.now) at (counted (I.one (tables_of section.now))) result }
@@ -172,8 +173,7 @@ pub fn read_body(section: &Section, at: usize, kind: ClauseKind) -> Result<usize
         ClauseKind::With => read_with(section, at),
         ClauseKind::Return => counted::<Projection>(section, at),
         ClauseKind::Unwind => read_unwind(section, at),
-        ClauseKind::Create => read_pattern(section, at, MAX_DEPTH, true),
-        ClauseKind::Merge => read_pattern(section, at, MAX_DEPTH, true),
+        ClauseKind::Create | ClauseKind::Merge => read_pattern(section, at, MAX_DEPTH, true),
         ClauseKind::Set => counted_marks(section, at, MarkKind::Set),
         ClauseKind::Remove => counted_marks(section, at, MarkKind::Remove),
         ClauseKind::Delete => counted_exprs(section, at),

@@ -58,7 +58,7 @@ fn check_end(at: usize, end: usize) -> Result<(), Refusal>
     Ok(())
 }
 
-// n of a kind from one word up to another, and nothing else. Binders are sought among so many bindings, or not at all.
+// n items of a kind from one word up to another, and nothing else. Binders are sought among so many bindings, or not at all.
 fn check_section<I: Item>(
     s: &[u8],
     p: Places,

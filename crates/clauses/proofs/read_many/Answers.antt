@@ -1,3 +1,4 @@
+-- One item a turn (`Row`).
 use Rattle.std.proofs.Common.{arith}
 use Rattle.heads.proofs.Rows.{row_begun, row_next, row_stop, row_done}
 use Rattle.clauses.proofs.read_many.Goals as goal

@@ -1,3 +1,4 @@
+-- What is left to read is what the whole is (`Row`).
 use Rattle.heads.specs.Answer.{words_of, tables_of}
 use Rattle.heads.proofs.Rows.{Row, many_rows}
 use Rattle.clauses.proofs.read_many.Given as goal
