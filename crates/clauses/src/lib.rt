@@ -1,80 +1,89 @@
 // Clauses and arms of a section, read in place.
-#![tactic(auto)]
+#![tactic(auto, using(crate::proofs::Body::steps), unfolding(crate::specs::Read::clausal, heads::specs::Got::counted, expr::specs::Read::maybe_pattern))]
 
-ghost use Rattle.std.specs.Prelude.{Bool, true, false, ℕ, ◌≤◌, length, drop};
-ghost use Rattle.heads.specs.Got.{many, counted};
+mod kind;
+
+ghost use Rattle.std.specs.Prelude.{Bool, true, false, ℕ, List, ◌≤◌, length, drop};
+ghost use Rattle.heads.specs.Got.{Got, many, counted};
+ghost use Rattle.heads.specs.Head.{Tables};
 ghost use Rattle.heads.specs.Answer.{Reads, words_of, tables_of, kind_of};
+ghost use Rattle.clauses.specs.Tree as tree;
 ghost use Rattle.clauses.specs.Read.{read_projection, read_yield, counted_exprs, counted_marks, no_keys, read_match, read_with, read_unwind, read_call, read_body, read_clause, read_arm};
+ghost use Rattle.clauses.specs.Kind.{code_of};
 ghost use Rattle.clauses.specs.Sorted.{sorted_with, sorted_return};
 
 use expr::{read_marks, read_pattern};
 use flat::{read_expr, read_kids};
 use heads::{MarkKind, Section};
+pub use kind::ClauseKind;
 use refusal::Refusal;
 
 // The deepest expression that is read.
 pub const MAX_DEPTH: u32 = 48;
 
-// A projection: an alias or none, and an expression.
-pub fn read_projection(section: &Section, at: usize) -> Result<usize, Refusal>
-    requires { at ≤ length (words_of section.now) }
-    ensures { Reads (words_of section.now) at (read_projection (tables_of section.now)) result }
-{
-    let (_, at) = section.word_in(at, 0, (section.names as u64) + 1)?;
-    read_expr(section, at, MAX_DEPTH)
+// What a section has many of, one after the other.
+pub trait Item {
+    // one of them as a tree
+    ghost Tree: { Type 0 };
+
+    // how the definition reads one
+    ghost one: { Tables → List ℕ → Got Tree };
+
+    // Reads one.
+    fn read(section: &Section, at: usize) -> Result<usize, Refusal>
+        requires { at ≤ length (words_of section.now) }
+        ensures { Reads (words_of section.now) at (one (tables_of section.now)) result };
 }
 
-// n projections.
-pub fn read_projections(section: &Section, at: usize, n: u32) -> Result<usize, Refusal>
+// n items of a kind.
+pub fn read_many<I: Item>(section: &Section, at: usize, n: u32) -> Result<usize, Refusal>
     requires { at ≤ length (words_of section.now) }
-    ensures { Reads (words_of section.now) at (many (read_projection (tables_of section.now)) n) result }
+    ensures { Reads (words_of section.now) at (many (I.one (tables_of section.now)) n) result }
 {
     let mut p = at;
     for _ in 0..n {
-        p = read_projection(section, p)?;
+        p = I::read(section, p)?;
     }
     Ok(p)
 }
 
-// A count, and as many projections.
-pub fn counted_projections(section: &Section, at: usize) -> Result<usize, Refusal>
+// A count, and as many items of a kind.
+pub fn counted<I: Item>(section: &Section, at: usize) -> Result<usize, Refusal>
     requires { at ≤ length (words_of section.now) }
-    ensures { Reads (words_of section.now) at (counted (read_projection (tables_of section.now))) result }
+    ensures { Reads (words_of section.now) at (counted (I.one (tables_of section.now))) result }
 {
     let (n, at) = section.any_word(at)?;
-    read_projections(section, at, n)
+    read_many::<I>(section, at, n)
+}
+
+// A projection: an alias or none, and an expression.
+pub struct Projection;
+
+impl Item for Projection {
+    ghost Tree = { tree.Projection };
+
+    ghost one = { read_projection };
+
+    fn read(section: &Section, at: usize) -> Result<usize, Refusal> {
+        let (_, at) = section.word_in(at, 0, (section.names as u64) + 1)?;
+        read_expr(section, at, MAX_DEPTH)
+    }
 }
 
 // A yield: a name, an alias or none, a variable.
-pub fn read_yield(section: &Section, at: usize) -> Result<usize, Refusal>
-    requires { at ≤ length (words_of section.now) }
-    ensures { Reads (words_of section.now) at (read_yield (tables_of section.now)) result }
-{
-    let (_, at) = section.word_in(at, 0, section.names as u64)?;
-    let (_, at) = section.word_in(at, 0, (section.names as u64) + 1)?;
-    let (_, at) = section.any_word(at)?;
-    Ok(at)
-}
+pub struct Yield;
 
-// n yields.
-pub fn read_yields(section: &Section, at: usize, n: u32) -> Result<usize, Refusal>
-    requires { at ≤ length (words_of section.now) }
-    ensures { Reads (words_of section.now) at (many (read_yield (tables_of section.now)) n) result }
-{
-    let mut p = at;
-    for _ in 0..n {
-        p = read_yield(section, p)?;
+impl Item for Yield {
+    ghost Tree = { tree.Yield };
+
+    ghost one = { read_yield };
+
+    fn read(section: &Section, at: usize) -> Result<usize, Refusal> {
+        let (_, at) = section.word_in(at, 0, section.names as u64)?;
+        let (_, at) = section.word_in(at, 0, (section.names as u64) + 1)?;
+        let (_, at) = section.any_word(at)?;
+        Ok(at)
     }
-    Ok(p)
-}
-
-// A count, and as many yields.
-pub fn counted_yields(section: &Section, at: usize) -> Result<usize, Refusal>
-    requires { at ≤ length (words_of section.now) }
-    ensures { Reads (words_of section.now) at (counted (read_yield (tables_of section.now))) result }
-{
-    let (n, at) = section.any_word(at)?;
-    read_yields(section, at, n)
 }
 
 // A count, and as many expressions.
@@ -109,7 +118,7 @@ pub fn read_with(section: &Section, at: usize) -> Result<usize, Refusal>
     requires { at ≤ length (words_of section.now) }
     ensures { Reads (words_of section.now) at (read_with (tables_of section.now) 0 0 (no_keys (tables_of section.now))) result }
 {
-    let at = counted_projections(section, at)?;
+    let at = counted::<Projection>(section, at)?;
     let (filtered, at) = section.flag(at)?;
     read_kids(section, at, MAX_DEPTH, filtered as usize)
 }
@@ -128,7 +137,7 @@ pub fn read_sorted_return(section: &Section, at: usize) -> Result<usize, Refusal
     requires { at ≤ length (words_of section.now) }
     ensures { Reads (words_of section.now) at (sorted_return (tables_of section.now)) result }
 {
-    let at = counted_projections(section, at)?;
+    let at = counted::<Projection>(section, at)?;
     counted_exprs(section, at)
 }
 
@@ -150,82 +159,58 @@ pub fn read_call(section: &Section, at: usize) -> Result<usize, Refusal>
     ensures { Reads (words_of section.now) at (read_call (tables_of section.now) 0 0) result }
 {
     let at = counted_exprs(section, at)?;
-    counted_yields(section, at)
+    counted::<Yield>(section, at)
 }
 
 // What follows the kind and the span of a clause.
-pub fn read_body(section: &Section, at: usize, kind: u32) -> Result<usize, Refusal>
+pub fn read_body(section: &Section, at: usize, kind: ClauseKind) -> Result<usize, Refusal>
     requires { at ≤ length (words_of section.now) }
-    ensures { Reads (words_of section.now) at (read_body (tables_of section.now) 0 0 kind) result }
+    ensures { Reads (words_of section.now) at (read_body (tables_of section.now) 0 0 (code_of kind)) result }
 {
     match kind {
-        1 => read_match(section, at),
-        2 => read_kids(section, at, MAX_DEPTH, 1),
-        3 => read_with(section, at),
-        4 => counted_projections(section, at),
-        5 => read_unwind(section, at),
-        6 => read_pattern(section, at, MAX_DEPTH, true),
-        7 => read_pattern(section, at, MAX_DEPTH, true),
-        8 => counted_marks(section, at, MarkKind::Set),
-        9 => counted_marks(section, at, MarkKind::Remove),
-        10 => counted_exprs(section, at),
-        11 => read_call(section, at),
-        12 => read_sorted_with(section, at),
-        13 => read_sorted_return(section, at),
-        _ => Err(Refusal::Word),
+        ClauseKind::Match => read_match(section, at),
+        ClauseKind::Where => read_kids(section, at, MAX_DEPTH, 1),
+        ClauseKind::With => read_with(section, at),
+        ClauseKind::Return => counted::<Projection>(section, at),
+        ClauseKind::Unwind => read_unwind(section, at),
+        ClauseKind::Create | ClauseKind::Merge => read_pattern(section, at, MAX_DEPTH, true),
+        ClauseKind::Set => counted_marks(section, at, MarkKind::Set),
+        ClauseKind::Remove => counted_marks(section, at, MarkKind::Remove),
+        ClauseKind::Delete => counted_exprs(section, at),
+        ClauseKind::Call => read_call(section, at),
+        ClauseKind::SortedWith => read_sorted_with(section, at),
+        ClauseKind::SortedReturn => read_sorted_return(section, at),
     }
 }
 
 // A clause: kind, span, and what follows.
-pub fn read_clause(section: &Section, at: usize) -> Result<usize, Refusal>
-    requires { at ≤ length (words_of section.now) }
-    ensures { Reads (words_of section.now) at (read_clause (tables_of section.now)) result }
-{
-    let (kind, at) = section.any_word(at)?;
-    let (start, at) = section.any_word(at)?;
-    let (_, at) = section.word_in(at, start, 4294967296)?;
-    read_body(section, at, kind)
-}
+pub struct Clause;
 
-// n clauses.
-pub fn read_clauses(section: &Section, at: usize, n: u32) -> Result<usize, Refusal>
-    requires { at ≤ length (words_of section.now) }
-    ensures { Reads (words_of section.now) at (many (read_clause (tables_of section.now)) n) result }
-{
-    let mut p = at;
-    for _ in 0..n {
-        p = read_clause(section, p)?;
+impl Item for Clause {
+    ghost Tree = { tree.Clause };
+
+    ghost one = { read_clause };
+
+    fn read(section: &Section, at: usize) -> Result<usize, Refusal> {
+        let (code, at) = section.any_word(at)?;
+        let (start, at) = section.any_word(at)?;
+        let (_, at) = section.word_in(at, start, 4294967296)?;
+        let kind = ClauseKind::try_from(code)?;
+        read_body(section, at, kind)
     }
-    Ok(p)
-}
-
-// A count, and as many clauses.
-fn counted_clauses(section: &Section, at: usize) -> Result<usize, Refusal>
-    requires { at ≤ length (words_of section.now) }
-    ensures { Reads (words_of section.now) at (counted (read_clause (tables_of section.now))) result }
-{
-    let (n, at) = section.any_word(at)?;
-    read_clauses(section, at, n)
 }
 
 // An arm: span, a count, and as many clauses.
-pub fn read_arm(section: &Section, at: usize) -> Result<usize, Refusal>
-    requires { at ≤ length (words_of section.now) }
-    ensures { Reads (words_of section.now) at (read_arm (tables_of section.now)) result }
-{
-    let (start, at) = section.any_word(at)?;
-    let (_, at) = section.word_in(at, start, 4294967296)?;
-    counted_clauses(section, at)
-}
+pub struct Arm;
 
-// n arms.
-pub fn read_arms(section: &Section, at: usize, n: u32) -> Result<usize, Refusal>
-    requires { at ≤ length (words_of section.now) }
-    ensures { Reads (words_of section.now) at (many (read_arm (tables_of section.now)) n) result }
-{
-    let mut p = at;
-    for _ in 0..n {
-        p = read_arm(section, p)?;
+impl Item for Arm {
+    ghost Tree = { tree.Arm };
+
+    ghost one = { read_arm };
+
+    fn read(section: &Section, at: usize) -> Result<usize, Refusal> {
+        let (start, at) = section.any_word(at)?;
+        let (_, at) = section.word_in(at, start, 4294967296)?;
+        counted::<Clause>(section, at)
     }
-    Ok(p)
 }

@@ -2,15 +2,16 @@
 use Prim.Native.Nat.{ℕ, ◌+◌, ◌<◌, ◌≤◌}
 use native.Mathlib.Omega.{arith}
 use mathlib.Core.Path.{◌≡◌, refl, sym, ap, ◌∙◌}
-use mathlib.Core.Bool.{true}
-use mathlib.Core.Logic.{inl, inr}
+use mathlib.Core.Bool.{true, false, cond}
+use mathlib.Core.Logic.{inl, inr, ⊎_elim}
+use lib.Dec.{eqb}
 use mathlib.Core.List.{List, [], ◌∷◌, ◌++◌}
 use lib.ListN.{length, get_or, drop, length-append, length-drop}
 use lib.Seq.{get_or-drop}
 use Rattle.heads.specs.Got.{Got, ok, bind, bare, is_ok, word_in, any_word, flag, counted, many}
 use Rattle.heads.specs.Head.{Tables}
 use Rattle.heads.specs.Answer.{Reads}
-use Rattle.std.specs.Prelude.{Result, Ok, Err}
+use Rattle.std.specs.Prelude.{◌≢◌, Result, Ok, Err}
 use Rattle.std.specs.Result.{IsOk}
 use Rattle.refusal.specs.Number.{number_of}
 use Rattle.refusal.specs.declared.Refusal.{Refusal}
@@ -20,6 +21,9 @@ use Rattle.expr.specs.Write.{write_e}
 use Rattle.expr.proofs.Inverse.{Gives, gave, so, after, word-gives}
 use Rattle.expr.proofs.Accepted.{inverse, ok-left, refused, word-there}
 use Rattle.expr.proofs.Written.{expr-gives, row_gives, written}
+use Rattle.clauses.specs.Kind.{code_of, Decodes}
+use Rattle.clauses.specs.declared.kind.ClauseKind.{ClauseKind}
+use Rattle.clauses.specs.declared.kind.ClauseKind.TheVariants.{Match, Where, With, Return, Unwind, Create, Merge, Set, Remove, Delete, Call, SortedWith, SortedReturn}
 use Rattle.clauses.specs.Tree.{Projection, where', set, remove, delete, Keys, unsorted, sorted, Clause, opening, reading, with', return, unwind, call, arm}
 use Rattle.clauses.specs.Read.{clause_expr, read_projection, counted_exprs, no_keys, some_keys, read_where, read_with, read_body, read_clause, read_arm}
 use Rattle.clauses.specs.Write.{write_projection, counted_words, write_clause, reading_code, key_code, write_keys}
@@ -68,6 +72,28 @@ no-condition (return a b ps ks) at l r e x y = refl
 no-condition (unwind a b v e') at l r e x y = refl
 no-condition (call a b es ys) at l r e x y = refl
 
+-- a code apart from those of the kinds that may have a condition
+apart : (n : ℕ) → cond (eqb n 2) true (cond (eqb n 3) true (eqb n 12)) ≡ false → (n ≡ 2 → ⊥) × (IsWith n → ⊥)
+apart n h = (λ e. (let b = rw e at h in cc), ⊎_elim (λ e. (let b = rw e at h in cc)) (λ e. (let b = rw e at h in cc)))
+
+other-code : (k : ClauseKind) → (k ≡ Where → ⊥) → (k ≡ With → ⊥) → (k ≡ SortedWith → ⊥) → (code_of k ≡ 2 → ⊥) × (IsWith (code_of k) → ⊥)
+other-code Match x y z = apart 1 refl
+other-code Where x y z = absurd (x refl)
+other-code With x y z = absurd (y refl)
+other-code Return x y z = apart 4 refl
+other-code Unwind x y z = apart 5 refl
+other-code Create x y z = apart 6 refl
+other-code Merge x y z = apart 7 refl
+other-code Set x y z = apart 8 refl
+other-code Remove x y z = apart 9 refl
+other-code Delete x y z = apart 10 refl
+other-code Call x y z = apart 11 refl
+other-code SortedWith x y z = absurd (z refl)
+other-code SortedReturn x y z = apart 13 refl
+
+no-code : (n : ℕ) → ((k : ClauseKind) → code_of k ≢ n) → (n ≡ 2 → ⊥) × (IsWith n → ⊥)
+no-code n h = (λ e. h Where (sym e), ⊎_elim (λ e. h With (sym e)) (λ e. h SortedWith (sym e)))
+
 -- where a WITH's filter begins, by the words of the clause and of the filter
 filter-begins : (ws : List ℕ) (at q a b : ℕ) (ps : List Projection) (e : Expr) (ks : Keys) (r : List ℕ) → at ≤ length ws → q < length ws → drop at ws ≡ write_clause (with' a b ps (more e done) ks) ++ r → drop (q + 1) ws ≡ write_e e ++ (write_keys ks ++ r) → at + 3 + length (counted_words write_projection ps) + 1 ≡ q + 1
 unfolding write_clause write_e
@@ -97,10 +123,17 @@ module _ (ws : List ℕ) (t : Tables) (at : ℕ) (o : is_ok (read_clause t (drop
   abbrev P : Reader
   P = clause_expr t
 
-  pub other-kind : (get_or ws at 0 ≡ 2 → ⊥) → (IsWith (get_or ws at 0) → ⊥) → (c : Clause) (r : List ℕ) → read_clause t (drop at ws) ≡ ok c r → of_clause c at ≡ []
-  other-kind x y c r e =
+  other-word : (get_or ws at 0 ≡ 2 → ⊥) × (IsWith (get_or ws at 0) → ⊥) → (c : Clause) (r : List ℕ) → read_clause t (drop at ws) ≡ ok c r → of_clause c at ≡ []
+  other-word h c r e =
       let g : get_or (drop at ws) 0 0 ≡ get_or ws at 0 = get_or-drop at ws 0 0 ∙ (let z : at + 0 ≡ at = omega arith in rw z) in
-      no-condition c at (drop at ws) r (clause-written t (drop at ws) c r e).0 (λ q. x (sym g ∙ q)) (λ q. y (rw g at q))
+      no-condition c at (drop at ws) r (clause-written t (drop at ws) c r e).0 (λ q. h.0 (sym g ∙ q)) (λ q. h.1 (rw g at q))
+
+  -- a kind that has none, and a code that no kind has
+  pub other-kind : (k : ClauseKind) → code_of k ≡ get_or ws at 0 → (k ≡ Where → ⊥) → (k ≡ With → ⊥) → (k ≡ SortedWith → ⊥) → (c : Clause) (r : List ℕ) → read_clause t (drop at ws) ≡ ok c r → of_clause c at ≡ []
+  other-kind k e x y z = other-word (rw e at (other-code k x y z))
+
+  pub no-kind : {e : Refusal} → Decodes (get_or ws at 0) (Err e) → (c : Clause) (r : List ℕ) → read_clause t (drop at ws) ≡ ok c r → of_clause c at ≡ []
+  no-kind h = other-word (no-code (get_or ws at 0) h.1)
 
   -- a WHERE
   where-is : get_or ws at 0 ≡ 2 → read_clause t (drop at ws) ≡ read_where t (get_or ws (at + 1) 0) (get_or ws (at + 2) 0) (drop (at + 3) ws)

@@ -7,7 +7,7 @@ ghost use Rattle.clauses.specs.Read.{read_clause, read_arm};
 ghost use Rattle.condition_text.specs.Write.{Ready};
 ghost use Rattle.condition_printer.specs.Page.{IsWith, Placed, PutClause, PutClauses, PutArm, PutArms};
 
-use clauses::{MAX_DEPTH, counted_projections, read_clause};
+use clauses::{Clause, ClauseKind, Item, MAX_DEPTH, Projection, counted};
 use condition_text::{Page, print};
 use heads::Section;
 use words::word;
@@ -17,7 +17,7 @@ fn filter_of(section: &Section, at: usize) -> Option<usize>
     requires { (is_ok (read_clause (tables_of section.now) (drop at (words_of section.now))) ≡ true) × (IsWith (get_or (words_of section.now) at 0) × (at ≤ length (words_of section.now))) }
     ensures { Placed (words_of section.now) (tables_of section.now) at result }
 {
-    let q = counted_projections(section, at + 3).unwrap();
+    let q = counted::<Projection>(section, at + 3).unwrap();
     if word(section.bytes, q) == 1 {
         Some(q + 1)
     } else {
@@ -30,9 +30,12 @@ fn place_of(section: &Section, at: usize) -> Option<usize>
     requires { (is_ok (read_clause (tables_of section.now) (drop at (words_of section.now))) ≡ true) × (at ≤ length (words_of section.now)) }
     ensures { Placed (words_of section.now) (tables_of section.now) at result }
 {
-    match word(section.bytes, at) {
-        2 => Some(at + 3),
-        3 | 12 => filter_of(section, at),
+    let Ok(kind) = ClauseKind::try_from(word(section.bytes, at)) else {
+        return None;
+    };
+    match kind {
+        ClauseKind::Where => Some(at + 3),
+        ClauseKind::With | ClauseKind::SortedWith => filter_of(section, at),
         _ => None,
     }
 }
@@ -42,7 +45,7 @@ fn print_clause(section: &Section, at: usize, page: &mut Page<'_>) -> usize
     requires { Ready (read_clause (tables_of section.now) (drop at (words_of section.now))) (words_of section.now) at page.old.end (length page.old.bytes.now) }
     ensures { PutClause (words_of section.now) (tables_of section.now) at page.old page.new result }
 {
-    let next = read_clause(section, at).unwrap();
+    let next = Clause::read(section, at).unwrap();
     let Some(place) = place_of(section, at) else {
         return next;
     };

@@ -1,5 +1,5 @@
 -- The answers of the public calls, by document 01's numbers.
-use Rattle.std.specs.Prelude.{ℕ, ◌+◌, ◌*◌, ◌/◌, ◌≤◌, ◌≡◌, Bool, true, false, cond, not, List, [], map, ltb, length, take, get_or, Option, Result, Ok, Err}
+use Rattle.std.specs.Prelude.{ℕ, ◌+◌, ◌*◌, ◌/◌, ◌≤◌, ◌≡◌, Bool, true, false, not, List, [], map, ltb, length, take, get_or, Option, Result, Ok, Err}
 use Rattle.words.specs.Words.{words}
 use Rattle.words.specs.Fnv.{use_id}
 use Rattle.heads.specs.Got.{Got, many}

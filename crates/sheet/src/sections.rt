@@ -2,14 +2,13 @@
 ghost use Rattle.std.specs.Prelude.{◌≡◌, ℕ, ◌+◌, ◌*◌, ◌≤◌, length, drop};
 ghost use Rattle.words.specs.Words.{words};
 ghost use Rattle.heads.specs.Answer.{words_of, row_ids};
-ghost use Rattle.clauses.specs.Read.{read_clause, read_arm};
 ghost use Rattle.tables.specs.Answer.{Roomy};
 ghost use Rattle.sheet.specs.Read.{read_rows, read_clauses};
 ghost use Rattle.sheet.specs.Answer.{InPlaces, sheet_of, judged, reached, Settled, section_of, sections_of};
 
 use crate::names::are_names;
 use crate::trailer::Places;
-use clauses::{read_arms, read_clauses};
+use clauses::{Arm, Clause, Item, read_many};
 use heads::Section;
 use refusal::Refusal;
 use tables::{distinct_ids, read_rows};
@@ -59,33 +58,25 @@ fn check_end(at: usize, end: usize) -> Result<(), Refusal>
     Ok(())
 }
 
-// The head. Binders are sought among so many bindings, or not at all.
-fn check_head(s: &[u8], p: Places, bound: Option<usize>) -> Result<(), Refusal>
-    requires { InPlaces s.now p }
-    ensures { sheet_of result ≡ judged (section_of read_clause s.now p bound p.clauses p.head p.tail) }
+// n items of a kind from one word up to another, and nothing else. Binders are sought among so many bindings, or not at all.
+fn check_section<I: Item>(
+    s: &[u8],
+    p: Places,
+    bound: Option<usize>,
+    n: u32,
+    from: usize,
+    to: usize,
+) -> Result<(), Refusal>
+    requires { (from ≤ to) × (to * 4 ≤ length s.now) }
+    ensures { sheet_of result ≡ judged (section_of I.one s.now p bound n from to) }
 {
     let section = Section {
-        bytes: &s[..p.tail * 4],
+        bytes: &s[..to * 4],
         names: p.names,
         rows: p.rows,
         bound,
     };
-    let at = read_clauses(&section, p.head, p.clauses)?;
-    check_end(at, count(section.bytes))
-}
-
-// The arms.
-fn check_arms(s: &[u8], p: Places, bound: Option<usize>) -> Result<(), Refusal>
-    requires { InPlaces s.now p }
-    ensures { sheet_of result ≡ judged (section_of read_arm s.now p bound p.arms p.tail p.trailer) }
-{
-    let section = Section {
-        bytes: &s[..p.trailer * 4],
-        names: p.names,
-        rows: p.rows,
-        bound,
-    };
-    let at = read_arms(&section, p.tail, p.arms)?;
+    let at = read_many::<I>(&section, from, n)?;
     check_end(at, count(section.bytes))
 }
 
@@ -94,8 +85,8 @@ pub fn check_both(s: &[u8], p: Places, bound: Option<usize>) -> Result<(), Refus
     requires { InPlaces s.now p }
     ensures { sheet_of result ≡ judged (sections_of s.now p bound) }
 {
-    check_head(s, p, bound)?;
-    check_arms(s, p, bound)
+    check_section::<Clause>(s, p, bound, p.clauses, p.head, p.tail)?;
+    check_section::<Arm>(s, p, bound, p.arms, p.tail, p.trailer)
 }
 
 // Reads with binders looked up; only where one has no binding, reads again without, since 5 and 6 anywhere come before 7.

@@ -5,13 +5,13 @@ use Rattle.sheet.specs.Answer.{section_of}
 use Rattle.sheet.proofs.Causes.{refusal_told, then-refused, then-accepted}
 use Rattle.sheet.proofs.sections.check_both.Goals as goal
 
-pub returns-in_err-check_head : goal.returns-in_err-check_head
-returns-in_err-check_head c =
+pub returns-in_err-check_section : goal.returns-in_err-check_section
+returns-in_err-check_section c =
     let a = c.args in
     refusal_told _ _ c.from_residual.ensures
-    ∙ then-refused (section_of read_arm a.s.now a.p a.bound a.p.arms a.p.tail a.p.trailer) (section_of read_clause a.s.now a.p a.bound a.p.clauses a.p.head a.p.tail) c.in_err-check_head.ensures
+    ∙ then-refused (section_of read_arm a.s.now a.p a.bound a.p.arms a.p.tail a.p.trailer) (section_of read_clause a.s.now a.p a.bound a.p.clauses a.p.head a.p.tail) c.in_err-check_section.ensures
 
 pub returns : goal.returns
 returns c =
     let a = c.args in
-    then-accepted (section_of read_arm a.s.now a.p a.bound a.p.arms a.p.tail a.p.trailer) (section_of read_clause a.s.now a.p a.bound a.p.clauses a.p.head a.p.tail) c.in_ok-check_head.ensures c.check_arms.ensures
+    then-accepted (section_of read_arm a.s.now a.p a.bound a.p.arms a.p.tail a.p.trailer) (section_of read_clause a.s.now a.p a.bound a.p.clauses a.p.head a.p.tail) c.in_ok-check_section.ensures c.check_section-2.ensures
