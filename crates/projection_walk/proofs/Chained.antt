@@ -8,6 +8,7 @@ use native.Mathlib.Omega.{arith}
 use mathlib.Core.Path.{◌≡◌, ◌∙◌}
 use mathlib.Core.List.{List}
 use Rattle.refusal.specs.declared.Refusal.{Refusal}
+use Rattle.refusal.proofs.Handed.{handed}
 use Rattle.heads.specs.Got.{Got, ok, bind, word_in}
 use Rattle.fused.specs.Fused.{Both}
 use Rattle.fused.specs.Clauses.{Taken}
@@ -48,8 +49,7 @@ module _ {j : ℕ} {c : Context} {w : Walk} {p : Pairs} {w' : Walk} {p' : Pairs}
 
   -- at a `?`
   pub first-refused : {P : Projector} {e : Refusal} (K : (ℕ → ℕ) → Both × Taken → List ℕ → Got (Both × Taken)) (r : Result (Unit {0}) Refusal) → Carries j c w p w' p' P (Err e) → IsErr r × IsErrAnd r (λ y. y ≡ e) → Carries j c w p w' p' (λ id q s t. bind (P id q s t) (λ x t2. K id x t2)) r
-  first-refused K (Err y) x q = record { still = x.still; held = x.held; carries = λ id s b. rw (q.1, x.carries id s b) }
-  first-refused K (Ok u) x q = absurd q.1
+  first-refused K r x q = rw (handed _ r q) (record { still = x.still; held = x.held; carries = λ id s b. rw (x.carries id s b) })
 
   -- one after the other
   module _ {P : Projector} {u : Unit {0}} (x : Carries j c w p w' p' P (Ok u)) where
@@ -143,5 +143,4 @@ module _ {c : Context} {w w1 : Walk} {lo hi x : ℕ} (n : Next c lo hi w w1 (Ok 
 -- at its `?`
 pub word-refused : {j : ℕ} {c : Context} {w w1 : Walk} {p : Pairs} {lo hi : ℕ} {e : Refusal} (H : ℕ → Projector) (r : Result (Unit {0}) Refusal) → Next c lo hi w w1 (Err e) → IsErr r × IsErrAnd r (λ y. y ≡ e) →
     Carries j c w p w1 p (λ id q s t. bind (word_in lo hi t) (λ y t1. H y id q s t1)) r
-word-refused H (Err y) n q = rw n.now (record { still = still-idle; held = still_idle; carries = λ id s b. rw (n.got.same, q.1) })
-word-refused H (Ok u) n q = absurd q.1
+word-refused H r n q = rw (n.now, handed _ r q) (record { still = still-idle; held = still_idle; carries = λ id s b. rw n.got.same })

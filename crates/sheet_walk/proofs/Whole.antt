@@ -9,6 +9,7 @@ use Rattle.std.specs.Prelude.{Result, Ok, Err}
 use Rattle.std.specs.Result.{IsErr, IsErrAnd}
 use Rattle.refusal.specs.declared.Refusal.{Refusal}
 use Rattle.refusal.specs.declared.Refusal.TheVariants.{Unbound}
+use Rattle.refusal.proofs.Handed.{handed}
 use Rattle.words.proofs.Words.{length-words}
 use Rattle.sheet.specs.Read.{accepted}
 use Rattle.sheet.specs.declared.trailer.Places.{Places}
@@ -35,8 +36,7 @@ lasts x y = record { visible = y.visible.lent ∙ x.visible; seen = y.visible.si
 
 module _ {p : Places} {c : Context} {w w1 : Walk} {carried : List ℕ} (b : Begins p c w w1) {w2 : Walk} {carried2 : List ℕ} where
   pub head-fell : {e : Refusal} (r : Result (Unit {0}) Refusal) → Walks c p.tail w1 carried w2 carried2 (head_in p c) (Err e) → IsErr r × IsErrAnd r (λ y. y ≡ e) → WalksAll p c w carried w2 carried2 r
-  head-fell (Err y) x q = rw q.1 (record { lasting = lasts b.lasting x.still; lent = x.lent; walked = λ id us. unfold sheet_go in rw (x.done id (begun p) (b.holds id us)) })
-  head-fell (Ok u) x q = absurd q.1
+  head-fell r x q = rw (handed _ r q) (record { lasting = lasts b.lasting x.still; lent = x.lent; walked = λ id us. unfold sheet_go in rw (x.done id (begun p) (b.holds id us)) })
 
   module _ {u : Unit {0}} (x : Walks c p.tail w1 carried w2 carried2 (head_in p c) (Ok u)) where
     -- the head is accepted
@@ -45,14 +45,13 @@ module _ {p : Places} {c : Context} {w w1 : Walk} {carried : List ℕ} (b : Begi
 
     module _ {w3 : Walk} {carried3 : List ℕ} where
       pub arms-fell : {e : Refusal} (r : Result (Unit {0}) Refusal) → Walks c p.trailer w2 carried2 w3 carried3 (arms_in p c) (Err e) → IsErr r × IsErrAnd r (λ y. y ≡ e) → WalksAll p c w carried w3 carried3 r
-      arms-fell (Err a) y q =
-          rw q.1
+      arms-fell r y q =
+          rw (handed _ r q)
           (record {
             lasting = lasts (lasts b.lasting x.still) y.still;
             lent = y.lent ∙ x.lent;
             walked = λ id us. let e = headed id us in unfold sheet_go in rw (e.same, y.done id e.state e.holds);
           })
-      arms-fell (Ok a) y q = absurd q.1
 
       module _ {a : Unit {0}} (y : Walks c p.trailer w2 carried2 w3 carried3 (arms_in p c) (Ok a)) where
         -- the arms are accepted

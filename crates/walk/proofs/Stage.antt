@@ -13,6 +13,7 @@ use mathlib.Core.List.{List}
 use lib.ListN.{length, drop}
 use Rattle.refusal.specs.Number.{number_of}
 use Rattle.refusal.specs.declared.Refusal.{Refusal}
+use Rattle.refusal.proofs.Handed.{handed}
 use Rattle.heads.specs.Got.{Got, ok, no, bind}
 use Rattle.heads.specs.Answer.{Ans}
 use Rattle.heads.proofs.Chain.{Chain, step, last, run}
@@ -231,8 +232,7 @@ module _ {room : ℕ} {c : Context} {w₀ : Walk} {G : Goer} {free : ℕ} {w : W
 
   -- what a `?` at w answers
   pub refused : {K : Rest} {e : Refusal} (r : Result (Unit {0}) Refusal) → Stage (Some room) 0 c w₀ G free w K → Refuses c w₀ G e → IsErr r × IsErrAnd r (λ y. y ≡ e) → Walked room c w₀ w G r
-  refused (Err y) o g q = rw q.1 (stopped o g)
-  refused (Ok u) o g q = absurd q.1
+  refused r o g q = rw (handed _ r q) (stopped o g)
 
   pub done : {u : Unit {0}} → Stage (Some room) 0 c w₀ G free w (λ id s t. last (ok t)) → Walked room c w₀ w G (Ok u)
   done o =
@@ -257,8 +257,7 @@ bind_ok (no e) = refl
 module _ {room : ℕ} {c : Context} {w₀ : Walk} {G : Goer} {free : ℕ} {w : Walk} {i : ℕ} {H : Goer} {w' : Walk} where
   -- a walk's `?`
   pub fell : {K : Rest} {e : Refusal} (r : Result (Unit {0}) Refusal) → Stage (Some room) 0 c w₀ G free w (λ id s t. step (H id t) (K id s)) → Walked i c w w' H (Err e) → IsErr r × IsErrAnd r (λ y. y ≡ e) → Walked room c w₀ w' G r
-  fell (Err y) o x q = record { still = still-then o.still x.still; goes = rw q.1 (halt o x) }
-  fell (Ok u) o x q = absurd q.1
+  fell r o x q = rw (handed _ r q) (record { still = still-then o.still x.still; goes = halt o x })
 
   -- the walk within is the last one
   pub tail : (r : Result (Unit {0}) Refusal) → i ≤ room → Stage (Some room) 0 c w₀ G free w (λ id s t. last (H id t)) → Walked i c w w' H r → Walked room c w₀ w' G r

@@ -1,27 +1,13 @@
 -- What is found is the definition's text.
 use Prim.Native.Nat.{suc, ◌-◌}
-use mathlib.Core.Path.{◌≡◌, refl}
-use mathlib.Core.Bool.{false}
+use mathlib.Core.Path.{◌≡◌}
 use native.Mathlib.Omega.{arith}
-use lib.Dec.{eqb}
+use borrow.Author.Tests.{ne_eqb}
 use Rattle.refusal.specs.Number.{number_of}
-use Rattle.refusal.specs.declared.Refusal.{Refusal}
-use Rattle.refusal.specs.declared.Refusal.TheVariants.{Size, Places, Names, Bindings, Word, Depth, Unbound, Entries, Asked, Page, Room}
+use Rattle.refusal.specs.declared.Refusal.TheVariants.{Word}
+use Rattle.refusal.proofs.Numbers.{same_cause}
 use Rattle.message.specs.Message.{name_text}
 use Rattle.message.proofs.find_text.Goals as goal
-
-not-five : (r : Refusal) → (r ≡ Word → ⊥) → eqb (number_of r) 5 ≡ false
-not-five Size h = refl
-not-five Places h = refl
-not-five Names h = refl
-not-five Bindings h = refl
-not-five Word h = absurd (h refl)
-not-five Depth h = refl
-not-five Unbound h = refl
-not-five Entries h = refl
-not-five Asked h = refl
-not-five Page h = refl
-not-five Room h = refl
 
 pub returns-in-Ok-clause-text : goal.returns-in-Ok-clause-text
 unfolding name_text
@@ -34,7 +20,8 @@ returns-in-Word-clause-text c = rw (c.if-name-eq0.true, c.in-Err.ensures.cause, 
 pub returns-in_default : goal.returns-in_default
 unfolding name_text
 returns-in_default c =
-    record { text = tt; cause = rw (c.if-name-eq0.true, c.in-Err.ensures.cause, not-five c.in-Err.refusal c.in_default.not-Word) }
+    let unlike = ne_eqb (number_of c.in-Err.refusal) 5 (λ e. c.in_default.not-Word (same_cause c.in-Err.refusal Word e)) in
+    record { text = tt; cause = rw (c.if-name-eq0.true, c.in-Err.ensures.cause, unlike) }
 
 pub returns-in-Ok-text_at-clause-text : goal.returns-in-Ok-text_at-clause-text
 unfolding name_text
