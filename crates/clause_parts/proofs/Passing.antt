@@ -11,7 +11,6 @@ use mathlib.Core.Path.{◌≡◌, refl}
 use mathlib.Core.List.{List}
 use lib.ListN.{length, drop}
 use Rattle.refusal.specs.declared.Refusal.{Refusal}
-use Rattle.refusal.proofs.Handed.{handed}
 use Rattle.heads.specs.Got.{Got, ok, no, bind, word_in}
 use Rattle.heads.proofs.Chain.{Chain, step, last}
 use Rattle.expr.proofs.Inverse.{word-gives}
@@ -47,7 +46,8 @@ module _ {j : ℕ} {c : Context} {w₀ : Walk} {G : Goer} {free : ℕ} {w : Walk
 
   -- what a `?` at w answers
   pub refused : {K : Rest} {e : Refusal} (r : Result (Unit {0}) Refusal) → Stage None j c w₀ G free w K → Refuses c w₀ G e → IsErr r × IsErrAnd r (λ y. y ≡ e) → Passes j c w₀ w G r
-  refused r o g q = rw (handed _ r q) (record { still = o.still; passes = g })
+  refused (Err y) o g q = record { still = o.still; passes = rw q.1 g }
+  refused (Ok u) o g q = absurd q.1
 
 -- ---- a walk within
 bind_ok : (g : Got Both) → g ≡ bind g (λ u r. ok u r)
@@ -62,8 +62,9 @@ module _ {j : ℕ} {c : Context} {w₀ : Walk} {G : Goer} {free : ℕ} {w : Walk
 
   -- its `?`
   pub fell : {K : Rest} {e : Refusal} (r : Result (Unit {0}) Refusal) → Stage None j c w₀ G free w (λ id s t. step (H id t) (K id s)) → Passes i c w w' H (Err e) → IsErr r × IsErrAnd r (λ y. y ≡ e) → Passes j c w₀ w' G r
-  fell r o x q =
-      rw (handed _ r q) (record { still = still-then o.still x.still; passes = record { same = λ id s h. let n = o.on id s h in rw (n.same, x.passes.same id n.state n.holds) } })
+  fell (Err y) o x q =
+      record { still = still-then o.still x.still; passes = rw q.1 (record { same = λ id s h. let n = o.on id s h in rw (n.same, x.passes.same id n.state n.holds) }) }
+  fell (Ok u) o x q = absurd q.1
 
   pub last_one : (r : Result (Unit {0}) Refusal) → i ≤ free → Stage None j c w₀ G free w (λ id s t. last (H id t)) → Passes i c w w' H r → Passes j c w₀ w' G r
   last_one (Ok u) l o x = passed (went {K = λ id s v. last (ok v)} 0 (omega arith) (recast (λ id s t. step (H id t) (λ v. last (ok v))) o (λ id s t r. bind_ok (H id t r))) x)

@@ -9,6 +9,7 @@ ghost use Rattle.steps.specs.Hold.{Ready};
 ghost use Rattle.walk.specs.Goes.{Walked};
 ghost use Rattle.clause_parts.specs.Passes.{Next, counted_at};
 
+use clauses::ClauseKind;
 use refusal::Refusal;
 use steps::{Context, Mode, Setting, Settings, Walk};
 use walk::walk_many;
@@ -19,7 +20,7 @@ pub const DEPTH: u32 = 48;
 // What a clause begins with.
 #[derive(Clone, Copy, Debug, PartialEq, Eq)]
 pub struct Head {
-    pub kind: u32,
+    pub kind: ClauseKind,
     pub start: u32,
     pub end: u32,
 }

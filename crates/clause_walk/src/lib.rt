@@ -5,12 +5,14 @@
 
 ghost use Rattle.std.specs.Prelude.{◌≡◌, true, length};
 ghost use Rattle.heads.specs.Answer.{kind_of};
+ghost use Rattle.clauses.specs.Kind.{code_of};
 ghost use Rattle.steps.specs.Modes.{mode_of};
 ghost use Rattle.steps.specs.Hold.{Ready, Steps};
 ghost use Rattle.clause_parts.specs.Passes.{Held, Clear, Passes};
 ghost use Rattle.clause_walk.specs.Clauses.{marked_at, scope_at, match_at, yield_at, unwind_at, unwound_at, yields_at, call_at, body_at, clause_at};
 
 use clause_parts::{DEPTH, Head, alias_of, next_word, walk_counted};
+use clauses::ClauseKind;
 use heads::MarkKind;
 use refusal::Refusal;
 use return_walk::{walk_return, walk_sorted_return};
@@ -115,6 +117,7 @@ fn walk_match(walk: &mut Walk, context: &Context, head: Head, mode: Mode) -> Res
 }
 
 // What follows the kind and the span of a clause.
+#[tactic(auto, unfolding(fused::specs::Clauses::body_go, fused::specs::Clauses::opening_go, semantics::specs::World::opens))]
 fn walk_body(
     walk: &mut Walk,
     context: &Context,
@@ -126,11 +129,11 @@ fn walk_body(
     requires { (Held context.now held.old (mode_of mode) × Clear context.now marks.old) × Ready 3 context.now walk.old }
     ensures same { marks.new ≡ marks.old }
     ensures kept { length held.new ≡ length held.old }
-    ensures passes { Passes 3 context.now walk.old walk.new (body_at context.now (mode_of mode) head.start head.end head.kind) result }
+    ensures passes { Passes 3 context.now walk.old walk.new (body_at context.now (mode_of mode) head.start head.end (code_of head.kind)) result }
 {
     match head.kind {
-        1 => walk_match(walk, context, head, mode),
-        2 => walk_row(
+        ClauseKind::Match => walk_match(walk, context, head, mode),
+        ClauseKind::Where => walk_row(
             walk,
             context,
             DEPTH,
@@ -138,18 +141,17 @@ fn walk_body(
             mode,
             Settings::all(Setting::General),
         ),
-        3 => walk_with(walk, context, held, head, mode),
-        4 => walk_return(walk, context, head, mode),
-        5 => walk_unwind(walk, context, head, mode),
-        6 => walk_opening(walk, context, head, 3, mode),
-        7 => walk_opening(walk, context, head, 4, mode),
-        8 => walk_marked(walk, context, MarkKind::Set, mode),
-        9 => walk_marked(walk, context, MarkKind::Remove, mode),
-        10 => walk_counted(walk, context, mode),
-        11 => walk_call(walk, context, head, mode),
-        12 => walk_sorted_with(walk, context, held, head, mode),
-        13 => walk_sorted_return(walk, context, held, marks, head, mode),
-        _ => Err(Refusal::Word),
+        ClauseKind::With => walk_with(walk, context, held, head, mode),
+        ClauseKind::Return => walk_return(walk, context, head, mode),
+        ClauseKind::Unwind => walk_unwind(walk, context, head, mode),
+        ClauseKind::Create => walk_opening(walk, context, head, 3, mode),
+        ClauseKind::Merge => walk_opening(walk, context, head, 4, mode),
+        ClauseKind::Set => walk_marked(walk, context, MarkKind::Set, mode),
+        ClauseKind::Remove => walk_marked(walk, context, MarkKind::Remove, mode),
+        ClauseKind::Delete => walk_counted(walk, context, mode),
+        ClauseKind::Call => walk_call(walk, context, head, mode),
+        ClauseKind::SortedWith => walk_sorted_with(walk, context, held, head, mode),
+        ClauseKind::SortedReturn => walk_sorted_return(walk, context, held, marks, head, mode),
     }
 }
 
@@ -166,9 +168,10 @@ pub fn walk_clause(
     ensures kept { length held.new ≡ length held.old }
     ensures passes { Passes 0 context.now walk.old walk.new (clause_at context.now (mode_of mode)) result }
 {
-    let kind = next_word(walk, context, 0, 4294967296)?;
+    let code = next_word(walk, context, 0, 4294967296)?;
     let start = next_word(walk, context, 0, 4294967296)?;
     let end = next_word(walk, context, start, 4294967296)?;
+    let kind = ClauseKind::try_from(code)?;
     let head = Head { kind, start, end };
     walk_body(walk, context, held, marks, head, mode)
 }
