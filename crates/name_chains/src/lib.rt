@@ -93,13 +93,8 @@ impl Names<'_> {
         requires here { slot ≡ slot_of slots.mult slots.count text.now }
         ensures { result ≡ name_in text.now (names_in self.now.bytes.now self.now.count self.now.places.now) }
     {
-        newest_in(
-            chains,
-            slots.count,
-            slot,
-            |name| text == self.text(name as usize),
-        )
-        .is_some()
+        let is = |name| text == self.text(name as usize);
+        newest_in(chains, slots.count, slot, is).is_some()
     }
 
     // Whether no two of the names are the same, over slots that are all empty.

@@ -49,6 +49,19 @@ pub record Hangs (m x n : ℕ) (old new : List ℕ) : Type 0 where
   pub kept : length new ≡ length old
   pub chained : (g f : ℕ → ℕ) → x ≡ g (f n) → Chained g m n f old → Chained g m (suc n) f new
 
+-- so over the slots of a multiplier and a shift
+pub record Hung (mult shift n : ℕ) (f : ℕ → ℕ) (tab : List ℕ) : Type 0 where
+  pub low : 21 ≤ shift
+  pub high : shift ≤ 31
+  pub chained : Chained (slot_of mult shift) (slots shift) n f tab
+
+-- zeros for the slots, and room for n rows
+pub record Empty (shift n : ℕ) (tab : List ℕ) : Type 0 where
+  pub low : 21 ≤ shift
+  pub high : shift ≤ 31
+  pub room : slots shift + n ≤ length tab
+  pub zeros : (b : ℕ) → b < slots shift → get_or tab b 0 ≡ 0
+
 -- the slot x has a chain, and each key in the chains can be asked for
 pub record Asks (may : ℕ → Type 0) (m x : ℕ) (tab : List ℕ) : Type 0 where
   pub g : ℕ → ℕ
@@ -67,16 +80,3 @@ pub record Tells (says : ℕ → Bool → Type 0) (m x : ℕ) (tab : List ℕ) (
 -- the newest key for which such a test holds
 abbrev pub Newest : (says : ℕ → Bool → Type 0) → (m x : ℕ) → List ℕ → code.Option ℕ → Type 0
 Newest says m x tab r = (g f : ℕ → ℕ) (n : ℕ) (test : ℕ → Bool) → Tells says m x tab g f n test → number_of r ≡ newest test n
-
--- so over the slots of a multiplier and a shift
-pub record Hung (mult shift n : ℕ) (f : ℕ → ℕ) (tab : List ℕ) : Type 0 where
-  pub low : 21 ≤ shift
-  pub high : shift ≤ 31
-  pub chained : Chained (slot_of mult shift) (slots shift) n f tab
-
--- zeros for the slots, and room for n rows
-pub record Empty (shift n : ℕ) (tab : List ℕ) : Type 0 where
-  pub low : 21 ≤ shift
-  pub high : shift ≤ 31
-  pub room : slots shift + n ≤ length tab
-  pub zeros : (b : ℕ) → b < slots shift → get_or tab b 0 ≡ 0

@@ -90,12 +90,8 @@ impl Run<'_> {
         requires { Hung slots.mult slots.shift self.now.count (id_at (words self.now.bytes.now) self.now.first) chains.now }
         ensures { number_of result ≡ seek (id_at (words self.now.bytes.now) self.now.first) variable self.now.count }
     {
-        newest_in(
-            chains,
-            slots.count(),
-            slots.of(variable),
-            |row| self.variable(row) == variable,
-        )
+        let is = |row| self.variable(row) == variable;
+        newest_in(chains, slots.count(), slots.of(variable), is)
     }
 }
 
