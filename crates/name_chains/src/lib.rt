@@ -12,7 +12,7 @@ ghost use Rattle.sheet.specs.Answer.{Tabled};
 ghost use Rattle.name_chains.specs.Slot.{folded, hash_from, hash_of, slot_of};
 ghost use Rattle.name_chains.specs.Hung.{text_in, Cleared, Hung};
 
-use rows::hang;
+use rows::{hang, newest_in};
 use tables::{distinct_names, name_at, scan_names};
 use words::{count, word};
 
@@ -93,16 +93,8 @@ impl Names<'_> {
         requires here { slot ≡ slot_of slots.mult slots.count text.now }
         ensures { result ≡ name_in text.now (names_in self.now.bytes.now self.now.count self.now.places.now) }
     {
-        let mut next = chains[slot];
-        // Along the chain: each turn says where the next begins. 0 ends it, as the lent words have it.
-        while 0 < next {
-            let name = (next - 1) as usize;
-            if text == self.text(name) {
-                return true;
-            }
-            next = chains[slots.count + name];
-        }
-        false
+        let is = |name| text == self.text(name as usize);
+        newest_in(chains, slots.count, slot, is).is_some()
     }
 
     // Whether no two of the names are the same, over slots that are all empty.

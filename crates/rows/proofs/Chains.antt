@@ -1,5 +1,5 @@
--- Laws of chains: what is sought and found (`seek_hit`, `seek-miss`), a search in a key's chain (`seek-first`, `seek-on`, `seek_found`,
--- `seek-none`), one key more (`more`), and none yet (`none-chained`).
+-- Laws of chains: what is sought and found (`seek_hit`, `seek-miss`), a search along a chain (`at-head`, `at-prev`, `told`), one key
+-- more (`more`), and none yet (`none-chained`).
 use Prim.Native.Nat.{ℕ, zero, suc, ◌+◌, ◌-◌, ◌<◌, ◌≤◌}
 use native.Mathlib.Omega.{arith}
 use native.Mathlib.Numerals.{add-one}
@@ -10,21 +10,22 @@ use mathlib.Core.List.{List}
 use lib.Dec.{eqb, ltb}
 use lib.ListN.{length, get_or, set, length-set}
 use lib.Seq.{get_or-set_same, get_or-set_other}
-use borrow.Author.Tests.{eq-eqb, ne_eqb, eqb-true, eqb-false, ltb-true, ltb-false}
-use Rattle.rows.specs.Rows.{seek, keyed, Chained, Hangs}
+use borrow.Author.Tests.{eqb-true, eqb-false, ltb-true, ltb-false}
+use Rattle.tables.proofs.Fresh.{is-not}
+use Rattle.rows.specs.Rows.{newest, seek, keyed, Chained, Hangs, Tells}
 
 cond-le : (b : Bool) (p q t : ℕ) → p ≤ t → q ≤ t → cond b p q ≤ t
 cond-le true p q t h k = h
 cond-le false p q t h k = k
 
 pub seek-le : (f : ℕ → ℕ) (v t : ℕ) → seek f v t ≤ t
-unfolding seek
+unfolding newest
 seek-le f v zero = omega arith
 seek-le f v (suc t) = cond-le (eqb (f t) v) _ _ _ (omega arith) (omega (arith, seek-le f v t))
 
 -- what is found has the key
 pub seek_hit : (f : ℕ → ℕ) (v t j : ℕ) → seek f v t ≡ suc j → f j ≡ v
-unfolding seek
+unfolding newest
 seek_hit f v zero j e = absurd (omega arith)
 seek_hit f v (suc t) j e = go (seek_hit f v t j) (eqb (f t) v) refl e
   where
@@ -36,7 +37,7 @@ seek_hit f v (suc t) j e = go (seek_hit f v t j) (eqb (f t) v) refl e
 
 -- what is not found is not there
 pub seek-miss : (f : ℕ → ℕ) (v t j : ℕ) → seek f v t ≡ 0 → j < t → f j ≢ v
-unfolding seek
+unfolding newest
 seek-miss f v zero j e h = absurd (omega arith)
 seek-miss f v (suc t) j e h = go (seek-miss f v t j) (eqb (f t) v) refl e (ltb j t) refl
   where
@@ -47,56 +48,53 @@ seek-miss f v (suc t) j e h = go (seek-miss f v t j) (eqb (f t) v) refl e (ltb j
         let z : j ≡ t = omega (arith, ltb-false j t l) in
         rw z (eqb-false (f t) v q)
 
--- Over m slots that g gives: the same key has the same slot, and a slot is below m. Nothing else is known of them.
--- only a key's chain matters
-pub seek-chain : (g f : ℕ → ℕ) (v t : ℕ) → seek f v t ≡ seek f v (seek (keyed g f) (g v) t)
-unfolding seek
-seek-chain g f v zero = refl
-seek-chain g f v (suc t) = go (seek-chain g f v t) (eqb (g (f t)) (g v)) refl
+-- only its chain matters to a test that holds for none but keys in the slot x
+skip : (key : ℕ → ℕ) (test : ℕ → Bool) (x t : ℕ) → ((i : ℕ) → test i ≡ true → key i ≡ x) → newest test t ≡ newest test (seek key x t)
+unfolding newest
+skip key test x zero h = refl
+skip key test x (suc t) h = go (skip key test x t h) (eqb (key t) x) refl
   where
-    go : seek f v t ≡ seek f v (seek (keyed g f) (g v) t) → (b : Bool) → eqb (g (f t)) (g v) ≡ b → seek f v (suc t) ≡ seek f v (cond b (suc t) (seek (keyed g f) (g v) t))
-    go h true e = refl
-    go h false e = rw (ne_eqb (f t) v (λ z. eqb-false _ _ e (ap g z))) h
+    go : newest test t ≡ newest test (seek key x t) → (b : Bool) → eqb (key t) x ≡ b → newest test (suc t) ≡ newest test (cond b (suc t) (seek key x t))
+    go l true e = refl
+    go l false e = rw (is-not (test t) (λ q. eqb-false _ _ e (h t q))) l
 
--- where the search stands: at i, in v's chain
-pub record Sought (g f : ℕ → ℕ) (n v i : ℕ) : Type 0 where
-  pub same : seek f v n ≡ seek f v i
-  pub le : i ≤ n
-  pub chain : (j : ℕ) → i ≡ suc j → g (f j) ≡ g v
+-- where the search stands: at i, in the chain of the slot x
+pub record Sought (says : ℕ → Bool → Type 0) (m x : ℕ) (tab : List ℕ) (i : ℕ) : Type 0 where
+  pub le : (g f : ℕ → ℕ) (n : ℕ) → Chained g m n f tab → i ≤ n
+  pub chain : (g f : ℕ → ℕ) (n : ℕ) → Chained g m n f tab → (j : ℕ) → i ≡ suc j → g (f j) ≡ x
+  pub same : (g f : ℕ → ℕ) (n : ℕ) (test : ℕ → Bool) → Tells says m x tab g f n test → newest test n ≡ newest test i
 
-pub seek-first : {g : ℕ → ℕ} {m n : ℕ} {f : ℕ → ℕ} {tab : List ℕ} (v : ℕ) → Chained g m n f tab → g v < m → Sought g f n v (get_or tab (g v) 0)
-seek-first {g} {m} {n} {f} {tab} v w h =
-    rw (w.heads (g v) h)
-    (record { same = seek-chain g f v n; le = seek-le (keyed g f) (g v) n; chain = λ j e. seek_hit (keyed g f) (g v) n j e })
+module _ {says : ℕ → Bool → Type 0} {m x : ℕ} {tab : List ℕ} where
+  pub at-head : x < m → Sought says m x tab (get_or tab x 0)
+  at-head h =
+      record {
+        le = λ g f n w. rw (w.heads x h) (seek-le (keyed g f) x n);
+        chain = λ g f n w j e. seek_hit (keyed g f) x n j (sym (w.heads x h) ∙ e);
+        same = λ g f n test t. rw (t.chained.heads x h) (skip (keyed g f) test x n t.inside);
+      }
 
-module _ {g : ℕ → ℕ} {m n : ℕ} {f : ℕ → ℕ} {tab : List ℕ} {v i : ℕ} (w : Chained g m n f tab) (l : Sought g f n v i) (h : 0 < i) where
-  one : i ≡ suc (i - 1)
-  one = omega arith
+  module _ {i : ℕ} (l : Sought says m x tab i) (h : 0 < i) where
+    one : i ≡ suc (i - 1)
+    one = omega arith
 
-  pub seek_found : f (i - 1) ≡ v → i ≡ seek f v n
-  unfolding seek
-  seek_found e = sym (l.same ∙ ap (λ (k : ℕ). seek f v k) one ∙ rw (eq-eqb (f (i - 1)) v e) (sym one))
+    prev : (g f : ℕ → ℕ) (n : ℕ) → Chained g m n f tab → get_or tab (m + (i - 1)) 0 ≡ seek (keyed g f) x (i - 1)
+    prev g f n w = rw (l.chain g f n w (i - 1) one) at (w.prevs (i - 1) (omega (arith, l.le g f n w)))
 
-  pub prev-le : get_or tab (m + (i - 1)) 0 ≤ i - 1
-  prev-le = rw (w.prevs (i - 1) (omega arith)) (seek-le _ _ (i - 1))
+    pub prev-le : (g f : ℕ → ℕ) (n : ℕ) → Chained g m n f tab → get_or tab (m + (i - 1)) 0 ≤ i - 1
+    prev-le g f n w = rw (prev g f n w) (seek-le (keyed g f) x (i - 1))
 
-  pub seek-on : f (i - 1) ≢ v → Sought g f n v (get_or tab (m + (i - 1)) 0)
-  unfolding seek
-  seek-on e =
-      let c : g (f (i - 1)) ≡ g v = l.chain (i - 1) one in
-      let p : get_or tab (m + (i - 1)) 0 ≡ seek (keyed g f) (g v) (i - 1) = rw c at (w.prevs (i - 1) (omega arith)) in
-      rw p
-      (record {
-        same = l.same ∙ ap (λ (k : ℕ). seek f v k) one ∙ rw (ne_eqb (f (i - 1)) v e) (seek-chain g f v (i - 1));
-        le = omega (arith, seek-le (keyed g f) (g v) (i - 1), l.le);
-        chain = λ j q. seek_hit (keyed g f) (g v) (i - 1) j q;
-      })
+    pub told : (g f : ℕ → ℕ) (n : ℕ) (test : ℕ → Bool) (b : Bool) → Tells says m x tab g f n test → says (i - 1) b → newest test n ≡ cond b i (newest test (i - 1))
+    unfolding newest
+    told g f n test b t s =
+        l.same g f n test t ∙ ap (newest test) one ∙ rw (t.said (i - 1) b (omega (arith, l.le g f n t.chained)) s, ← one)
 
-pub seek-none : {g f : ℕ → ℕ} {n v i : ℕ} → Sought g f n v i → i ≤ 0 → 0 ≡ seek f v n
-unfolding seek
-seek-none {g} {f} {n} {v} {i} l h =
-    let z : i ≡ 0 = omega arith in
-    sym (l.same ∙ ap (λ (k : ℕ). seek f v k) z)
+    pub at-prev : says (i - 1) false → Sought says m x tab (get_or tab (m + (i - 1)) 0)
+    at-prev s =
+        record {
+          le = λ g f n w. omega (arith, prev-le g f n w, l.le g f n w);
+          chain = λ g f n w j e. seek_hit (keyed g f) x (i - 1) j (sym (prev g f n w) ∙ e);
+          same = λ g f n test t. told g f n test false t s ∙ rw (prev g f n t.chained) (skip (keyed g f) test x (i - 1) t.inside);
+        }
 
 -- one more, in the slot x
 module _ (m n x : ℕ) (old : List ℕ) (r : m + n < length old) (b : x < m) where
@@ -111,7 +109,7 @@ module _ (m n x : ℕ) (old : List ℕ) (r : m + n < length old) (b : x < m) whe
 
   module _ (g f : ℕ → ℕ) (same : x ≡ g (f n)) (w : Chained g m n f old) where
     head_more : (y : ℕ) → y < m → get_or new y 0 ≡ seek (keyed g f) y (suc n)
-    unfolding seek
+    unfolding newest
     head_more y h = rw (← same) (go (eqb x y) refl)
       where
         go : (c : Bool) → eqb x y ≡ c → get_or new y 0 ≡ cond c (suc n) (seek (keyed g f) y n)
@@ -134,5 +132,5 @@ module _ (m n x : ℕ) (old : List ℕ) (r : m + n < length old) (b : x < m) whe
 
 -- none yet
 pub none-chained : (g f : ℕ → ℕ) (m : ℕ) (tab : List ℕ) → m ≤ length tab → ((b : ℕ) → b < m → get_or tab b 0 ≡ 0) → Chained g m 0 f tab
-unfolding seek
+unfolding newest
 none-chained g f m tab h z = record { room = omega arith; heads = z; prevs = λ i l. absurd (omega arith) }

@@ -1,5 +1,5 @@
 -- A variable sought among the rows of the binding table, newest first, and the chains that find it.
-use Rattle.std.specs.Prelude.{ℕ, zero, suc, ◌+◌, ◌*◌, ◌<◌, ◌≤◌, ◌≡◌, cond, List, eqb, length, get_or, None, Some, Option}
+use Rattle.std.specs.Prelude.{ℕ, zero, suc, ◌+◌, ◌*◌, ◌<◌, ◌≤◌, ◌≡◌, Bool, true, cond, List, eqb, length, get_or, None, Some, Option}
 use Rattle.std.specs.Prelude as code
 use Rattle.tables.specs.Row.{Row, row}
 use Rattle.rows.specs.Slot.{slot_of, slots}
@@ -8,10 +8,14 @@ use Rattle.rows.specs.Slot.{slot_of, slots}
 abbrev pub id_at : List ℕ → ℕ → ℕ → ℕ
 id_at ws rows i = get_or ws (rows + i * 5) 0
 
--- the newest of the first t whose key is v: its number + 1, or 0
-unfoldable pub seek : (ℕ → ℕ) → ℕ → ℕ → ℕ
-seek f v zero = 0
-seek f v (suc t) = cond (eqb (f t) v) (suc t) (seek f v t)
+-- the newest of the first t for which a test holds: its number + 1, or 0
+unfoldable pub newest : (ℕ → Bool) → ℕ → ℕ
+newest test zero = 0
+newest test (suc t) = cond (test t) (suc t) (newest test t)
+
+-- so of those whose key is v
+abbrev pub seek : (ℕ → ℕ) → ℕ → ℕ → ℕ
+seek f v t = newest (λ i. eqb (f i) v) t
 
 -- such an answer of the code's
 abbrev pub number_of : code.Option ℕ → ℕ
@@ -57,3 +61,22 @@ pub record Empty (shift n : ℕ) (tab : List ℕ) : Type 0 where
   pub high : shift ≤ 31
   pub room : slots shift + n ≤ length tab
   pub zeros : (b : ℕ) → b < slots shift → get_or tab b 0 ≡ 0
+
+-- the slot x has a chain, and each key in the chains can be asked for
+pub record Asks (may : ℕ → Type 0) (m x : ℕ) (tab : List ℕ) : Type 0 where
+  pub g : ℕ → ℕ
+  pub f : ℕ → ℕ
+  pub n : ℕ
+  pub chained : Chained g m n f tab
+  pub below : x < m
+  pub can : (i : ℕ) → i < n → may i
+
+-- a test that what is said tells of the first n keys, and that holds for none but keys in the slot x
+pub record Tells (says : ℕ → Bool → Type 0) (m x : ℕ) (tab : List ℕ) (g f : ℕ → ℕ) (n : ℕ) (test : ℕ → Bool) : Type 0 where
+  pub chained : Chained g m n f tab
+  pub said : (i : ℕ) (b : Bool) → i < n → says i b → test i ≡ b
+  pub inside : (i : ℕ) → test i ≡ true → g (f i) ≡ x
+
+-- the newest key for which such a test holds
+abbrev pub Newest : (says : ℕ → Bool → Type 0) → (m x : ℕ) → List ℕ → code.Option ℕ → Type 0
+Newest says m x tab r = (g f : ℕ → ℕ) (n : ℕ) (test : ℕ → Bool) → Tells says m x tab g f n test → number_of r ≡ newest test n

@@ -7,7 +7,7 @@ ghost use Rattle.std.specs.Prelude.{◌≡◌, ◌+◌, ◌*◌, ◌%◌, ◌<�
 ghost use Rattle.words.specs.Words.{words};
 ghost use Rattle.rows.specs.Slot.{slots, slot_of};
 ghost use Rattle.semantics.specs.World.{row_kind};
-ghost use Rattle.rows.specs.Rows.{id_at, seek, number_of, shown, Hung, Hangs, Empty};
+ghost use Rattle.rows.specs.Rows.{id_at, seek, number_of, shown, Hung, Hangs, Asks, Newest, Empty};
 ghost use Rattle.rows.specs.Table.{row_in, Standing, Indexed};
 
 use words::word;
@@ -51,6 +51,22 @@ pub fn hang(chains: &mut [u32], m: usize, slot: usize, n: u32)
     chains[slot] = n + 1;
 }
 
+// The newest key in the chain of a slot, one of m, for which `is` holds.
+pub fn newest_in<F: Fn(u32) -> bool>(chains: &[u32], m: usize, slot: usize, is: F) -> Option<u32>
+    requires { Asks (F.pre is) m slot chains.now }
+    ensures { Newest (F.post is) m slot chains.now result }
+{
+    let mut next = chains[slot];
+    // Along the chain: each turn says where the next begins. 0 ends it, as the lent words have it.
+    while 0 < next {
+        if is(next - 1) {
+            return Some(next - 1);
+        }
+        next = chains[m + (next - 1) as usize];
+    }
+    None
+}
+
 // A run of rows of five words each, of which the first is the variable.
 #[derive(Clone, Copy)]
 struct Run<'a> {
@@ -74,16 +90,8 @@ impl Run<'_> {
         requires { Hung slots.mult slots.shift self.now.count (id_at (words self.now.bytes.now) self.now.first) chains.now }
         ensures { number_of result ≡ seek (id_at (words self.now.bytes.now) self.now.first) variable self.now.count }
     {
-        let mut next = chains[slots.of(variable)];
-        // Along the chain: each turn says where the next begins. 0 ends it, as the lent words have it.
-        while 0 < next {
-            let row = next - 1;
-            if self.variable(row) == variable {
-                return Some(row);
-            }
-            next = chains[slots.count() + row as usize];
-        }
-        None
+        let is = |row| self.variable(row) == variable;
+        newest_in(chains, slots.count(), slots.of(variable), is)
     }
 }
 

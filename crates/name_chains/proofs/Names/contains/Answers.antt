@@ -1,25 +1,23 @@
--- The loop's invariant: the search stands in the text's chain, and the text is sought among the names from there on.
-use Rattle.std.proofs.Common.{sym, ◌∙◌}
-use Rattle.tables.proofs.Fresh.{same-pointwise}
-use Rattle.name_chains.proofs.Laws.{from-head, prev-less, found, from-prev, missed}
+-- The newest name with the text, along the chain of its slot, tells whether it is one of the names.
+use Rattle.std.proofs.Common.{rules, ap, sym, ◌∙◌}
+use Rattle.tables.specs.Distinct.{same_bytes}
+use Rattle.tables.proofs.Fresh.{same-eq, same-pointwise}
+use Rattle.name_chains.specs.Slot.{slot_of}
+use Rattle.name_chains.specs.Hung.{text_in, itself, slot_in}
+use Rattle.name_chains.proofs.Laws.{named}
 use Rattle.name_chains.proofs.Names.contains.Goals as goal
-
-pub loop-next-init : goal.loop-next-init
-loop-next-init c =
-    rw c.requires.here (from-head _ c.requires.hung c.args.self.now.within)
-
-pub returns-then-eq : goal.returns-then-eq
-returns-then-eq c =
-    found _ c.requires.hung c.args.self.now.within c.loop-next.invariant c.loop-next-test.true (rw c.text.ensures at (same-pointwise c.args.text.now c.text.result.now ∙ sym c.if-eq.ensures))
-
-pub loop-next-smaller : goal.loop-next-smaller
-loop-next-smaller c =
-    prev-less _ c.requires.hung c.args.self.now.within c.loop-next.invariant c.loop-next-test.true
-
-pub loop-next-preserved : goal.loop-next-preserved
-loop-next-preserved c =
-    from-prev _ c.requires.hung c.args.self.now.within c.loop-next.invariant c.loop-next-test.true (rw c.text.ensures at (same-pointwise c.args.text.now c.text.result.now ∙ sym c.if-eq.ensures))
 
 pub returns : goal.returns
 returns c =
-    missed _ c.requires.hung c.args.self.now.within c.loop-next.invariant c.loop-next-test.false
+    let a = c.args in
+    let names = a.self.now in
+    let slot = slot_of a.slots.mult a.slots.count in
+    let f = text_in names.bytes.now names.places.now in
+    c.is_some.ensures
+    ∙ named names.bytes.now names.places.now a.text.now names.count c.newest_in.result names.within
+    (c.newest_in.ensures itself (slot_in slot names.bytes.now names.places.now) names.count (λ i. same_bytes a.text.now (f i))
+    (record {
+      chained = c.requires.hung.chained;
+      said = λ i b l s. same-pointwise a.text.now (f i) ∙ search rules;
+      inside = λ i q. ap slot (sym (same-eq a.text.now (f i) q)) ∙ sym c.requires.here;
+    }))
