@@ -13,7 +13,7 @@ ghost use Rattle.entries.specs.Adding.{Becomes, place, begins, answer};
 ghost use Rattle.entries.specs.Stamps.{Knows, Marks, Finds, Stores, Makes, Carries, Fits, IsStill, bound_of, kept};
 
 // The number that has no next one.
-const LAST: u32 = 4294967295;
+const LAST: u32 = u32::MAX;
 
 // A binding of a name in a scope.
 #[derive(Clone, Copy, Debug, PartialEq, Eq)]
@@ -31,7 +31,8 @@ pub struct Found {
     pub kind: u32,
 }
 
-// A lent list of bindings, how many are made in it, and the stamps that know of them.
+// A lent list of bindings, how many are made in it, and the stamps that know of them: word 0 is the highest scope that binds + 1, or 0, and
+// word name + 1 is the same number where that scope binds the name.
 #[derive(Drop)]
 pub struct Bindings<'a> {
     pub list: &'a mut [u32],

@@ -36,13 +36,8 @@ impl<'a> Found<'a> {
         ensures { result ≡ nth self.now i }
     {
         let at = self.word_of(i);
-        Finding {
-            code: self.words[at],
-            start: self.words[at + 1],
-            end: self.words[at + 2],
-            name: self.words[at + 3],
-            one: self.words[at + 4],
-            two: self.words[at + 5],
-        }
+        let mut words = [0; 6];
+        words.copy_from_slice(&self.words[at..at + 6]);
+        Finding::from(words)
     }
 }

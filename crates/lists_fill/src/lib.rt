@@ -1,4 +1,4 @@
-// Four of the five lists, filled from what both walks left in `found` and from the carried list: scopes and findings as they come, bindings and
+// Four of the five lists, filled from the log that both walks left and from the carried list: scopes and findings as they come, bindings and
 // recorded uses with the first making giving the place and the last one the value. Each list has a loop and an adder of its own, as it has a
 // definition and a law of its own; numbers are those of the log.
 #![tactic(auto)]
@@ -27,7 +27,8 @@ const NO_NAME: u32 = 4276314682;
 // The kind of a Root.
 const ROOT: u32 = 1;
 
-// What the name walk left: a scope that it opened, a binding that it made, the use of a variable or of a name that it recorded, or a finding.
+// What the name walk left: a scope that it opened, a binding that it made, the use of a variable or of a name that it recorded, or a finding. A
+// binding's flag is whether it replaces another, as the event says: no list asks for it, since a list tells that of its own entries.
 #[derive(Clone, Copy)]
 enum Logged {
     Scope(u32, u32, u32, u32),
@@ -77,14 +78,9 @@ fn six_at(found: &[u32], p: usize) -> [u32; 6]
     requires { p + 6 ≤ length found.now }
     ensures { result ≡ six_at found.now p }
 {
-    [
-        found[p],
-        found[p + 1],
-        found[p + 2],
-        found[p + 3],
-        found[p + 4],
-        found[p + 5],
-    ]
+    let mut words = [0; 6];
+    words.copy_from_slice(&found[p..p + 6]);
+    words
 }
 
 // What was left as the event numbered i.
@@ -147,7 +143,8 @@ fn fill_findings(found: &[u32], n: usize, out: &mut [u32]) -> usize
     m
 }
 
-// The number of the Root that an event opens under a WITH's barrier, or 0.
+// The parent's word of a Root that an event opens: the number + 1 of the WITH's barrier above it, or 0. That is the Root's own number too, since
+// a Root is opened right after its barrier.
 fn root_of(e: Logged) -> u32
     ensures { (id : ℕ → ℕ) → parent_of result ≡ barrier_in (said id e) }
 {
@@ -284,12 +281,10 @@ fn append_findings(found: &[u32], k: usize, out: &mut [u32], m: usize) -> usize
     requires { (k * 6 ≤ length found.now) × ((m + k) * 6 ≤ length out.old) }
     ensures { Becomes k finding_words (after (told_in k found.now)) out.old out.new m result }
 {
-    let mut n = m;
     for i in 0..k {
-        set_entry(out, n, six_at(found, found.len() - (i + 1) * 6));
-        n += 1;
+        set_entry(out, m + i, six_at(found, found.len() - (i + 1) * 6));
     }
-    n
+    m + k
 }
 
 // The findings of all events, and after them those of the kind walk.

@@ -1,5 +1,5 @@
 -- The oldest finding stands at the end, and each later one before it.
-use Rattle.std.proofs.Common.{suc, ◌+◌, ◌-◌, ◌*◌, ◌≤◌, [], ◌∷◌, length, append-nil, add-one, arith}
+use Rattle.std.proofs.Common.{◌≡◌, suc, ◌+◌, ◌-◌, ◌*◌, ◌≤◌, [], ◌∷◌, length, append-nil, add-zero, add-one, arith}
 use Rattle.steps.specs.Said.{findings, finding_at}
 use Rattle.entries.specs.Adding.{after}
 use Rattle.lists_fill.specs.Said.{told_in}
@@ -10,16 +10,20 @@ use Rattle.lists_fill.proofs.append_findings.Goals as goal
 pub loop-i-init : goal.loop-i-init
 unfolding told_in findings
 loop-i-init c =
-    begin (λ id es. append-nil es)
+    rw (add-zero c.args.m) (begin (λ id es. append-nil es))
 
 pub loop-i-preserved : goal.loop-i-preserved
 loop-i-preserved c =
     let l = c.args.found.now in
-    let p = length l - suc c.loop-i.i * 6 in
-    let room : (c.loop-i.n + 1) * 6 ≤ length c.loop-i.out = omega (arith, c.loop-i.invariant.kept, c.loop-i.invariant.few) in
-    turn {g = λ id. after (finding_at l p ∷ [])} c.loop-i.invariant c.loop-i-test.true
-    (λ id. rw (c.set_entry.ensures, c.six_at.ensures, add-one c.loop-i.i) (one_told _ _ l p room)) (λ id es. told-after _ _ es)
+    let i = c.loop-i.i in
+    let p = length l - suc i * 6 in
+    let next : c.args.m + (i + 1) ≡ c.args.m + i + 1 = omega arith in
+    let room : (c.args.m + i + 1) * 6 ≤ length c.loop-i.out = omega (arith, c.loop-i.invariant.kept) in
+    rw next
+    (turn {g = λ id. after (finding_at l p ∷ [])} c.loop-i.invariant c.loop-i-test.true
+    (λ id. rw (c.set_entry.ensures, c.six_at.ensures, add-one i) (one_told _ _ l p room)) (λ id es. told-after _ _ es))
 
 pub returns : goal.returns
 returns c =
-    finish c.loop-i.invariant c.loop-i-test.false (λ x. x)
+    let all : c.loop-i.i ≡ c.args.k = omega (arith, c.loop-i.invariant.within) in
+    rw all at (finish c.loop-i.invariant c.loop-i-test.false (λ x. x))
