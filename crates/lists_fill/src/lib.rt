@@ -28,7 +28,7 @@ const NO_NAME: u32 = 4276314682;
 const ROOT: u32 = 1;
 
 // What the name walk left: a scope that it opened, a binding that it made, the use of a variable or of a name that it recorded, or a finding. A
-// binding's flag is whether it replaces another, as the event says: no list asks for it, since a list tells that of its own entries.
+// binding's flag, whether it replaces another, is the event's; no list is filled by it, since `put` sees for itself what it replaces.
 #[derive(Clone, Copy)]
 enum Logged {
     Scope(u32, u32, u32, u32),

@@ -1,6 +1,5 @@
 -- The loop's invariant: what the barrier carries up to p is bound.
 use Rattle.std.proofs.Common.{refl, ◌∙◌, arith}
-use Rattle.semantics.specs.World.{kind_of}
 use Rattle.lists_fill.proofs.Weaving.{adopt-begin, adopt-none, adopt-turn, adopt-stop, adopt-done}
 use Rattle.entries.proofs.Stamping.{fits-still}
 use Rattle.lists_fill.proofs.Carried.adopt.Goals as goal
