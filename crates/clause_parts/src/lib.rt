@@ -9,13 +9,10 @@ ghost use Rattle.steps.specs.Hold.{Ready};
 ghost use Rattle.walk.specs.Goes.{Walked};
 ghost use Rattle.clause_parts.specs.Passes.{Next, counted_at};
 
-use clauses::ClauseKind;
+use clauses::{ClauseKind, MAX_DEPTH};
 use refusal::Refusal;
 use steps::{Context, Mode, Setting, Settings, Walk};
 use walk::walk_many;
-
-// The most levels of an expression.
-pub const DEPTH: u32 = 48;
 
 // What a clause begins with.
 #[derive(Clone, Copy, Debug, PartialEq, Eq)]
@@ -35,7 +32,7 @@ pub fn next_word(walk: &mut Walk, context: &Context, lo: u32, hi: u64) -> Result
     Ok(word)
 }
 
-// The alias that a word tells, its number + 1, or 0 where there is none.
+// The alias that a word tells: the word is the alias's number + 1, or 0 where there is none.
 pub fn alias_of(word: u32) -> Option<u32>
     ensures { result ≡ alias_of word }
 {
@@ -51,7 +48,7 @@ pub fn walk_counted(walk: &mut Walk, context: &Context, mode: Mode) -> Result<()
     walk_many(
         walk,
         context,
-        DEPTH,
+        MAX_DEPTH,
         n as usize,
         mode,
         Settings::all(Setting::General),

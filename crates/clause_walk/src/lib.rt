@@ -1,6 +1,6 @@
 // A clause, read and walked in one over any words: the refusal, or where both walks stand then. `held` has the pairs that a WITH is to carry, two
 // words each, or the aliases of a RETURN with sort keys, while its projections are walked. Such a RETURN sets the marks of these, and takes them
-// away again.
+// away again. Kinds of scopes and bindings are the numbers that the lists have.
 #![tactic(auto)]
 
 ghost use Rattle.std.specs.Prelude.{◌≡◌, true, length};
@@ -11,12 +11,12 @@ ghost use Rattle.steps.specs.Hold.{Ready, Steps};
 ghost use Rattle.clause_parts.specs.Passes.{Held, Clear, Passes};
 ghost use Rattle.clause_walk.specs.Clauses.{marked_at, scope_at, match_at, yield_at, unwind_at, unwound_at, yields_at, call_at, body_at, clause_at};
 
-use clause_parts::{DEPTH, Head, alias_of, next_word, walk_counted};
-use clauses::ClauseKind;
+use clause_parts::{Head, alias_of, next_word, walk_counted};
+use clauses::{ClauseKind, MAX_DEPTH};
 use heads::MarkKind;
 use refusal::Refusal;
 use return_walk::{walk_return, walk_sorted_return};
-use steps::{Context, Mode, Setting, Settings, Walk};
+use steps::{Context, Mode, Setting, Settings, Walk, name_in};
 use walk::{walk_expr, walk_marks, walk_pattern, walk_row};
 use with_walk::{walk_sorted_with, walk_with};
 
@@ -31,7 +31,7 @@ fn walk_marked(
     ensures { Passes 0 context.now walk.old walk.new (marked_at context.now (mode_of mode) 0 0 (kind_of kind)) result }
 {
     let n = next_word(walk, context, 0, 4294967296)?;
-    walk_marks(walk, context, DEPTH, kind, n, mode)
+    walk_marks(walk, context, MAX_DEPTH, kind, n, mode)
 }
 
 // A scope of the kind with a pattern: 2 Match, 3 Create, 4 Merge by the kinds of scopes.
@@ -46,7 +46,7 @@ fn walk_opening(
     ensures { Passes 3 context.now walk.old walk.new (scope_at context.now (mode_of mode) head.start head.end kind) result }
 {
     walk.enter(context, kind, head.start, head.end);
-    walk_pattern(walk, context, DEPTH, mode)
+    walk_pattern(walk, context, MAX_DEPTH, mode)
 }
 
 // The variable of an Unwind is bound in a scope of its own.
@@ -55,11 +55,8 @@ fn bind_unwind(walk: &mut Walk, context: &Context, head: Head, v: u32)
     ensures { Steps 4 context.now walk.old walk.new (unwound_at context.now head.start head.end v) }
 {
     walk.enter(context, 5, head.start, head.end);
-    let x = match walk.note(context, v) {
-        Some((x, _)) => x,
-        None => 0,
-    };
-    walk.bind_name(context, x, v, 4);
+    let r = walk.note(context, v);
+    walk.bind_name(context, name_in(r), v, 4);
 }
 
 // Unwind: its list is not resolved.
@@ -69,7 +66,13 @@ fn walk_unwind(walk: &mut Walk, context: &Context, head: Head, mode: Mode) -> Re
 {
     let v = next_word(walk, context, 0, 4294967296)?;
     bind_unwind(walk, context, head, v);
-    walk_expr(walk, context, DEPTH, mode.unresolving(), Setting::General)
+    walk_expr(
+        walk,
+        context,
+        MAX_DEPTH,
+        mode.unresolving(),
+        Setting::General,
+    )
 }
 
 // A yield: its name or its alias is bound.
@@ -85,7 +88,7 @@ fn walk_yield(walk: &mut Walk, context: &Context, head: Head) -> Result<(), Refu
     Ok(())
 }
 
-// n yields.
+// n yields. A loop of its own: one over a closure would need a contract over every state that it leaves.
 fn walk_yields(walk: &mut Walk, context: &Context, head: Head, n: u32) -> Result<(), Refusal>
     requires { Ready 0 context.now walk.old }
     ensures { Passes 0 context.now walk.old walk.new (yields_at context.now head.start head.end n) result }
@@ -136,7 +139,7 @@ fn walk_body(
         ClauseKind::Where => walk_row(
             walk,
             context,
-            DEPTH,
+            MAX_DEPTH,
             1,
             mode,
             Settings::all(Setting::General),

@@ -1,7 +1,7 @@
 -- What a WITH takes. A pair is held (`held_one`, `kept-more`, `names_more`), or a star is kept in mind, so a projection that is a Var or a name
 -- adds what the definition takes (`adds-pair`, `adds_none`, `adds-star`; what that is: `Gives`, `var-aliased`, `var-named`, `var-none`,
--- `name-carried`, `name-missing`, by `looked` and `unlooked`; `name-all`, by `the_star`; the name of its pair: `under-named`). The use of a Var
--- or a name: `plain-said`, `plain-none`, `plain_quiet`, `name-found`.
+-- `name-carried`, `name-missing`, by `looked` and `unlooked`; `name-all`, by `the_star`; the name of its pair: `under-named`). The use of a name
+-- that is visible: `name-found`.
 use Rattle.std.specs.Prelude.{Option, None, Some}
 use Rattle.std.specs.Option.{option_eq, unwrap_or, is_some}
 use Prim.Native.Nat.{ℕ, zero, suc, ◌+◌, ◌*◌, ◌<◌, ◌≤◌}
@@ -18,23 +18,18 @@ use Rattle.tables.specs.Row.{Row, row}
 use Rattle.semantics.specs.Log.{finding, missing, write, find}
 use Rattle.semantics.specs.Log.{answer as answer'}
 use Rattle.semantics.specs.World.{World, Direct, a_var, a_name}
-use Rattle.semantics.specs.Resolve.{State, Seen, Pair, pair, lookup, if_row, if_some, say, say_if, use_name, visit, use_var, carries, is_all}
+use Rattle.semantics.specs.Resolve.{State, Seen, Pair, pair, lookup, if_row, if_some, say, say_if, use_name, visit, carries, is_all}
 use Rattle.fused.specs.Fused.{Both, name_use}
 use Rattle.fused.specs.Clauses.{takes}
 use Rattle.rows.specs.Rows.{shown}
-use Rattle.rows.specs.Table.{row_in}
 use Rattle.visible.specs.Visible.{answer}
 use Rattle.visible.specs.Stack.{entries}
 use Rattle.visible.proofs.Pairs.{same_pair}
 use Rattle.steps.specs.Memory.{is_the, hushed_in, world_at}
-use Rattle.steps.specs.Said.{Says, event_by}
-use Rattle.steps.specs.Hold.{Holds, Steps, logged, on_names, name_record}
+use Rattle.steps.specs.Hold.{Holds, Steps, on_names, name_record}
 use Rattle.steps.specs.declared.Walk.{Walk}
 use Rattle.steps.specs.declared.context.Context.{Context}
-use Rattle.steps.specs.declared.log.Log.{Log}
-use Rattle.steps.specs.declared.mode.Setting.TheVariants.{General}
-use Rattle.steps.proofs.Held.{no-count, lower, instead, as-steps, says-step, wanted}
-use Rattle.steps.proofs.Heads.{quiet-use, rowless-use}
+use Rattle.steps.proofs.Held.{lower, instead}
 use Rattle.projection_walk.specs.Pairs.{pairs_in, pairs_of, taken_by, kept_of, Still, Kept, InNames}
 use Rattle.projection_walk.specs.Carries.{Adds, Within, NoStar}
 use Rattle.projection_walk.specs.declared.pairs.Pairs.{Pairs}
@@ -82,8 +77,8 @@ abbrev Given : Context → Walk → ((ℕ → ℕ) → Both → Both) → Option
 Given c w F alias d b ps = (id : ℕ → ℕ) (s : Both) → Holds id c w s → Gives (world_at c id) alias d (F id s).names.visible b ps
 
 module _ {c : Context} {w w' : Walk} {p : Pairs} {F : (ℕ → ℕ) → Both → Both} (alias : Option ℕ) (d : Direct) where
-  pub adds-pair : {p' : Pairs} {x v : ℕ} → x < w.visible.names → Steps 1 c w w' F → Kept x v p p' → Given c w F alias d false (pair x v ∷ []) → Adds c w p w' p' F alias d
-  adds-pair {p'} {v = v} h y k g =
+  pub adds-pair : {p' : Pairs} {x v j : ℕ} → x < w.visible.names → j ≤ 2 → Steps j c w w' F → Kept x v p p' → Given c w F alias d false (pair x v ∷ []) → Adds c w p w' p' F alias d
+  adds-pair {p'} {v = v} h l y k g =
       let m = kept-more k in
       record {
         at = y.at;
@@ -223,19 +218,3 @@ the_star x (Some y) e = eq-eqb x y (sym (eqb-true y x (sym e)))
 pub under-named : {names : ℕ} (alias : Option ℕ) (x : ℕ) → Within names alias → x < names → unwrap_or alias x < names
 under-named None x a h = h
 under-named (Some y) x a h = a
-
--- ---- the use of a Var in the general setting
-module _ {c : Context} {w : Walk} (v : ℕ) where
-  pub plain-said : {l : Log} {x k : ℕ} → c.wants ≡ true → Some (x, k) ≡ shown (row_in c.rows v) → Says (4 ∷ v ∷ k ∷ 0 ∷ 0 ∷ 0 ∷ []) w.log l → Steps 1 c w (logged w l) (λ id. on_names (use_var (world_at c id) v (row_in c.rows v)))
-  unfolding use_var
-  plain-said {x = x} {k} e q p = as-steps _ (says-step p (λ id l. wanted _ e (λ r. refl) l) (λ id. no-count (λ n. refl) (λ n. refl))) (λ id s. go id s (row_in c.rows v) q)
-    where
-      go : (id : ℕ → ℕ) (s : Both) (o : Option Row) → Some (x, k) ≡ shown o → on_names (say (event_by id (4 ∷ v ∷ k ∷ 0 ∷ 0 ∷ 0 ∷ []))) s ≡ on_names (use_var (world_at c id) v o) s
-      go id s None q = cc
-      go id s (Some (row i y l a b)) q = let z : k ≡ l = (same_pair q).1 in rw z
-
-  pub plain-none : {j : ℕ} → None ≡ shown (row_in c.rows v) → Steps j c w w (λ id. on_names (use_var (world_at c id) v (row_in c.rows v)))
-  plain-none q = rowless-use (record { resolves = true; checks = false }) General v (row_in c.rows v) (sym q)
-
-  pub plain_quiet : {j : ℕ} → c.wants ≡ false → Steps j c w w (λ id. on_names (use_var (world_at c id) v (row_in c.rows v)))
-  plain_quiet h = quiet-use (record { resolves = true; checks = false }) General v (row_in c.rows v) (rw h)

@@ -10,7 +10,7 @@ use native.Mathlib.Omega.{arith}
 use native.Mathlib.Numerals.{add-one}
 use mathlib.Core.Path.{◌≡◌, refl, ap, sym}
 use mathlib.Core.Bool.{true, or-false}
-use mathlib.Core.List.{List, [], append-nil}
+use mathlib.Core.List.{List, append-nil}
 use lib.ListN.{drop}
 use Rattle.refusal.specs.Number.{number_of}
 use Rattle.refusal.specs.declared.Refusal.{Refusal}
@@ -21,11 +21,10 @@ use Rattle.heads.specs.Form.{read_form}
 use Rattle.heads.specs.declared.Form.{Form}
 use Rattle.heads.specs.declared.Form.TheVariants.{Var, Unresolved}
 use Rattle.clauses.specs.Read.{alias_of}
-use Rattle.tables.specs.Row.{Row, row}
 use Rattle.semantics.specs.World.{World, Direct, other}
 use Rattle.semantics.specs.Resolve.{carries, is_all, use_var}
 use Rattle.semantics.specs.Kinds.{general, at_row}
-use Rattle.fused.specs.Fused.{Both, Mode, name_use, row_go, rounds, rest_go, expr_go}
+use Rattle.fused.specs.Fused.{Both, Mode, step, name_use, row_go, rounds, rest_go, expr_go}
 use Rattle.fused.specs.Clauses.{within, direct_form, direct_of, Taken, takes, projections_go}
 use Rattle.steps.specs.Memory.{words_in, names_in, use_in, tables_in, world_at}
 use Rattle.steps.specs.Hold.{Ready, on_names}
@@ -43,25 +42,20 @@ use Rattle.projection_walk.proofs.Carrying.{still_idle, kept-more, names_more}
 use Rattle.projection_walk.proofs.Chained.{as-passes, first-refused, then-passes}
 
 -- ---- the two forms of an expression that may be carried are their use
-general_row : (o : Option Row) → at_row general o ≡ []
-unfolding at_row
-general_row None = refl
-general_row (Some (row i x k a b)) = refl
-
-module _ (w : World) (t : Tables) (m : Mode) (s : Both) (r : List ℕ) {r2 : List ℕ} (live : m.resolves ≡ true) where
-  var-at : (d : ℕ) {v : ℕ} → read_form t.names r ≡ ok (Var v) r2 → expr_go w t (suc d) m general s r ≡ ok (on_names (use_var w v (w.row v)) s) r2
+module _ (w : World) (t : Tables) (m : Mode) (s : Both) (r : List ℕ) {r2 : List ℕ} where
+  var-at : (d : ℕ) {v : ℕ} → read_form t.names r ≡ ok (Var v) r2 → expr_go w t (suc d) m general s r ≡ ok (step m (use_var w v (w.row v)) (at_row general (w.row v)) s) r2
   unfolding expr_go rest_go row_go rounds
-  var-at d {v} q = rw (q, general_row (w.row v)) (ap (λ (u : Both). ok u r2) (names-step m (use_var w v (w.row v)) s live))
+  var-at d q = rw q refl
 
-  name-at : (d : ℕ) {x : ℕ} → read_form t.names r ≡ ok (Unresolved x) r2 → expr_go w t (suc d) m general s r ≡ ok (on_names (name_use w x) s) r2
+  name-at : (d : ℕ) {x : ℕ} → m.resolves ≡ true → read_form t.names r ≡ ok (Unresolved x) r2 → expr_go w t (suc d) m general s r ≡ ok (on_names (name_use w x) s) r2
   unfolding expr_go rest_go row_go rounds
-  name-at d {x} q = rw q (ap (λ (u : Both). ok u r2) (names-step m (name_use w x) s live))
+  name-at d {x} live q = rw q (ap (λ (u : Both). ok u r2) (names-step m (name_use w x) s live))
 
-  pub var-within : {v : ℕ} → read_form t.names r ≡ ok (Var v) r2 → within w t m general s r ≡ ok (on_names (use_var w v (w.row v)) s) r2
+  pub var-within : {v : ℕ} → read_form t.names r ≡ ok (Var v) r2 → within w t m general s r ≡ ok (step m (use_var w v (w.row v)) (at_row general (w.row v)) s) r2
   var-within q = var-at 47 q
 
-  pub name-within : {x : ℕ} → read_form t.names r ≡ ok (Unresolved x) r2 → within w t m general s r ≡ ok (on_names (name_use w x) s) r2
-  name-within q = name-at 47 q
+  pub name-within : {x : ℕ} → m.resolves ≡ true → read_form t.names r ≡ ok (Unresolved x) r2 → within w t m general s r ≡ ok (on_names (name_use w x) s) r2
+  name-within live q = name-at 47 live q
 
 none_within : (w : World) (t : Tables) (m : Mode) (s : Both) (r : List ℕ) {n : ℕ} → read_form t.names r ≡ no n → within w t m general s r ≡ no n
 unfolding expr_go

@@ -3,26 +3,28 @@
 
 mod pairs;
 
-ghost use Rattle.std.specs.Prelude.{◌≡◌, ◌<◌};
+ghost use Rattle.std.specs.Prelude.{◌<◌};
 ghost use Rattle.semantics.specs.World.{a_var, a_name};
 ghost use Rattle.semantics.specs.Resolve.{use_var};
-ghost use Rattle.fused.specs.Fused.{name_use};
+ghost use Rattle.semantics.specs.Kinds.{general, at_row};
+ghost use Rattle.fused.specs.Fused.{step, name_use};
 ghost use Rattle.rows.specs.Table.{row_in};
 ghost use Rattle.steps.specs.Modes.{mode_of};
 ghost use Rattle.steps.specs.Memory.{names_in, world_at};
-ghost use Rattle.steps.specs.Hold.{Ready, Steps, on_names};
+ghost use Rattle.steps.specs.Hold.{Ready, on_names};
 ghost use Rattle.clause_parts.specs.Passes.{Held};
 ghost use Rattle.projection_walk.specs.Pairs.{kept_of, KeptOther, KeepsOther};
 ghost use Rattle.projection_walk.specs.Carries.{Within, NoStar, Holding, Carries, Adds, DirectAs, carried_at, projections_at, filtered_at};
 
-use clause_parts::{DEPTH, alias_of, next_word};
+use clause_parts::{alias_of, next_word};
+use clauses::MAX_DEPTH;
 use heads::Form;
 pub use pairs::Pairs;
 use refusal::Refusal;
 use steps::{Context, Mode, Setting, Settings, Walk};
 use walk::{walk_expr, walk_row};
 
-// The two forms of an expression that a WITH may carry.
+// A Var and a name are the two forms of a projection that a WITH carries without an alias too; any other is carried under its alias alone.
 #[derive(Clone, Copy)]
 pub enum Direct {
     Var(u32),
@@ -30,25 +32,19 @@ pub enum Direct {
     Other,
 }
 
-// A Var as a projection: its use, in the general setting.
-fn use_plain(walk: &mut Walk, context: &Context, v: u32)
-    requires { Ready 1 context.now walk.old }
-    ensures { Steps 1 context.now walk.old walk.new (λ id. on_names (use_var (world_at context.now id) v (row_in context.now.rows v))) }
-{
-    if context.wants {
-        match context.row_of(v) {
-            Some((_, k)) => walk.log.say([4, v, k, 0, 0, 0]),
-            None => {}
-        }
-    }
-}
-
-// A Var: carried under its alias, or under the name of its row.
-fn carry_var(walk: &mut Walk, context: &Context, pairs: &mut Pairs, alias: Option<u32>, v: u32)
+// A Var: used, and carried under its alias, or under the name of its row.
+fn carry_var(
+    walk: &mut Walk,
+    context: &Context,
+    pairs: &mut Pairs,
+    alias: Option<u32>,
+    v: u32,
+    mode: Mode,
+)
     requires { Within (names_in context.now) alias × (Holding 3 context.now walk.old pairs.old × Ready 3 context.now walk.old) }
-    ensures { Adds context.now walk.old pairs.old walk.new pairs.new (λ id. on_names (use_var (world_at context.now id) v (row_in context.now.rows v))) alias (a_var v) }
+    ensures { Adds context.now walk.old pairs.old walk.new pairs.new (λ id. step (mode_of mode) (use_var (world_at context.now id) v (row_in context.now.rows v)) (at_row general (row_in context.now.rows v))) alias (a_var v) }
 {
-    use_plain(walk, context, v);
+    walk.use_var(context, v, mode, Setting::General);
     match alias {
         Some(x) => pairs.keep(x, v),
         None => match context.row_of(v) {
@@ -134,14 +130,14 @@ fn walk_carried(
     match direct_of(f) {
         Direct::Var(v) => {
             walk.at = at;
-            carry_var(walk, context, pairs, alias, v);
+            carry_var(walk, context, pairs, alias, v, mode);
         }
         Direct::Name(x) => {
             walk.at = at;
             carry_name(walk, context, pairs, alias, x);
         }
         Direct::Other => {
-            walk_expr(walk, context, DEPTH, mode, Setting::General)?;
+            walk_expr(walk, context, MAX_DEPTH, mode, Setting::General)?;
             carry_other(context, pairs, alias);
         }
     }
@@ -162,7 +158,7 @@ fn walk_projection(
     walk_carried(walk, context, pairs, alias_of(word), mode)
 }
 
-// n projections.
+// n projections. A loop of its own: one over a closure would need a contract over every state that it leaves.
 fn walk_projections(
     walk: &mut Walk,
     context: &Context,
@@ -195,7 +191,7 @@ pub fn walk_filtered(
     walk_row(
         walk,
         context,
-        DEPTH,
+        MAX_DEPTH,
         filters as usize,
         mode,
         Settings::all(Setting::General),

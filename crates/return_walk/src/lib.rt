@@ -1,8 +1,8 @@
 // RETURN: its projections are walked from outside its scope, which is current after it. So are its sort keys, in which its aliases are no use:
-// these are held while its projections are walked, and marked while its sort keys are.
+// these are held while its projections are walked, and marked while its sort keys are. The kind of its scope is the number that the lists have.
 #![tactic(auto)]
 
-ghost use Rattle.std.specs.Prelude.{◌≡◌, true, false, ◌+◌, ◌<◌, ◌≤◌, length};
+ghost use Rattle.std.specs.Prelude.{◌≡◌, true, false, ◌<◌, ◌≤◌, length};
 ghost use Rattle.steps.specs.Modes.{mode_of};
 ghost use Rattle.steps.specs.Memory.{names_in};
 ghost use Rattle.steps.specs.Hold.{Ready};
@@ -10,7 +10,8 @@ ghost use Rattle.walk.specs.Goes.{Walked};
 ghost use Rattle.clause_parts.specs.Passes.{Passes, Held, Clear};
 ghost use Rattle.return_walk.specs.Returns.{aliases_in, AllNamed, HeldAlias, Marked, output_at, outputs_at, returned_at, hushed_at, keyed_at, sorted_at, return_at};
 
-use clause_parts::{DEPTH, Head, alias_of, next_word, walk_counted};
+use clause_parts::{Head, alias_of, next_word, walk_counted};
+use clauses::MAX_DEPTH;
 use refusal::Refusal;
 use steps::{Context, Mode, Setting, Walk};
 use walk::walk_expr;
@@ -21,10 +22,10 @@ fn walk_output(walk: &mut Walk, context: &Context, mode: Mode) -> Result<(), Ref
     ensures { Walked 48 context.now walk.old walk.new (output_at context.now (mode_of mode)) result }
 {
     next_word(walk, context, 0, context.section.names as u64 + 1)?;
-    walk_expr(walk, context, DEPTH, mode, Setting::General)
+    walk_expr(walk, context, MAX_DEPTH, mode, Setting::General)
 }
 
-// n projections of a RETURN.
+// n projections of a RETURN. A loop of its own: one over a closure would need a contract over every state that it leaves.
 fn walk_outputs(walk: &mut Walk, context: &Context, n: u32, mode: Mode) -> Result<(), Refusal>
     requires { Ready 0 context.now walk.old }
     ensures { Walked 48 context.now walk.old walk.new (outputs_at context.now (mode_of mode) n) result }
@@ -129,7 +130,7 @@ fn walk_keyed(
     for _ in 0..n {
         let word = next_word(walk, context, 0, context.section.names as u64 + 1)?;
         k = hold(held, k, alias_of(word));
-        walk_expr(walk, context, DEPTH, mode, Setting::General)?;
+        walk_expr(walk, context, MAX_DEPTH, mode, Setting::General)?;
     }
     walk_hushed(walk, context, held, k, marks, mode)
 }

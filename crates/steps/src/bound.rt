@@ -14,7 +14,7 @@ use crate::{Context, Mode, Walk};
 use heads::Elem;
 
 // The name of a row, 0 where there is none.
-fn name_in(r: Option<(u32, u32)>) -> u32
+pub fn name_in(r: Option<(u32, u32)>) -> u32
     ensures { result ≡ name_in r }
 {
     match r {

@@ -12,8 +12,8 @@ use crate::{Mode, Setting, Settings};
 use heads::{Form, Section};
 use rows::Rows;
 
-// `uses` has the use id of each name. The names whose mark in `hushed` is 1 are no use, and so is none past it. `star` and `ident` are the
-// names `*` and `id`. `warns` is the choice of warnings, `wants` whether every event is wanted and not findings alone.
+// `uses` has the use id of each name. A name whose mark in `hushed` is 1 is no use; any other is one, also a name past the marks. `star` and
+// `ident` are the names `*` and `id`. `warns` is the choice of warnings, `wants` whether every event is wanted and not findings alone.
 #[derive(Clone, Copy)]
 pub struct Context<'a> {
     pub section: Section<'a>,

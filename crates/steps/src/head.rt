@@ -1,4 +1,5 @@
-// What the head of an expression does before its parts and after them.
+// What the head of an expression does before its parts and after them. Kinds of scopes and sorts of events are numbers, as the lists and the
+// log have them.
 ghost use Rattle.std.specs.Prelude.{◌≡◌, ◌<◌, ◌≤◌, get_or};
 ghost use Rattle.semantics.specs.Resolve.{lookup, use_var};
 ghost use Rattle.semantics.specs.Kinds.{leaf_types, at_type, at_row};
@@ -121,7 +122,7 @@ impl Walk<'_> {
         }
     }
 
-    // A type that a head shows, where kinds are checked.
+    // A type that a head shows, where kinds are checked. A context is asked for since room is a fact of it.
     fn show(&mut self, context: &Context, t: u32, mode: Mode, set: Setting)
         requires { Ready 1 context.now self.old }
         ensures { Steps 1 context.now self.old self.new (λ id. step (mode_of mode) same (at_type (setting_of set) t)) }

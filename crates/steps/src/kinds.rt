@@ -9,6 +9,7 @@ ghost use Rattle.steps.specs.Hold.{Ready, Steps, AtRow, on_kinds};
 
 use crate::{Context, Setting, Walk};
 
+// A context is asked for since room is a fact of it.
 impl Walk<'_> {
     // A type, 0 for none, in a setting.
     pub fn at_type(&mut self, context: &Context, set: Setting, t: u32)

@@ -11,6 +11,7 @@ mod mode;
 
 ghost use Rattle.std.specs.Prelude.{◌≡◌};
 
+pub use bound::name_in;
 pub use context::Context;
 pub use log::Log;
 pub use mode::{Mode, Setting, Settings};

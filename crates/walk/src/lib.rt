@@ -183,7 +183,8 @@ pub fn walk_many(
     Ok(())
 }
 
-// n marks of a kind, each with its expressions.
+// n marks of a kind, each with its expressions. A loop of its own, as in walk_parts and walk_elems: one over a closure would need a contract over
+// every state that it leaves.
 #[cycle(walks)]
 pub fn walk_marks(
     walk: &mut Walk,

@@ -1,12 +1,13 @@
 -- What sort keys see, and what is seen after them. Where nothing changes but what is visible, the walk fits and holds that (`seen-still`,
--- `seen-fits`, `seen-holds`). The pairs are seen in a scope, without an event: the first i of them are (`Seeing`: `none_seen`, `one_seen`,
--- `all_seen`). A new Root above what was visible is the fresh one with that below (`rooted-beside`), and after the keys the pairs that are seen
--- again are what is visible in it (`seen-again`).
+-- `seen-fits`, `seen-holds`). The pairs are seen in a scope, without an event: the first i of them are (`Seeing`: `none_seen`, `one_seen` with
+-- `first-as`, `all_seen`). A new Root above what was visible is the fresh one with that below (`rooted-beside`), and after the keys the pairs
+-- that are seen again are what is visible in it (`seen-again`).
+use Rattle.std.specs.Int.{from_bool}
 use Prim.Native.Nat.{ℕ, suc, ◌+◌, ◌*◌, ◌<◌, ◌≤◌}
 use native.Mathlib.Omega.{arith}
 use native.Mathlib.Numerals.{add-one}
 use mathlib.Core.Path.{◌≡◌, refl, ap, sym, subst, ◌∙◌}
-use mathlib.Core.Bool.{Bool, true, false, cond, ◌&&◌, ◌||◌}
+use mathlib.Core.Bool.{Bool, true, false, cond, not, ◌&&◌, ◌||◌}
 use mathlib.Core.List.{List, [], ◌∷◌, ◌++◌}
 use lib.Dec.{eqb}
 use lib.ListN.{get_or}
@@ -80,6 +81,11 @@ none_seen p b = record { same = refl; still = seen-idle; top = omega arith; soun
 
 same-cur : {i : ℕ} {p : Pairs} {w₀ w : Walk} {made : ℕ} → Seeing i p w₀ w made → w.cur ≡ w₀.cur
 same-cur g = ap (λ (x : Walk). x.cur) g.same
+
+-- a pair counts as one where its name isn't bound
+pub first-as : {n : ℕ} {again b : Bool} → n ≡ from_bool (not again) → again ≡ b → n ≡ cond b 0 1
+first-as {again = true} q e = rw (← e) q
+first-as {again = false} q e = rw (← e) q
 
 -- the pairs but the last, and the last above them
 firsts-one : (c : ℕ) (ps : List Pair) (x v : ℕ) (l : List Seen) → firsts c (ps ++ (pair x v ∷ [])) l ≡ firsts c ps l + cond (binds c x (above c ps l)) 0 1

@@ -3,9 +3,7 @@
 // is carried and bound: it is counted.
 #![tactic(auto)]
 
-ghost use Rattle.std.specs.Prelude.{◌≡◌, true, false, cond, ℕ, ◌+◌, ◌<◌, ◌≤◌, length};
-ghost use Rattle.semantics.specs.Resolve.{binds};
-ghost use Rattle.visible.specs.Stack.{entries};
+ghost use Rattle.std.specs.Prelude.{◌≡◌, true, false, ◌+◌, length};
 ghost use Rattle.steps.specs.Modes.{mode_of};
 ghost use Rattle.steps.specs.Hold.{Binding, Ready};
 ghost use Rattle.clause_parts.specs.Passes.{Held, Passes};
@@ -17,18 +15,7 @@ use projection_walk::{Pairs, walk_filtered};
 use refusal::Refusal;
 use steps::{Context, Mode, Walk};
 
-// 1 where the current scope doesn't bind x yet, else 0.
-fn first_of(walk: &Walk, x: u32) -> u32
-    requires { Binding walk.now }
-    ensures { (result ≤ 1) × (result ≡ cond (binds walk.now.cur x (entries walk.now.visible)) 0 1) }
-{
-    if walk.is_again(x) {
-        return 0;
-    }
-    1
-}
-
-// The pairs that are held are seen in the current scope, without an event; how many of them are the first of their name there.
+// The pairs that are held become visible in the current scope, without an event; how many of them have a name that the scope didn't bind yet.
 fn see_pairs(walk: &mut Walk, pairs: &Pairs) -> u32
     requires { SeesIn walk.old pairs.now }
     ensures { Sees pairs.now walk.old walk.new result }
@@ -36,14 +23,14 @@ fn see_pairs(walk: &mut Walk, pairs: &Pairs) -> u32
     let mut made = 0;
     for i in 0..pairs.count as usize {
         let x = pairs.words[i * 2];
-        made += first_of(walk, x);
+        made += u32::from(!walk.is_again(x));
         let cur = walk.cur;
         walk.visible.bind(x, pairs.words[i * 2 + 1], cur);
     }
     made
 }
 
-// Where there is a star, each name that is seen is seen once, in the current scope; how many.
+// Where there is a star, each name that is visible stays so once, in the current scope; how many these are, 0 without a star.
 fn spread(walk: &mut Walk, star: bool) -> u32
     requires { Binding walk.old }
     ensures { Spreads star walk.old walk.new result }
@@ -56,7 +43,8 @@ fn spread(walk: &mut Walk, star: bool) -> u32
     0
 }
 
-// As many names more are carried as a star has and are held, and as many bindings made as a star has and are first.
+// Counted as carried: the `star` names of a star and the `held` pairs. Counted as bindings: the `star` names, and the `first` of the pairs whose
+// name the new Root didn't bind yet.
 fn count_pairs(walk: &mut Walk, held: u32, star: u32, first: u32)
     requires { Countable held star first walk.old }
     ensures { CountsPairs held star first walk.old walk.new }
@@ -70,6 +58,7 @@ fn bind_with(walk: &mut Walk, context: &Context, pairs: &Pairs, head: Head, top:
     requires { BindsIn top walk.old pairs.now × Ready (2 + kept_of pairs.now) context.now walk.old }
     ensures { Rebinds context.now pairs.now walk.old walk.new head.start head.end top }
 {
+    // The kinds of scopes are the numbers that the lists have.
     walk.enter(context, 7, head.start, head.end);
     walk.enter(context, 1, head.end, head.end);
     let root = walk.cur;
@@ -103,7 +92,8 @@ pub fn walk_with(
     Ok(())
 }
 
-// After the keys the pairs alone are seen: those of a star are still there, and the others too.
+// After the keys only what is carried is visible. With a star that is all up to the height, where the keys began; without one the stack is
+// emptied, of the names before the WITH too, and the pairs become visible anew.
 fn see_again(walk: &mut Walk, pairs: &Pairs, height: u32, root: u32)
     requires { SeesAgainIn height walk.old pairs.now }
     ensures { SeesAgain pairs.now height root walk.old walk.new }

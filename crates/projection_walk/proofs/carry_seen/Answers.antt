@@ -11,7 +11,7 @@ returns-in-Some c =
     let a = c.args in
     let seen = looked (lookup a.x (entries a.walk.now.visible)) _ c.in-Some.ensures in
     let h = under-named a.alias a.x c.requires.0.1.0 c.requires.0.1.1 in
-    adds-pair a.alias (a_name a.x) (omega (arith, h, c.requires.1.1.fit.places)) (name-found a.x seen (c.requires.1.0.unhushed a.x) c.record_name.ensures) (rw c.unwrap_or.ensures at c.keep.ensures) (name-carried a.x seen a.alias c.requires.0.0)
+    adds-pair a.alias (a_name a.x) (omega (arith, h, c.requires.1.1.fit.places)) (omega arith) (name-found a.x seen (c.requires.1.0.unhushed a.x) c.record_name.ensures) (rw c.unwrap_or.ensures at c.keep.ensures) (name-carried a.x seen a.alias c.requires.0.0)
 
 pub returns-in-None : goal.returns-in-None
 returns-in-None c =

@@ -27,7 +27,7 @@ returns-in-Var c =
     let a = c.args in
     let form = c.in_ok-f.ensures.takes in
     let is = c.in-Var.ensures in
-    direct-passes (var-paid _ form is) form a.alias (mode_of a.mode) c.carry_var.ensures (ap direct_form is) (λ id s. var-within (world_at a.context.now id) (tables_in a.context.now) (mode_of a.mode) s _ c.requires.1.0.resolves (rw is at form.same))
+    direct-passes (var-paid _ form is) form a.alias (mode_of a.mode) c.carry_var.ensures (ap direct_form is) (λ id s. var-within (world_at a.context.now id) (tables_in a.context.now) (mode_of a.mode) s _ (rw is at form.same))
 
 pub returns-in-Name : goal.returns-in-Name
 returns-in-Name c =

@@ -2,7 +2,7 @@
 use mathlib.Core.Path.{◌≡◌, refl}
 use native.Mathlib.Omega.{arith}
 use Rattle.with_walk.proofs.Names.{names_at}
-use Rattle.with_walk.proofs.Seeing.{none_seen, one_seen, all_seen}
+use Rattle.with_walk.proofs.Seeing.{none_seen, first-as, one_seen, all_seen}
 use Rattle.with_walk.proofs.see_pairs.Goals as goal
 
 pub loop-i-init : goal.loop-i-init
@@ -18,7 +18,7 @@ bind-requires c =
 
 pub loop-i-preserved : goal.loop-i-preserved
 loop-i-preserved c =
-    one_seen c.loop-i.invariant refl refl c.first_of-made.ensures.1 c.bind.ensures
+    one_seen c.loop-i.invariant refl refl (first-as c.from-made.ensures c.is_again.ensures) c.bind.ensures
 
 pub returns : goal.returns
 returns c =
