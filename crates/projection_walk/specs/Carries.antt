@@ -7,9 +7,11 @@ use Rattle.heads.specs.Form.{read_form}
 use Rattle.heads.specs.declared.Form.{Form}
 use Rattle.heads.specs.declared.Form.TheVariants.{Var, Unresolved}
 use Rattle.semantics.specs.World.{Direct, other}
-use Rattle.semantics.specs.Kinds.{general, plain}
-use Rattle.fused.specs.Fused.{Both, Mode, row_go}
+use Rattle.semantics.specs.Resolve.{use_var}
+use Rattle.semantics.specs.Kinds.{general, plain, at_row}
+use Rattle.fused.specs.Fused.{Both, Mode, step, row_go}
 use Rattle.fused.specs.Clauses.{within, direct_form, direct_of, Taken, takes, projections_go}
+use Rattle.rows.specs.Table.{row_in}
 use Rattle.visible.specs.Visible.{seens}
 use Rattle.visible.specs.Stack.{entries}
 use Rattle.steps.specs.Memory.{words_in, names_in, tables_in, is_the, world_at}
@@ -71,6 +73,10 @@ pub record Adds (c : Context) (w : Walk) (p : Pairs) (w' : Walk) (p' : Pairs) (F
   pub fit : (k : ℕ) → Fit (3 + k + kept_of p) c w → Fit (k + kept_of p') c w'
   pub goes : (id : ℕ → ℕ) (s : Both) → Holds id c w s → Holds id c w' (F id s)
   pub taken : (id : ℕ → ℕ) (s : Both) → Holds id c w s → taken_by p' ≡ takes (world_at c id) alias d (F id s).names.visible (taken_by p)
+
+-- the use of a variable as a projection, in the general setting
+abbrev pub var_use : Context → Mode → ℕ → (ℕ → ℕ) → Both → Both
+var_use c m v id = step m (use_var (world_at c id) v (row_in c.rows v)) (at_row general (row_in c.rows v))
 
 -- the alias is one of the names, if there is one
 abbrev pub Within : ℕ → Option ℕ → Type 0

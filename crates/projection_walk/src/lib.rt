@@ -5,16 +5,13 @@ mod pairs;
 
 ghost use Rattle.std.specs.Prelude.{◌<◌};
 ghost use Rattle.semantics.specs.World.{a_var, a_name};
-ghost use Rattle.semantics.specs.Resolve.{use_var};
-ghost use Rattle.semantics.specs.Kinds.{general, at_row};
-ghost use Rattle.fused.specs.Fused.{step, name_use};
-ghost use Rattle.rows.specs.Table.{row_in};
+ghost use Rattle.fused.specs.Fused.{name_use};
 ghost use Rattle.steps.specs.Modes.{mode_of};
 ghost use Rattle.steps.specs.Memory.{names_in, world_at};
 ghost use Rattle.steps.specs.Hold.{Ready, on_names};
 ghost use Rattle.clause_parts.specs.Passes.{Held};
 ghost use Rattle.projection_walk.specs.Pairs.{kept_of, KeptOther, KeepsOther};
-ghost use Rattle.projection_walk.specs.Carries.{Within, NoStar, Holding, Carries, Adds, DirectAs, carried_at, projections_at, filtered_at};
+ghost use Rattle.projection_walk.specs.Carries.{Within, NoStar, Holding, Carries, Adds, DirectAs, var_use, carried_at, projections_at, filtered_at};
 
 use clause_parts::{alias_of, next_word};
 use clauses::MAX_DEPTH;
@@ -42,7 +39,7 @@ fn carry_var(
     mode: Mode,
 )
     requires { Within (names_in context.now) alias × (Holding 3 context.now walk.old pairs.old × Ready 3 context.now walk.old) }
-    ensures { Adds context.now walk.old pairs.old walk.new pairs.new (λ id. step (mode_of mode) (use_var (world_at context.now id) v (row_in context.now.rows v)) (at_row general (row_in context.now.rows v))) alias (a_var v) }
+    ensures { Adds context.now walk.old pairs.old walk.new pairs.new (var_use context.now (mode_of mode) v) alias (a_var v) }
 {
     walk.use_var(context, v, mode, Setting::General);
     match alias {
