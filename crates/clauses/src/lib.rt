@@ -3,9 +3,8 @@
 
 mod kind;
 
-ghost use Rattle.std.specs.Prelude.{Bool, true, false, ℕ, List, ◌≤◌, length, drop};
-ghost use Rattle.heads.specs.Got.{Got, many, counted};
-ghost use Rattle.heads.specs.Head.{Tables};
+ghost use Rattle.std.specs.Prelude.{Bool, true, false, ℕ, ◌≤◌, length, drop};
+ghost use Rattle.heads.specs.Got.{counted};
 ghost use Rattle.heads.specs.Answer.{Reads, words_of, tables_of, kind_of};
 ghost use Rattle.clauses.specs.Tree as tree;
 ghost use Rattle.clauses.specs.Read.{read_projection, read_yield, counted_exprs, counted_marks, no_keys, read_match, read_with, read_unwind, read_call, read_body, read_clause, read_arm};
@@ -14,47 +13,12 @@ ghost use Rattle.clauses.specs.Sorted.{sorted_with, sorted_return};
 
 use expr::{read_marks, read_pattern};
 use flat::{read_expr, read_kids};
-use heads::{MarkKind, Section};
+use heads::{Item, MarkKind, Section, counted};
 pub use kind::ClauseKind;
 use refusal::Refusal;
 
 // The deepest expression that is read.
 pub const MAX_DEPTH: u32 = 48;
-
-// What a section has many of, one after the other.
-pub trait Item {
-    // one of them as a tree
-    ghost Tree: { Type 0 };
-
-    // how the definition reads one
-    ghost one: { Tables → List ℕ → Got Tree };
-
-    // Reads one.
-    fn read(section: &Section, at: usize) -> Result<usize, Refusal>
-        requires { at ≤ length (words_of section.now) }
-        ensures { Reads (words_of section.now) at (one (tables_of section.now)) result };
-}
-
-// n items of a kind.
-pub fn read_many<I: Item>(section: &Section, at: usize, n: u32) -> Result<usize, Refusal>
-    requires { at ≤ length (words_of section.now) }
-    ensures { Reads (words_of section.now) at (many (I.one (tables_of section.now)) n) result }
-{
-    let mut p = at;
-    for _ in 0..n {
-        p = I::read(section, p)?;
-    }
-    Ok(p)
-}
-
-// A count, and as many items of a kind.
-pub fn counted<I: Item>(section: &Section, at: usize) -> Result<usize, Refusal>
-    requires { at ≤ length (words_of section.now) }
-    ensures { Reads (words_of section.now) at (counted (I.one (tables_of section.now))) result }
-{
-    let (n, at) = section.any_word(at)?;
-    read_many::<I>(section, at, n)
-}
 
 // A projection: an alias or none, and an expression.
 pub struct Projection;

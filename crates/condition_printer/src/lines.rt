@@ -7,9 +7,9 @@ ghost use Rattle.clauses.specs.Read.{read_clause, read_arm};
 ghost use Rattle.condition_text.specs.Write.{Ready};
 ghost use Rattle.condition_printer.specs.Page.{IsWith, Placed, PutClause, PutClauses, PutArm, PutArms};
 
-use clauses::{Clause, ClauseKind, Item, MAX_DEPTH, Projection, counted};
+use clauses::{Clause, ClauseKind, MAX_DEPTH, Projection};
 use condition_text::{Page, print};
-use heads::Section;
+use heads::{Item, Section, counted};
 use words::word;
 
 // Where a WITH's filter stands, if it has one: after projections and flag.

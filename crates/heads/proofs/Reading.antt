@@ -71,3 +71,6 @@ module _ {A : Type 0} {ws : List ℕ} {at : ℕ} {h : Got A} {e : ℕ} (x y : Go
 pub longer_from : {A : Type 0} {ws : List ℕ} {at p : ℕ} {g : Got A} (r : Result (A × ℕ) Refusal) → at < p → Ans ws p g (got ws r) (end ws r) → longer at r
 longer_from (Ok x) lt a = omega arith
 longer_from (Err e) lt a = tt
+
+-- what is read first, and what is read after it
+pub ruleset steps = (onward, halted, past, failed, over, chosen, otherwise)

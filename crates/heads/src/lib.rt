@@ -1,7 +1,10 @@
 // The heads of expressions and of a pattern's parts and elements, read in place: what a word must be, and which words belong to a
-// head. A section is a part of a sheet that ends where its words do; a position in it is a word's number. What reads answers what it read
-// and the position after it.
+// head. A section is a part of a sheet that ends where its words do; a position in it is a word's number. What reads takes a position and
+// answers what it read and the next position, and shares no cursor: after a refusal there is no next one, and readers in a row are a row of
+// `let (x, at)`.
 #![tactic(auto)]
+
+mod item;
 
 ghost use Rattle.std.specs.Prelude.{◌≡◌, Bool, ℕ, ◌+◌, ◌<◌, ◌≤◌, length, drop};
 ghost use Rattle.words.specs.Words.{words};
@@ -11,10 +14,11 @@ ghost use Rattle.heads.specs.Form.{shape_of, limit_of, form_none, form_one, case
 ghost use Rattle.heads.specs.Head.{allowed, read_maybe, read_part, read_elem, mark_low, mark_high, mark_kids, deep_cause};
 ghost use Rattle.heads.specs.Answer.{Takes, one_on, longer, words_of, tables_of, is_in, row_ids, kind_of};
 
+pub use item::{Item, counted, read_many};
 use refusal::Refusal;
 use words::{count, word};
 
-// The head of an expression.
+// The head of an expression, as the definition's tree: its numbers are those that were read, and any number may stand there.
 #[derive(Clone, Copy)]
 pub enum Form {
     Leaf(u32),
@@ -35,14 +39,15 @@ pub enum Form {
     MapProjection(u32),
 }
 
-// A part of a pattern: its path variable, and how many elements it has.
+// A part of a pattern: its path variable, and how many elements it has; in the tree of the definition any number may stand there.
 #[derive(Clone, Copy)]
 pub struct Part {
     pub path: Option<u32>,
     pub count: u32,
 }
 
-// An element of a pattern: 1 Node or 2 Rel, its span, its variable, and 1 where a property expression follows.
+// An element of a pattern: 1 Node or 2 Rel, its span, its variable, and 1 where a property expression follows. Kind and property stay
+// numbers, since they are those of the definition's tree, in which any number may stand.
 #[derive(Clone, Copy)]
 pub struct Elem {
     pub kind: u32,
@@ -247,7 +252,8 @@ impl Section<'_> {
         Ok((elem, at))
     }
 
-    // Whether one of the first n bindings has the variable v.
+    // Whether one of the first n bindings has the variable v. A loop, since the rows end where the words do, and the library has no laws of
+// `step_by`.
     pub fn has_row(&self, n: usize, v: u32) -> bool
         ensures { result ≡ is_in v (row_ids n (drop self.now.rows (words_of self.now))) }
     {

@@ -8,8 +8,8 @@ ghost use Rattle.sheet.specs.Answer.{InPlaces, sheet_of, judged, reached, Settle
 
 use crate::names::are_names;
 use crate::trailer::Places;
-use clauses::{Arm, Clause, Item, read_many};
-use heads::Section;
+use clauses::{Arm, Clause};
+use heads::{Item, Section, read_many};
 use refusal::Refusal;
 use tables::{distinct_ids, read_rows};
 use words::count;

@@ -1,7 +1,7 @@
 -- One item a turn (`Row`).
 use Rattle.std.proofs.Common.{arith}
 use Rattle.heads.proofs.Rows.{row_begun, row_next, row_stop, row_done}
-use Rattle.clauses.proofs.read_many.Goals as goal
+use Rattle.heads.proofs.item.read_many.Goals as goal
 
 pub loop-init : goal.loop-init
 loop-init g c = row_begun _ _ _ _ c.requires
