@@ -253,7 +253,7 @@ impl Section<'_> {
     }
 
     // Whether one of the first n bindings has the variable v. A loop, since the rows end where the words do, and the library has no laws of
-// `step_by`.
+    // `step_by`.
     pub fn has_row(&self, n: usize, v: u32) -> bool
         ensures { result ≡ is_in v (row_ids n (drop self.now.rows (words_of self.now))) }
     {

@@ -7,8 +7,8 @@ use mathlib.Core.Bool.{Bool, true, false, false≢true, not, ◌&&◌, ◌||◌,
 use mathlib.Core.List.{List, [], ◌∷◌, map, map-append}
 use borrow.Author.Tests.{eqb-true, eq-eqb}
 use lib.Dec.{eqb}
-use lib.ListN.{length, take, drop, get_or, length-take, length-map}
-use lib.Seq.{take-suc, take-take, get_or-take, length-take-le}
+use lib.ListN.{length, take, drop, get_or, length-map}
+use lib.Seq.{take-suc, take-length}
 use Rattle.std.specs.Str.{bytes_eq}
 use Rattle.std.specs.List.{list_any}
 use Rattle.std.proofs.lemmas.Bool.Decides.{nat_tests}
@@ -16,7 +16,7 @@ use Rattle.words.specs.Fnv.{use_id}
 use Rattle.heads.specs.Answer.{is_in}
 use Rattle.tables.specs.Distinct.{same_bytes, name_in, fresh_after}
 use Rattle.tables.specs.Name.{name_at}
-use Rattle.tables.specs.Answer.{names_in}
+use Rattle.tables.specs.Answer.{names_at, names_in}
 use Rattle.tables.proofs.Front.{front-more, take-map, get_d_map}
 
 pub is-not : (t : Bool) → (t ≡ true → ⊥) → t ≡ false
@@ -81,19 +81,23 @@ pub fresh-more : (s tab : List ℕ) (n i : ℕ) → n ≤ length tab → i < n �
 unfolding fresh_after
 fresh-more s tab n i h lt = rw (front-more tab n i h lt, add-one i, take-suc tab i 0 (omega arith), map-append)
 
--- a table of the use ids of n names
-module _ (s tab ids : List ℕ) (n : ℕ) (pre : (n ≤ length tab) × (take n ids ≡ map use_id (names_in s n tab))) where
-  pub ids-reach : n ≤ length ids
-  ids-reach = omega (arith, length-take n ids, simp (length-map, length-take-le n tab pre.0) at (ap length pre.1))
+pub fresh-next : (s places : List ℕ) (i : ℕ) → i < length places → fresh_after name_in (names_at s (take i places)) (names_at s (drop i places)) ≡ (not (name_in (name_at s (get_or places i 0)) (names_at s (take i places))) && fresh_after name_in (names_at s (take (i + 1) places)) (names_at s (drop (i + 1) places)))
+fresh-next s places i h = rw (take-length places) at (fresh-more s places (length places) i (omega arith) h)
 
-  id-at : (i : ℕ) → i < n → get_or ids i 0 ≡ use_id (name_at s (get_or tab i 0))
+-- what `any` says of names
+pub any_name : (s x places : List ℕ) → list_any (λ p. bytes_eq x (name_at s p)) places ≡ name_in x (names_at s places)
+unfolding name_in
+any_name s x [] = refl
+any_name s x (p ∷ places) = rw (same-pointwise x (name_at s p), any_name s x places)
+
+-- a name whose use id is new is new
+module _ (s places ids : List ℕ) (pre : ids ≡ map use_id (names_at s places)) where
+  id-at : (i : ℕ) → i < length places → get_or ids i 0 ≡ use_id (name_at s (get_or places i 0))
   id-at i h =
-      let long = length-take-le n tab pre.0 in
-      rw (← get_or-take n ids i 0 h, pre.1, get_d_map use_id (names_in s n tab) i [] 0 (simp length-map (omega arith)), get_d_map (name_at s) (take n tab) i 0 [] (omega arith), get_or-take n tab i 0 h)
+      rw (pre, get_d_map use_id (names_at s places) i [] 0 (simp length-map (omega arith)), get_d_map (name_at s) places i 0 [] h)
 
-  ids-before : (i : ℕ) → i ≤ n → take i ids ≡ map use_id (names_in s i tab)
-  ids-before i h = rw (← take-take i n ids h, pre.1, take-map use_id i (names_in s n tab), take-map (name_at s) i (take n tab), take-take i n tab h)
+  ids-before : (i : ℕ) → take i ids ≡ map use_id (names_at s (take i places))
+  ids-before i = rw (pre, take-map use_id i (names_at s places), take-map (name_at s) i places)
 
-  -- a name whose use id is new is new
-  pub new-by-id : (i : ℕ) → i < n → is_in (get_or ids i 0) (take i ids) ≡ false → name_in (name_at s (get_or tab i 0)) (names_in s i tab) ≡ false
-  new-by-id i h e = id-new (name_at s (get_or tab i 0)) (names_in s i tab) (rw (id-at i h, ids-before i (omega arith)) at e)
+  pub new-by-id : (i : ℕ) → i < length places → is_in (get_or ids i 0) (take i ids) ≡ false → name_in (name_at s (get_or places i 0)) (names_at s (take i places)) ≡ false
+  new-by-id i h e = id-new (name_at s (get_or places i 0)) (names_at s (take i places)) (rw (id-at i h, ids-before i) at e)

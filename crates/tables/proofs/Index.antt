@@ -9,8 +9,13 @@ use borrow.Author.Tests.{not-true, ne_eqb}
 use lib.Dec.{eqb, eqb-suc-suc}
 use lib.ListN.{get_or}
 use Rattle.tables.specs.Distinct.{same_bytes, name_in, fresh_after, distinct}
-use Rattle.tables.specs.Index.{later, index_of}
-use Rattle.tables.proofs.Fresh.{is-not, both, same-eq}
+use Rattle.std.specs.Prelude.{Option, Some}
+use Rattle.std.specs.List.{position_from}
+use Rattle.std.specs.Str.{bytes_eq}
+use Rattle.tables.specs.Name.{name_at}
+use Rattle.tables.specs.Answer.{names_at}
+use Rattle.tables.specs.Index.{later, number_of, index_of}
+use Rattle.tables.proofs.Fresh.{is-not, both, same-eq, same-pointwise}
 
 -- an index + 1 or 0 among names of which i stand before
 abbrev pub past : ℕ → ℕ → ℕ
@@ -25,6 +30,16 @@ past-none (suc n) = omega arith
 pub past-later : (i m : ℕ) → past i (later m) ≡ past (i + 1) m
 past-later i zero = refl
 past-later i (suc n) = omega arith
+
+-- the first place where a name is x, counted from i on
+pub first_from : (s x : List ℕ) (i : ℕ) (places : List ℕ) → number_of (position_from (λ p. bytes_eq x (name_at s p)) i places) ≡ past i (index_of x (names_at s places))
+unfolding index_of
+first_from s x i [] = refl
+first_from s x i (p ∷ places) = rw (same-pointwise x (name_at s p)) (go (bytes_eq x (name_at s p)) (index_of x (names_at s places)) _ (first_from s x (i + 1) places))
+  where
+    go : (t : Bool) (m : ℕ) (o : Option ℕ) → number_of o ≡ past (i + 1) m → number_of (cond t (Some i) o) ≡ past i (cond t 1 (later m))
+    go true m o e = omega arith
+    go false m o e = e ∙ sym (past-later i m)
 
 -- an index by whether the first name is sought: the first, and one after it
 first : (t : Bool) (m : ℕ) → eqb 1 (cond t 1 (later m)) ≡ t

@@ -3,18 +3,23 @@ use Prim.Native.Nat.{ℕ, zero, suc, ◌+◌, ◌-◌, ◌*◌, ◌/◌, ◌<◌
 use native.Mathlib.Numerals.{add-one}
 use native.Mathlib.Omega.{arith}
 use mathlib.Core.Path.{◌≡◌, refl, sym, ap, ◌∙◌}
+use mathlib.Core.Bool.{Bool, true, false, false≢true}
 use mathlib.Core.List.{List, [], ◌∷◌, ◌++◌, map, map-append, append-nil}
+use borrow.Author.Tests.{eqb-true, eqb-false}
+use lib.Dec.{eqb}
 use lib.ListN.{length, take, drop, set}
 use lib.Seq.{append_snoc, take-suc-set}
+use Rattle.words.proofs.Words.{drop-word, drop-none}
 use Rattle.words.specs.Fnv.{use_id}
 use Rattle.heads.specs.Got.{Got, ok, no, bind, many}
 use Rattle.heads.specs.Answer.{Ans, read_end}
 use Rattle.refusal.specs.declared.Refusal.{Refusal}
 use Rattle.refusal.proofs.Handed.{handed}
-use Rattle.std.specs.Prelude.{Result, Ok, Err}
-use Rattle.std.specs.Result.{IsErr, IsErrAnd}
+use Rattle.std.specs.Prelude.{None, Result, Ok, Err}
+use Rattle.std.specs.Result.{IsErr, IsErrAnd, result_eq}
+use Rattle.std.proofs.Common.{nat_eq}
 use Rattle.tables.specs.Name.{read_name, name_at, name_words, places_from}
-use Rattle.tables.specs.Answer.{name_got, name_ends, names_in, Scanned}
+use Rattle.tables.specs.Answer.{name_got, name_ends, names_in, whole, Scanned, ReadWhole}
 
 -- where names end, of which the first begins at the byte p
 unfoldable pub end_from : ℕ → List (List ℕ) → ℕ
@@ -93,3 +98,20 @@ module _ {s tab ids : List ℕ} {n p i : ℕ} where
   done zero x h =
       let all : i ≡ n = omega arith in
       record { same = x.same ∙ rw (append-nil (names_in s i tab), all); fit = rw all at x.fit; placed = rw all at x.placed; ends = omega arith }
+
+-- the scan of all bytes: it refuses, ends too early, or reaches the end
+module _ {s tab ids : List ℕ} {n : ℕ} where
+  not-whole : whole (many read_name n s) ≡ None → ReadWhole s n tab ids false
+  not-whole e = record { same = e; uses = λ f. absurd (false≢true f); placed = λ f. absurd (false≢true f); many = λ f. absurd (false≢true f) }
+
+  reached : (p : ℕ) (b : Bool) → eqb p (length s) ≡ b → Scanned s n tab ids (Ok p) → ReadWhole s n tab ids b
+  reached p true e x =
+      let h = eqb-true p (length s) e in
+      record { same = rw (x.same, drop-none s p (omega arith)); uses = λ e. x.fit; placed = λ e. x.placed; many = λ e. omega (arith, x.ends) }
+  reached p false e x =
+      let h = eqb-false p (length s) e in
+      not-whole (rw (x.same, drop-word s p (omega (arith, x.ends))))
+
+  pub scanned_whole : (F : Refusal → Refusal → Bool) (r : Result ℕ Refusal) {b : Bool} → Scanned s n tab ids r → b ≡ result_eq nat_eq F r (Ok (length s)) → ReadWhole s n tab ids b
+  scanned_whole F (Ok p) x e = reached p _ (sym e) x
+  scanned_whole F (Err k) x e = rw e (not-whole (rw x.same))

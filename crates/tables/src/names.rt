@@ -1,12 +1,12 @@
 // Names: byte length, UTF-8 bytes, zero padding. A position is a byte's number in the names section. Names go by their numbers: each is sought
 // among those before it.
-ghost use Rattle.std.specs.Prelude.{◌≡◌, map, ◌+◌, ◌≤◌, length, take, drop};
+ghost use Rattle.std.specs.Prelude.{◌≡◌, map, ◌+◌, ◌≤◌, length, drop};
 ghost use Rattle.words.specs.Fnv.{use_id};
-ghost use Rattle.heads.specs.Answer.{Ans, read_end, is_in};
+ghost use Rattle.heads.specs.Answer.{Ans, read_end};
 ghost use Rattle.tables.specs.Distinct.{name_in, distinct};
-ghost use Rattle.tables.specs.Index.{index_of};
+ghost use Rattle.tables.specs.Index.{number_of, index_of};
 ghost use Rattle.tables.specs.Name.{all_zero, length_at, name_body, read_name, name_at};
-ghost use Rattle.tables.specs.Answer.{body_ends, text_got, name_ends, name_got, names_in, Roomy, Scanned};
+ghost use Rattle.tables.specs.Answer.{body_ends, text_got, name_ends, name_got, names_at, Roomy, Scanned, ReadWhole};
 
 use refusal::Refusal;
 use words::{is_utf8, join, use_id};
@@ -100,49 +100,40 @@ pub fn scan_names(s: &[u8], n: u32, tab: &mut [u32], ids: &mut [u32]) -> Result<
     Ok(p)
 }
 
-// Whether id stands among the first n ids.
-fn has_id(ids: &[u32], n: usize, id: u32) -> bool
-    requires { n ≤ length ids.now }
-    ensures { result ≡ is_in id (take n ids.now) }
+// Whether the bytes of s are n names and nothing else: tab gets the byte where each stands, ids its use id.
+pub fn are_read(s: &[u8], n: u32, tab: &mut [u32], ids: &mut [u32]) -> bool
+    requires { Roomy s.now tab.old ids.old }
+    ensures { ReadWhole s.now n tab.new ids.new result }
 {
-    ids[..n].contains(&id)
+    scan_names(s, n, tab, ids) == Ok(s.len())
 }
 
-// Whether x is the text of one of the first n names.
-fn has_name(s: &[u8], tab: &[u32], n: usize, x: &[u8]) -> bool
-    requires { n ≤ length tab.now }
-    ensures { result ≡ name_in x.now (names_in s.now n tab.now) }
+// The index of the first of the names with these places whose text is x.
+pub fn index_of(s: &[u8], places: &[u32], x: &[u8]) -> Option<u32>
+    requires { length places.now ≤ 8192 }
+    ensures { number_of result ≡ index_of x.now (names_at s.now places.now) }
 {
-    for place in &tab[..n] {
-        if x == name_at(s, *place as usize) {
-            return true;
-        }
-    }
-    false
+    let i = places
+        .iter()
+        .position(|place| x == name_at(s, *place as usize))?;
+    Some(i as u32)
 }
 
-// The index + 1 of the first of n names whose text is x, or 0.
-pub fn index_of(s: &[u8], tab: &[u32], n: usize, x: &[u8]) -> u32
-    requires { (n ≤ length tab.now) × (n ≤ 8192) }
-    ensures { result ≡ index_of x.now (names_in s.now n tab.now) }
-{
-    for (i, place) in tab[..n].iter().enumerate() {
-        if x == name_at(s, *place as usize) {
-            return i as u32 + 1;
-        }
-    }
-    0
-}
-
-// Whether no two of the first n names are the same: equal names have equal ids, so most are told apart by these.
-pub fn distinct_names(s: &[u8], tab: &[u32], ids: &[u32], n: usize) -> bool
-    requires { (n ≤ length tab.now) × (take n ids.now ≡ map use_id (names_in s.now n tab.now)) }
-    ensures { result ≡ distinct name_in (names_in s.now n tab.now) }
+// Whether no two of the names with these places and use ids are the same: equal names have equal ids, so most are told apart by these.
+pub fn distinct_names(s: &[u8], places: &[u32], ids: &[u32]) -> bool
+    requires { ids.now ≡ map use_id (names_at s.now places.now) }
+    ensures { result ≡ distinct name_in (names_at s.now places.now) }
 {
     // By index: each name is sought among the i before it.
-    for i in 0..n {
-        if has_id(ids, i, ids[i]) && has_name(s, tab, i, name_at(s, tab[i] as usize)) {
-            return false;
+    for i in 0..places.len() {
+        if ids[..i].contains(&ids[i]) {
+            let x = name_at(s, places[i] as usize);
+            if places[..i]
+                .iter()
+                .any(|place| x == name_at(s, *place as usize))
+            {
+                return false;
+            }
         }
     }
     true

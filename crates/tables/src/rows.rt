@@ -1,38 +1,33 @@
 // Bindings: variable id, name, kind, start, end, five words each.
 ghost use Rattle.std.specs.Prelude.{◌≡◌, ℕ, ◌+◌, ◌*◌, ◌≤◌, length, drop};
 ghost use Rattle.words.specs.Words.{words};
-ghost use Rattle.heads.specs.Got.{many};
-ghost use Rattle.heads.specs.Answer.{Reads, words_of, is_in, row_ids};
+ghost use Rattle.heads.specs.Answer.{words_of, is_in, row_ids};
 ghost use Rattle.tables.specs.Distinct.{distinct};
+ghost use Rattle.tables.specs.Row as tree;
 ghost use Rattle.tables.specs.Row.{read_row};
 
-use heads::Section;
+use crate::kind::VarKind;
+use heads::{Item, Section};
 use refusal::Refusal;
 use words::word;
 
 // A binding.
-fn read_row(section: &Section, at: usize) -> Result<usize, Refusal>
-    requires { at ≤ length (words_of section.now) }
-    ensures { Reads (words_of section.now) at (read_row section.now.names) result }
-{
-    let (_, at) = section.any_word(at)?;
-    let (_, at) = section.word_in(at, 0, section.names as u64)?;
-    let (_, at) = section.word_in(at, 1, 5)?;
-    let (start, at) = section.any_word(at)?;
-    let (_, at) = section.word_in(at, start, 4294967296)?;
-    Ok(at)
-}
+pub struct Row;
 
-// n bindings.
-pub fn read_rows(section: &Section, at: usize, n: u32) -> Result<usize, Refusal>
-    requires { at ≤ length (words_of section.now) }
-    ensures { Reads (words_of section.now) at (many (read_row section.now.names) n) result }
-{
-    let mut p = at;
-    for _ in 0..n {
-        p = read_row(section, p)?;
+impl Item for Row {
+    ghost Tree = { tree.Row };
+
+    ghost one = { λ tables. read_row tables.names };
+
+    #[tactic(auto, using(heads::proofs::Reading::steps), unfolding(crate::specs::Row::read_row))]
+    fn read(section: &Section, at: usize) -> Result<usize, Refusal> {
+        let (_, at) = section.any_word(at)?;
+        let (_, at) = section.word_in(at, 0, section.names as u64)?;
+        let (_, at) = section.word_in(at, VarKind::Node as u32, VarKind::Value as u64 + 1)?;
+        let (start, at) = section.any_word(at)?;
+        let (_, at) = section.word_in(at, start, 4294967296)?;
+        Ok(at)
     }
-    Ok(p)
 }
 
 // Whether no two of the section's first n bindings have the same variable.

@@ -1,27 +1,26 @@
--- The loop's invariant: the index of x among the first n names is that among those that are left, counted past the i before them.
-use Rattle.std.proofs.Common.{sym, ◌∙◌, arith, take}
-use Rattle.words.proofs.Words.{drop-word, drop-none}
-use Rattle.tables.specs.Index.{index_of}
-use Rattle.tables.proofs.Fresh.{same-pointwise}
-use Rattle.tables.proofs.Index.{past-later}
+-- The first place at which the name is x is the index that the definition counts (`first_from`).
+use Rattle.std.proofs.Common.{◌≡◌, rules, ◌∙◌, sym, ap, List, ℕ, Option}
+use Rattle.std.proofs.lemmas.Iterator.{YieldsList-from_slice}
+use Rattle.std.proofs.lemmas.Iterator.Search.{position_from_yields_List}
+use Rattle.std.proofs.lemmas.Iterator.Adapters.{position_from-zero}
+use Rattle.std.specs.List.{position}
+use Rattle.std.specs.Str.{bytes_eq}
+use borrow.Author.Tests.{tests}
+use Rattle.tables.specs.Index.{number_of, index_of}
+use Rattle.tables.specs.Name.{name_at}
+use Rattle.tables.specs.Answer.{names_at}
+use Rattle.tables.proofs.Index.{past-none, first_from}
 use Rattle.tables.proofs.names.index_of.Goals as goal
 
-pub returns-then-eq : goal.returns-then-eq
-unfolding index_of
-returns-then-eq c =
-    let l = c.loop-i in
-    let a = c.args in
-    sym (l.invariant ∙ rw (drop-word (take a.n a.tab.now) l.i c.loop-i-test.true, same-pointwise, ← c.name_at.ensures, ← c.if-eq.ensures))
+counted : (s x places : List ℕ) (r : Option ℕ) → r ≡ position (λ p. bytes_eq x (name_at s p)) places → number_of r ≡ index_of x (names_at s places)
+counted s x places r e = ap number_of (e ∙ position_from-zero _ places) ∙ first_from s x 0 places ∙ sym (past-none (index_of x (names_at s places)))
 
-pub loop-i-preserved : goal.loop-i-preserved
-unfolding index_of
-loop-i-preserved c =
-    let l = c.loop-i in
+pub returns-in_err-i : goal.returns-in_err-i
+returns-in_err-i c =
     let a = c.args in
-    l.invariant ∙ rw (drop-word (take a.n a.tab.now) l.i c.loop-i-test.true, same-pointwise, ← c.name_at.ensures, ← c.if-eq.ensures) (past-later l.i _)
+    rw c.from_residual.ensures (rw c.in_err-i.was at (counted a.s.now a.x.now a.places.now c.position.result (position_from_yields_List (λ p. bytes_eq a.x.now (name_at a.s.now p)) _ _ c.position.result c.position.ensures.ran (YieldsList-from_slice a.places.now cc) (λ x b q k. search (rules, tests)))))
 
 pub returns : goal.returns
-unfolding index_of
 returns c =
     let a = c.args in
-    sym (c.loop-i.invariant ∙ rw (drop-none (take a.n a.tab.now) c.loop-i.i (omega arith)))
+    rw c.in_ok-i.was at (counted a.s.now a.x.now a.places.now c.position.result (position_from_yields_List (λ p. bytes_eq a.x.now (name_at a.s.now p)) _ _ c.position.result c.position.ensures.ran (YieldsList-from_slice a.places.now cc) (λ x b q k. search (rules, tests))))
