@@ -3,41 +3,43 @@ use Prim.Native.Nat.{ℕ, ◌*◌, ◌<◌, ◌≤◌}
 use native.Mathlib.Omega.{arith}
 use mathlib.Core.Path.{◌≡◌, refl, ◌∙◌}
 use mathlib.Core.Bool.{Bool, true, false, false≢true}
-use mathlib.Core.List.{List, []}
+use mathlib.Core.List.{List, [], ◌∷◌}
 use lib.ListN.{length, take, get_or, length-take, length-map}
 use borrow.Author.Tests.{lt-ltb, le-ltb}
 use lib.Seq.{length-take-le, get_or-take, take-take, take-length}
-use Rattle.words.proofs.Words.{drop-word, drop-none}
-use Rattle.std.specs.Prelude.{Result, Ok, Err}
+use Rattle.heads.specs.Got.{Got, ok, no}
+use Rattle.std.specs.Prelude.{Option, None, Some, Result, Ok, Err}
 use Rattle.std.specs.Result.{IsErr, IsErrAnd}
 use Rattle.refusal.specs.declared.Refusal.{Refusal}
 use Rattle.refusal.proofs.Handed.{handed}
 use Rattle.refusal.specs.declared.Refusal.TheVariants as refusals
 use Rattle.tables.specs.Distinct.{name_in, distinct}
 use Rattle.tables.specs.Name.{name_at}
-use Rattle.tables.specs.Answer.{names_in, Scanned}
+use Rattle.tables.specs.Answer.{names_in, whole, ReadWhole}
 use Rattle.tables.proofs.Front.{get_d_map}
-use Rattle.sheet.specs.Read.{accepted, refused, unless, read_names, locate, read_text}
+use Rattle.sheet.specs.Read.{Sheet, accepted, refused, unless, entire, read_names, locate, read_text}
 use Rattle.sheet.specs.declared.trailer.Places.{Places}
 use Rattle.sheet.specs.Answer.{sheet_of, names_if, Tabled, found, found_end, FindsIn, FindsName}
 
--- the scan refuses, ends too early, or reaches the end, where the names are to be distinct
+-- the bytes are no n names (`names-none`), or they are, and then the names are to be distinct (`names-whole`)
+abbrev given : {A : Type 0} → ℕ → Option A → Sheet A
+given c (Some a) = accepted a
+given c None = refused c
+
+entire-whole : {A : Type 0} (c : ℕ) (g : Got A) → entire c g ≡ given c (whole g)
+entire-whole c (ok a []) = refl
+entire-whole c (ok a (w ∷ ws)) = refl
+entire-whole c (no d) = refl
+
 module _ {s : List ℕ} {n : ℕ} {tab ids : List ℕ} where
-  not-names : read_names n s ≡ refused 3 → Tabled n s tab ids false
-  not-names e = record { same = e; uses = λ f. absurd (false≢true f); placed = λ f. absurd (false≢true f); many = λ f. absurd (false≢true f) }
-
-  pub names-refused : (r : Result ℕ Refusal) → ((p : ℕ) → r ≡ Ok p → ⊥) → Scanned s n tab ids r → Tabled n s tab ids false
+  pub names-none : ReadWhole s n tab ids false → Tabled n s tab ids false
   unfolding read_names
-  names-refused (Err e) h x = not-names (rw x.same)
-  names-refused (Ok p) h x = absurd (h p refl)
+  names-none x =
+      record { same = rw (entire-whole, x.same); uses = λ f. absurd (false≢true f); placed = λ f. absurd (false≢true f); many = λ f. absurd (false≢true f) }
 
-  pub names-left : {p : ℕ} → Scanned s n tab ids (Ok p) → p < length s → Tabled n s tab ids false
+  pub names-whole : {b : Bool} → ReadWhole s n tab ids true → b ≡ distinct name_in (names_in s n tab) → Tabled n s tab ids b
   unfolding read_names
-  names-left {p} x h = not-names (rw (x.same, drop-word s p h))
-
-  pub names-whole : {p : ℕ} {b : Bool} → Scanned s n tab ids (Ok p) → length s ≤ p → b ≡ distinct name_in (names_in s n tab) → Tabled n s tab ids b
-  unfolding read_names
-  names-whole {p} {b} x h d = record { same = rw (x.same, drop-none s p h, ← d) (decided b); uses = λ e. x.fit; placed = λ e. x.placed; many = λ e. omega (arith, x.ends) }
+  names-whole {b} x d = record { same = rw (entire-whole, x.same, ← d) (decided b); uses = λ e. x.uses refl; placed = λ e. x.placed refl; many = λ e. x.many refl }
     where
       decided : (b : Bool) → unless 3 b (accepted (names_in s n tab)) ≡ names_if b (names_in s n tab)
       decided true = refl

@@ -14,10 +14,10 @@ use Rattle.expr.proofs.Inverse.{never}
 use Rattle.clauses.specs.Tree.{Clause, Arm}
 use Rattle.tables.specs.Answer.{names_in}
 use Rattle.tables.specs.Row.{Row, row_id}
-use Rattle.sheet.specs.Trailer.{places_of, section}
+use Rattle.sheet.specs.Trailer.{places_of}
 use Rattle.sheet.specs.Statement.{Statement}
 use Rattle.sheet.specs.Read.{Sheet, accepted, refused, then', read_names, read_rows, read_clauses, locate, read_sections, read_sheet}
-use Rattle.sheet.specs.Answer.{InPlaces, with_value, opened_as, Tabled, Names, judged, tables_of}
+use Rattle.sheet.specs.Answer.{InPlaces, with_value, opened_as, Tabled, Names, judged, rows_of, tables_of}
 use Rattle.sheet.specs.declared.trailer.Places.{Places}
 use Rattle.sheet.proofs.Placing.{places-of}
 use Rattle.sheet.proofs.Cutting.{ids-take}
@@ -35,9 +35,6 @@ places-refused s e = rw (← e)
 -- the pieces of the definition
 abbrev names_of : List ℕ → Places → Sheet (List (List ℕ))
 names_of s p = read_names p.names (take (p.rows * 4) s)
-
-abbrev rows_of : List ℕ → Places → Sheet (List Row)
-rows_of s p = read_rows p.names p.bindings (section (words s) p.rows p.head)
 
 abbrev pub clauses_of : List ℕ → Places → Sheet (List Clause × List Arm)
 clauses_of s p = read_clauses (words s) p (row_ids p.bindings (drop p.rows (words s)))

@@ -1,5 +1,6 @@
 -- The answers of the public calls, by document 01's numbers.
 use Rattle.std.specs.Prelude.{ℕ, ◌+◌, ◌*◌, ◌/◌, ◌≤◌, ◌≡◌, Bool, true, false, not, List, [], map, ltb, length, take, get_or, Option, Result, Ok, Err}
+use denote.Ref.{Bor}
 use Rattle.words.specs.Words.{words}
 use Rattle.words.specs.Fnv.{use_id}
 use Rattle.heads.specs.Got.{Got, many}
@@ -9,10 +10,10 @@ use Rattle.clauses.specs.Tree.{Arm}
 use Rattle.clauses.specs.Read.{read_clause, read_arm}
 use Rattle.tables.specs.Answer.{names_in}
 use Rattle.tables.specs.Name.{name_at, places_from}
-use Rattle.tables.specs.Row.{Row}
+use Rattle.tables.specs.Row.{Row, read_row}
 use Rattle.sheet.specs.Trailer.{places_of, section}
 use Rattle.sheet.specs.Statement.{Statement}
-use Rattle.sheet.specs.Read.{Sheet, accepted, refused, then', unless, used_up, read_names, read_rows, locate, read_sheet, read_text}
+use Rattle.sheet.specs.Read.{Sheet, accepted, refused, then', unless, entire, used_up, read_names, read_rows, locate, read_sheet, read_text}
 use Rattle.sheet.specs.declared.trailer.Places.{Places}
 use Rattle.refusal.specs.Number.{number_of}
 use Rattle.refusal.specs.declared.Refusal.{Refusal}
@@ -38,6 +39,11 @@ opened_as s = with_value (places_of (words s)) (read_sheet s)
 abbrev pub text_of : Sheet (List ℕ) → List ℕ
 text_of (accepted text) = text
 text_of (refused c) = []
+
+-- a text that is a part of the sheet, as the definition puts it
+abbrev pub text_told : Result (Bor (List ℕ)) Refusal → Sheet (List ℕ)
+text_told (Ok x) = accepted x.now
+text_told (Err e) = refused (number_of e)
 
 -- the names, or cause 3
 abbrev pub names_if : Bool → List (List ℕ) → Sheet (List (List ℕ))
@@ -71,9 +77,16 @@ pub record InPlaces (s : List ℕ) (p : Places) : Type 0 where
   pub tail : p.tail ≤ p.trailer
   pub trailer : p.trailer * 4 + 40 ≡ length s
 
+-- the bindings of a sheet, up to the head and nothing left over, or cause 4; and no variable twice
+abbrev pub bindings_of : List ℕ → Places → Sheet (List Row)
+bindings_of s p = entire 4 (many (read_row p.names) p.bindings (section (words s) p.rows p.head))
+
+abbrev pub rows_of : List ℕ → Places → Sheet (List Row)
+rows_of s p = read_rows p.names p.bindings (section (words s) p.rows p.head)
+
 -- causes 3 and 4
 abbrev pub tables_of : List ℕ → Places → Sheet (List Row)
-tables_of s p = then' (read_names p.names (take (p.rows * 4) s)) (λ ns. read_rows p.names p.bindings (section (words s) p.rows p.head))
+tables_of s p = then' (read_names p.names (take (p.rows * 4) s)) (λ ns. rows_of s p)
 
 -- the two tables were judged; where they are accepted, the lent ones hold the names
 pub record Settled (s : List ℕ) (p : Places) (tab ids : List ℕ) (r : Result (Unit {0}) Refusal) : Type 0 where

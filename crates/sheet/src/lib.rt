@@ -9,9 +9,9 @@ ghost use Rattle.std.specs.Prelude.{◌≡◌, ◌/◌, ◌≤◌, length};
 ghost use Rattle.sheet.specs.Read.{read_sheet};
 ghost use Rattle.sheet.specs.Answer.{sheet_of, opened_as, Names};
 
-pub use names::{are_names, check_name, find_name, name_text};
+pub use names::{are_names, check_name, find_name, name_text, text_at};
 use refusal::Refusal;
-pub use sections::check_both;
+pub use sections::{check_both, check_end, read_bindings};
 use sections::{check_clauses, check_tables};
 use trailer::MAX_BYTES;
 pub use trailer::{Places, find_places};
@@ -42,14 +42,10 @@ fn open_sized<const N: usize>(s: &[u8]) -> Result<Places, Refusal>
 pub fn open(s: &[u8]) -> Result<Places, Refusal>
     ensures { sheet_of result ≡ opened_as s.now }
 {
-    if s.len() <= 256 {
-        return open_sized::<64>(s);
+    match s.len() {
+        0..=256 => open_sized::<64>(s),
+        257..=2048 => open_sized::<512>(s),
+        2049..=MAX_BYTES => open_sized::<2048>(s),
+        _ => Err(Refusal::Size),
     }
-    if s.len() <= 2048 {
-        return open_sized::<512>(s);
-    }
-    if s.len() <= MAX_BYTES {
-        return open_sized::<2048>(s);
-    }
-    Err(Refusal::Size)
 }

@@ -2,24 +2,18 @@
 ghost use Rattle.std.specs.Prelude.{◌≡◌, ℕ, ◌/◌, ◌≤◌, length};
 ghost use Rattle.tables.specs.Answer.{Roomy};
 ghost use Rattle.sheet.specs.Read.{read_text};
-ghost use Rattle.sheet.specs.Answer.{sheet_of, judged, text_of, Tabled, FindsIn, FindsName};
+ghost use Rattle.sheet.specs.Answer.{sheet_of, judged, text_of, text_told, Tabled, FindsIn, FindsName};
 
 use crate::trailer::find_places;
 use refusal::Refusal;
-use tables::{distinct_names, name_at, scan_names};
+use tables::{are_read, distinct_names, name_at};
 
 // Whether the bytes of s are n names, no two the same: tab gets the byte where each stands, ids its use id.
 pub fn are_names(s: &[u8], n: u32, tab: &mut [u32], ids: &mut [u32]) -> bool
     requires { Roomy s.now tab.old ids.old }
     ensures { Tabled n s.now tab.new ids.new result }
 {
-    let Ok(p) = scan_names(s, n, tab, ids) else {
-        return false;
-    };
-    if p < s.len() {
-        return false;
-    }
-    distinct_names(s, tab, ids, n as usize)
+    are_read(s, n, tab, ids) && distinct_names(s, &tab[..n as usize], &ids[..n as usize])
 }
 
 // The name with the index i, of n names in the bytes of their section, with tables of N places: the byte where its length stands, and the
@@ -44,13 +38,11 @@ fn find_in(s: &[u8], n: u32, i: u32) -> Result<(u32, usize), Refusal>
     requires { length s.now ≤ 8192 }
     ensures { FindsIn n i s.now result }
 {
-    if s.len() <= 256 {
-        return find_sized::<64>(s, n, i);
+    match s.len() {
+        0..=256 => find_sized::<64>(s, n, i),
+        257..=2048 => find_sized::<512>(s, n, i),
+        _ => find_sized::<2048>(s, n, i),
     }
-    if s.len() <= 2048 {
-        return find_sized::<512>(s, n, i);
-    }
-    find_sized::<2048>(s, n, i)
 }
 
 // The name with the index i of a sheet, by its names section alone.
@@ -61,20 +53,24 @@ pub fn find_name(s: &[u8], i: u32) -> Result<(u32, usize), Refusal>
     find_in(&s[..p.rows * 4], p.names, i)
 }
 
-// Whether the name with the index i has a text: the refusal is 1 to 3, or 5 for an index past the table.
+// The text of the name with the index i, as the part of the sheet that holds it. The refusal is 1 to 3, or 5 for an index past the table.
+pub fn text_at(s: &[u8], i: u32) -> Result<&[u8], Refusal>
+    ensures { text_told result ≡ read_text s.now i }
+{
+    let (p, e) = find_name(s, i)?;
+    Ok(name_at(&s[..e], p as usize))
+}
+
+// Whether the name with the index i has a text, or its refusal.
 pub fn check_name(s: &[u8], i: u32) -> Result<(), Refusal>
     ensures { sheet_of result ≡ judged (read_text s.now i) }
 {
-    find_name(s, i)?;
-    Ok(())
+    text_at(s, i).map(|_| ())
 }
 
-// The text of the name with the index i, as the part of the sheet that holds it; empty where check_name refuses.
+// The text of the name with the index i; empty where check_name refuses.
 pub fn name_text(s: &[u8], i: u32) -> &[u8]
     ensures { result.now ≡ text_of (read_text s.now i) }
 {
-    let Ok((p, e)) = find_name(s, i) else {
-        return &s[..0];
-    };
-    name_at(&s[..e], p as usize)
+    text_at(s, i).unwrap_or_default()
 }

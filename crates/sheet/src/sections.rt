@@ -3,29 +3,47 @@ ghost use Rattle.std.specs.Prelude.{◌≡◌, ℕ, ◌+◌, ◌*◌, ◌≤◌,
 ghost use Rattle.words.specs.Words.{words};
 ghost use Rattle.heads.specs.Answer.{words_of, row_ids};
 ghost use Rattle.tables.specs.Answer.{Roomy};
-ghost use Rattle.sheet.specs.Read.{read_rows, read_clauses};
-ghost use Rattle.sheet.specs.Answer.{InPlaces, sheet_of, judged, reached, Settled, section_of, sections_of};
+ghost use Rattle.sheet.specs.Read.{read_clauses};
+ghost use Rattle.sheet.specs.Answer.{InPlaces, sheet_of, judged, bindings_of, rows_of, reached, Settled, section_of, sections_of};
 
 use crate::names::are_names;
 use crate::trailer::Places;
 use clauses::{Arm, Clause};
 use heads::{Item, Section, read_many};
 use refusal::Refusal;
-use tables::{distinct_ids, read_rows};
+use tables::{Row, distinct_ids};
 use words::count;
 
-// n bindings and nothing else from the section's rows on, no variable twice.
-fn check_rows(section: &Section, n: u32) -> Result<(), Refusal>
-    requires { section.now.rows ≤ length (words_of section.now) }
-    ensures { sheet_of result ≡ judged (read_rows section.now.names n (drop section.now.rows (words_of section.now))) }
+// The bindings up to the head, and nothing else.
+pub fn read_bindings(s: &[u8], p: Places) -> Result<(), Refusal>
+    requires { InPlaces s.now p }
+    ensures { sheet_of result ≡ judged (bindings_of s.now p) }
 {
-    let Ok(p) = read_rows(section, section.rows, n) else {
-        return Err(Refusal::Bindings);
+    let section = Section {
+        bytes: &s[..p.head * 4],
+        names: p.names,
+        rows: p.rows,
+        bound: None,
     };
-    if p < count(section.bytes) {
-        return Err(Refusal::Bindings);
+    if read_many::<Row>(&section, p.rows, p.bindings) == Ok(p.head) {
+        return Ok(());
     }
-    if distinct_ids(section, n as usize) {
+    Err(Refusal::Bindings)
+}
+
+// The same, no variable twice.
+fn check_rows(s: &[u8], p: Places) -> Result<(), Refusal>
+    requires { InPlaces s.now p }
+    ensures { sheet_of result ≡ judged (rows_of s.now p) }
+{
+    read_bindings(s, p)?;
+    let section = Section {
+        bytes: s,
+        names: p.names,
+        rows: p.rows,
+        bound: None,
+    };
+    if distinct_ids(&section, p.bindings as usize) {
         return Ok(());
     }
     Err(Refusal::Bindings)
@@ -39,17 +57,11 @@ pub fn check_tables(s: &[u8], p: Places, tab: &mut [u32], ids: &mut [u32]) -> Re
     if !are_names(&s[..p.rows * 4], p.names, tab, ids) {
         return Err(Refusal::Names);
     }
-    let section = Section {
-        bytes: &s[..p.head * 4],
-        names: p.names,
-        rows: p.rows,
-        bound: None,
-    };
-    check_rows(&section, p.bindings)
+    check_rows(s, p)
 }
 
 // What is read is to end where its section does: a word that is left over is cause 5.
-fn check_end(at: usize, end: usize) -> Result<(), Refusal>
+pub fn check_end(at: usize, end: usize) -> Result<(), Refusal>
     ensures { sheet_of result ≡ reached at end }
 {
     if at < end {

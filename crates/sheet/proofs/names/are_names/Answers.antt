@@ -1,23 +1,26 @@
--- The scan reads the names or refuses; then all the bytes are read, and no two names are the same.
-use native.Mathlib.Omega.{arith}
-use Rattle.sheet.proofs.Section.{names-refused, names-left, names-whole}
+-- The names are read to the end of their bytes or not; then no two are the same.
+use Rattle.std.proofs.Common.{refl, sym, arith}
+use lib.Seq.{length-take-le}
+use Rattle.sheet.proofs.Section.{names-none, names-whole}
 use Rattle.sheet.proofs.names.are_names.Goals as goal
 
-pub returns-in_default : goal.returns-in_default
-returns-in_default c = names-refused _ c.in_default.not-Ok c.scan_names.ensures
+pub returns-else-are_read : goal.returns-else-are_read
+returns-else-are_read c = rw c.if-are_read.false (names-none (rw c.if-are_read.false at c.are_read.ensures))
 
-pub returns-then-p-s : goal.returns-then-p-s
-returns-then-p-s c =
-    let scanned = c.in-Ok.ensures in
-    names-left scanned c.if-p-s.true
+pub slice_bounds-distinct_names-end : goal.slice_bounds-distinct_names-end
+slice_bounds-distinct_names-end c =
+    let x = rw c.if-are_read.true at c.are_read.ensures in
+    omega (arith, x.many refl)
+
+pub slice_bounds-distinct_names-end-then-are_read : goal.slice_bounds-distinct_names-end-then-are_read
+slice_bounds-distinct_names-end-then-are_read c =
+    let x = rw c.if-are_read.true at c.are_read.ensures in
+    sym (length-take-le _ _ (omega (arith, x.many refl)))
 
 pub distinct_names-requires : goal.distinct_names-requires
 distinct_names-requires c =
-    let scanned = c.in-Ok.ensures in
-    let x = scanned in
-    (omega (arith, x.ends), x.fit)
+    let x = rw c.if-are_read.true at c.are_read.ensures in
+    x.uses refl
 
-pub returns : goal.returns
-returns c =
-    let scanned = c.in-Ok.ensures in
-    names-whole scanned c.if-p-s.false c.distinct_names.ensures
+pub returns-then-are_read : goal.returns-then-are_read
+returns-then-are_read c = names-whole (rw c.if-are_read.true at c.are_read.ensures) c.distinct_names.ensures

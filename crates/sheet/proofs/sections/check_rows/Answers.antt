@@ -1,39 +1,18 @@
--- What stops the bindings, a word that is left over and a variable that stands twice are cause 4, and nothing else is.
-use native.Mathlib.Omega.{arith}
-use mathlib.Core.Path.{sym, ◌∙◌}
-use mathlib.Core.Bool.{true, false}
-use lib.ListN.{drop, length-drop}
-use Rattle.words.specs.Words.{words}
-use Rattle.sheet.proofs.Reading.{rows-refused, rows_left, rows_long, rows-done}
+-- What stops the bindings and a variable that stands twice are cause 4, and nothing else is.
+use Rattle.std.proofs.Common.{sym, ◌∙◌, true, false, arith}
+use Rattle.words.proofs.Words.{length-words}
+use Rattle.sheet.proofs.Causes.{refusal_told}
+use Rattle.sheet.proofs.Reading.{rows-no, rows-fit, rows-once}
 use Rattle.sheet.proofs.sections.check_rows.Goals as goal
 
-pub returns-in_default : goal.returns-in_default
-returns-in_default c =
-    let x = c.in_default.ensures in
-    rows-refused _ _ _ x.same
-
-pub returns-then-p-count : goal.returns-then-p-count
-returns-then-p-count c =
-    let read = c.in-Ok.ensures in
-    let x = read in
-    rows_left _ _ _ {p = c.in-Ok.p} (words c.args.section.now.bytes.now) x.same (omega (arith, c.count.ensures))
+pub returns-in_err-read_bindings : goal.returns-in_err-read_bindings
+returns-in_err-read_bindings c = refusal_told _ _ c.from_residual.ensures ∙ rows-no c.args.s.now c.args.p c.in_err-read_bindings.ensures
 
 pub distinct_ids-requires : goal.distinct_ids-requires
-distinct_ids-requires c =
-    let read = c.in-Ok.ensures in
-    let a = c.args in
-    let x = read in
-    let long = rows_long a.section.now.names a.n (drop a.section.now.rows (words a.section.now.bytes.now)) {p = c.in-Ok.p} (words a.section.now.bytes.now) x.same (omega (arith, c.count.ensures)) in
-    omega (arith, long, length-drop a.section.now.rows (words a.section.now.bytes.now))
+distinct_ids-requires c = omega (arith, rows-fit _ _ c.requires c.in_ok-read_bindings.ensures, length-words c.args.s.now)
 
 pub returns-then-distinct_ids : goal.returns-then-distinct_ids
-returns-then-distinct_ids c =
-    let read = c.in-Ok.ensures in
-    let x = read in
-    rows-done _ _ _ {p = c.in-Ok.p} (words c.args.section.now.bytes.now) x.same (omega (arith, c.count.ensures)) {b = true} (sym c.if-distinct_ids.true ∙ c.distinct_ids.ensures)
+returns-then-distinct_ids c = rows-once _ _ c.requires c.in_ok-read_bindings.ensures {b = true} (sym c.if-distinct_ids.true ∙ c.distinct_ids.ensures)
 
 pub returns : goal.returns
-returns c =
-    let read = c.in-Ok.ensures in
-    let x = read in
-    rows-done _ _ _ {p = c.in-Ok.p} (words c.args.section.now.bytes.now) x.same (omega (arith, c.count.ensures)) {b = false} (sym c.if-distinct_ids.false ∙ c.distinct_ids.ensures)
+returns c = rows-once _ _ c.requires c.in_ok-read_bindings.ensures {b = false} (sym c.if-distinct_ids.false ∙ c.distinct_ids.ensures)
