@@ -23,6 +23,8 @@ unfolding newest
 seek-le f v zero = omega arith
 seek-le f v (suc t) = cond-le (eqb (f t) v) _ _ _ (omega arith) (omega (arith, seek-le f v t))
 
+pub ruleset sought_within = (seek-le)
+
 -- what is found has the key
 pub seek_hit : (f : ℕ → ℕ) (v t j : ℕ) → seek f v t ≡ suc j → f j ≡ v
 unfolding newest

@@ -3,7 +3,7 @@
 // that the caller gives: which variables share a slot differs with it. Only the time rests on it, never the answer.
 #![tactic(auto)]
 
-ghost use Rattle.std.specs.Prelude.{◌≡◌, ◌+◌, ◌*◌, ◌%◌, ◌<◌, ◌≤◌, length};
+ghost use Rattle.std.specs.Prelude.{ℕ, ◌≡◌, ◌+◌, ◌*◌, ◌%◌, ◌<◌, ◌≤◌, length};
 ghost use Rattle.words.specs.Words.{words};
 ghost use Rattle.rows.specs.Slot.{slots, slot_of};
 ghost use Rattle.semantics.specs.World.{row_kind};
@@ -78,6 +78,7 @@ struct Run<'a> {
 
 impl Run<'_> {
     // The variable of a row.
+    #[tactic(auto, using(words::proofs::Words::word_laws))]
     fn variable(&self, row: u32) -> u32
         requires { row < self.now.count }
         ensures { result ≡ id_at (words self.now.bytes.now) self.now.first row }
@@ -95,19 +96,17 @@ impl Run<'_> {
     }
 }
 
-// An odd multiplier, made from the variables of the n rows from the word `rows` on. Whoever writes all of them can still choose it.
-pub fn mult_of(s: &[u8], rows: usize, n: u32) -> u32
-    requires { rows + n * 5 ≤ length (words s.now) }
+// An odd multiplier, made from the n words that `word` gives: few need none of their own. Whoever writes all of them can still choose it.
+pub fn multiplier<F: Fn(u32) -> u32>(n: u32, word: F) -> u32
+    requires { (i : ℕ) → i < n → F.pre word i }
     ensures { result % 2 ≡ 1 }
 {
-    let rows = Run {
-        bytes: s,
-        first: rows,
-        count: n,
-    };
+    if n <= 16 {
+        return 2654435769;
+    }
     let mut hash: u32 = 2166136261;
-    for row in 0..n {
-        hash = (hash ^ rows.variable(row)).wrapping_mul(16777619);
+    for i in 0..n {
+        hash = (hash ^ word(i)).wrapping_mul(16777619);
     }
     hash / 2 * 2 + 1
 }
@@ -162,6 +161,7 @@ pub struct Rows<'a> {
 
 impl Rows<'_> {
     // The name and the kind of a variable's row.
+    #[tactic(auto, using(words::proofs::Words::word_laws, crate::proofs::Chains::sought_within))]
     pub fn row(&self, v: u32) -> Option<(u32, u32)>
         requires { Standing self.now }
         ensures { result ≡ shown (row_in self.now v) }

@@ -1,9 +1,13 @@
 -- The entries of a list: those in use are arrays of a flat list's words, and a loop comes to them one after another.
-use Rattle.std.proofs.Common.{◌≡◌, ℕ, zero, suc, ◌+◌, ◌<◌, ◌≤◌, List, [], ◌∷◌, length, get_or, take, drop, map, refl, get_or-take, arith}
+use Rattle.std.proofs.Common.{◌≡◌, ℕ, zero, suc, ◌+◌, ◌<◌, ◌≤◌, List, [], ◌∷◌, length, get_or, take, drop, map, refl, ap, get_or-take, arith}
 use Rattle.std.proofs.Math.ListN.{drop_of_length-le}
 use Rattle.std.proofs.Math.Numerals.{add-one}
 use Rattle.std.proofs.Math.Seq.{drop-cons}
 use Rattle.std.specs.Simd.{first_chunks}
+use Rattle.std.specs.Prelude.{Bool, true, false, cond, ◌&&◌, ◌||◌, eqb, Some}
+use Rattle.std.specs.List.{find, list_any}
+use Rattle.std.specs.Option.{option_map}
+use Rattle.scope.specs.Lookup.{bound_in, carries}
 use Rattle.scope.specs.Flat.{entries_of, scope_of, scopes_of, binding_of, bindings_of, carried_of, carrieds_of}
 
 module _ {A : Type 0} (one : List ℕ → A) where
@@ -31,3 +35,19 @@ bindings_listed = listed binding_of 6 (λ ws. rw (word 6 0 ws (omega arith), wor
 
 pub carried_listed : (n : ℕ) (ws : List ℕ) → map carried_of (first_chunks 3 n ws) ≡ carrieds_of n ws
 carried_listed = listed carried_of 3 (λ ws. rw (word 3 0 ws (omega arith), word 3 1 ws (omega arith), word 3 2 ws (omega arith)))
+
+-- a search among the entries is a search among their words
+pub bound_found : (es : List (List ℕ)) (s x : ℕ) → option_map (λ e. get_or e 2 0) (find (λ e. eqb (get_or e 0 0) s && eqb (get_or e 1 0) x) es) ≡ bound_in (map binding_of es) s x
+unfolding bound_in
+bound_found [] s x = refl
+bound_found (e ∷ es) s x = go (eqb (get_or e 0 0) s && eqb (get_or e 1 0) x) (bound_found es s x)
+  where
+    go : (b : Bool) → option_map (λ e. get_or e 2 0) (find (λ e. eqb (get_or e 0 0) s && eqb (get_or e 1 0) x) es) ≡ bound_in (map binding_of es) s x →
+        option_map (λ (e : List ℕ). get_or e 2 0) (cond b (Some e) (find (λ e. eqb (get_or e 0 0) s && eqb (get_or e 1 0) x) es)) ≡ cond b (Some (get_or e 2 0)) (bound_in (map binding_of es) s x)
+    go true h = refl
+    go false h = h
+
+pub carries_any : (es : List (List ℕ)) (s x : ℕ) → list_any (λ e. eqb (get_or e 0 0) s && eqb (get_or e 1 0) x) es ≡ carries (map carried_of es) s x
+unfolding carries
+carries_any [] s x = refl
+carries_any (e ∷ es) s x = ap (◌||◌ (eqb (get_or e 0 0) s && eqb (get_or e 1 0) x)) (carries_any es s x)

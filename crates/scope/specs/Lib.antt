@@ -1,4 +1,5 @@
 pub mod Graph
+pub mod Kind
 pub mod Flat
 pub mod Lookup
 pub mod Offset

@@ -4,19 +4,21 @@
 // own words, which may be any.
 #![tactic(auto)]
 
-ghost use Rattle.std.specs.Prelude.{◌≡◌, suc, ◌/◌, ◌<◌, ◌≤◌, length, map, MatchResult};
+ghost use Rattle.std.specs.Prelude.{◌≡◌, suc, ◌/◌, ◌<◌, ◌≤◌, length, map, ◌==◌, ◌&&◌, slice_index, MatchResult};
+ghost use Rattle.std.specs.List.{find, list_any};
+ghost use Rattle.std.specs.Option.{option_map};
 ghost use Rattle.std.specs.Simd.{first_chunks};
 ghost use Rattle.refusal.specs.declared.Refusal.TheVariants.{Asked};
 ghost use Rattle.scope.specs.Flat.{scope_of};
 ghost use Rattle.scope.specs.Graph.{scope};
-ghost use Rattle.scope.specs.Lookup.{bound_in, carries, lets_on, climb, lookup, lookup_in};
+ghost use Rattle.scope.specs.Lookup.{carries, lets_on, climb, lookup, lookup_in};
 ghost use Rattle.scope.specs.Offset.{offset, better, scope_at_offset};
 ghost use Rattle.scope.specs.Answer.{bound_as, looked_as, offset_as, best_as, scopes_in, bindings_in, carried_in};
 
-use refusal::Refusal;
+mod kind;
 
-// The kind of a WithBarrier.
-const WITH_BARRIER: u32 = 7;
+pub use kind::ScopeKind;
+use refusal::Refusal;
 
 // The entries in use of the three lists.
 #[derive(Clone, Copy)]
@@ -41,35 +43,28 @@ fn in_use<const WIDTH: usize>(words: &[u32], count: usize) -> Result<&[[u32; WID
 impl Graph<'_> {
     // The variable of the first binding that fits the scope and the name.
     fn bound_in(&self, scope: u32, name: u32) -> Option<u32>
-        ensures { bound_as result ≡ bound_in (bindings_in self.now) scope name }
+        ensures { result ≡ option_map (λ e. slice_index e 2) (find (λ e. slice_index e 0 == scope && slice_index e 1 == name) self.now.bindings.now) }
     {
-        for binding in self.bindings {
-            let [of, called, variable, _, _, _] = *binding;
-            if of == scope && called == name {
-                return Some(variable);
-            }
-        }
-        None
+        self.bindings
+            .iter()
+            .find(|[of, called, _, _, _, _]| *of == scope && *called == name)
+            .map(|[_, _, variable, _, _, _]| *variable)
     }
 
     // Whether the barrier carries the name.
     fn carried_by(&self, barrier: u32, name: u32) -> bool
-        ensures { result ≡ carries (carried_in self.now) barrier name }
+        ensures { result ≡ list_any (λ e. slice_index e 0 == barrier && slice_index e 1 == name) self.now.carried.now }
     {
-        for carried in self.carried {
-            let [past, called, _] = *carried;
-            if past == barrier && called == name {
-                return true;
-            }
-        }
-        false
+        self.carried
+            .iter()
+            .any(|[past, called, _]| *past == barrier && *called == name)
     }
 
     // Whether a name may go on from a scope of the kind to its parent: not past a WithBarrier that doesn't carry it.
     fn passes(&self, kind: u32, scope: u32, name: u32) -> bool
         ensures { result ≡ lets_on kind (carries (carried_in self.now) scope name) }
     {
-        kind != WITH_BARRIER || self.carried_by(scope, name)
+        kind != ScopeKind::WithBarrier as u32 || self.carried_by(scope, name)
     }
 
     // From a scope up its parents, each of which lies below its child.

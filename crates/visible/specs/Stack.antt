@@ -1,11 +1,15 @@
 -- What is visible as a stack of entries in its words, and what the functions do to it.
 use Rattle.std.specs.Prelude.{ℕ, suc, ◌≤◌, ◌≡◌, List, ◌∷◌, length}
 use Rattle.semantics.specs.Resolve.{Seen, seen, once}
-use Rattle.visible.specs.Visible.{seens, seen_once, Tabled}
+use Rattle.visible.specs.Visible.{name_at, variable_at, seens, seen_once, Tabled}
 use Rattle.visible.specs.declared.Visible.{Visible}
 
 abbrev pub entries : Visible → List Seen
 entries v = seens v.names v.top v.words.now
+
+-- the name and the variable of the entry i from below
+abbrev pub entry_at : ℕ → Visible → ℕ × ℕ
+entry_at i v = (name_at v.names v.words.now i, variable_at v.names v.words.now i)
 
 -- the words hold the stack and its table
 abbrev pub Sound : Visible → Type 0

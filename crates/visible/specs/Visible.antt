@@ -31,8 +31,11 @@ place x (seen y v p ∷ l) = cond (eqb x y) (suc (length l)) (place x l)
 abbrev pub name_at : ℕ → List ℕ → ℕ → ℕ
 name_at n m i = get_or m (n + i * 4) 0
 
+abbrev pub variable_at : ℕ → List ℕ → ℕ → ℕ
+variable_at n m i = get_or m (n + i * 4 + 1) 0
+
 abbrev pub seen_at : ℕ → List ℕ → ℕ → Seen
-seen_at n m i = seen (get_or m (n + i * 4) 0) (get_or m (n + i * 4 + 1) 0) (get_or m (n + i * 4 + 2) 0)
+seen_at n m i = seen (name_at n m i) (variable_at n m i) (get_or m (n + i * 4 + 2) 0)
 
 unfoldable pub seens : ℕ → ℕ → List ℕ → List Seen
 seens n zero m = []

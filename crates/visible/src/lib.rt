@@ -6,7 +6,7 @@
 ghost use Rattle.std.specs.Prelude.{◌≡◌, ◌+◌, ◌*◌, ◌<◌, ◌≤◌, length};
 ghost use Rattle.semantics.specs.Resolve.{lookup};
 ghost use Rattle.visible.specs.Visible.{scope_of, name_at, answer, Turned};
-ghost use Rattle.visible.specs.Stack.{entries, Sound, Bound, Cut, Restacked};
+ghost use Rattle.visible.specs.Stack.{entries, entry_at, Sound, Bound, Cut, Restacked};
 
 // What is visible: the words, for how many names they have a place, and how many entries there are.
 #[derive(Drop)]
@@ -32,6 +32,15 @@ impl Visible<'_> {
         None
     }
 
+    // The name and the variable of an entry, by its number from below.
+    pub fn entry(&self, i: u32) -> (u32, u32)
+        requires { (i < self.now.top) × Sound self.now }
+        ensures { result ≡ entry_at i self.now }
+    {
+        let k = (self.names as usize) + (i as usize) * 4;
+        (self.words[k], self.words[k + 1])
+    }
+
     // One entry more.
     pub fn bind(&mut self, x: u32, v: u32, scope: u32)
         requires { (x < self.old.names) × ((self.old.top < 4294967295) × ((self.old.names + (self.old.top + 1) * 4 ≤ length self.old.words.now) × Sound self.old)) }
@@ -52,13 +61,12 @@ impl Visible<'_> {
         requires { (height ≤ self.old.top) × Sound self.old }
         ensures { Cut height self.old self.new }
     {
-        // From the top down: each turn takes the entry on it away.
-        while height < self.top {
-            self.top -= 1;
-            let k = (self.names as usize) + (self.top as usize) * 4;
+        for i in (height..self.top).rev() {
+            let k = (self.names as usize) + (i as usize) * 4;
             let x = self.words[k] as usize;
             self.words[x] = self.words[k + 3];
         }
+        self.top = height;
     }
 
     // Each visible name once, with its newest variable, in the order of those bindings, oldest first, all in one scope: what a star carries.
