@@ -5,7 +5,9 @@
 -- `found_name`; of one that is no use, `hushed-use`; then E1001, `missed-use`, `star-use`, `seen-use`. A head by its act: `by-act`; after its
 -- parts, `closed-stays`, `closed-fits`, `closed-frame`, `closed-holds`.
 use Rattle.std.specs.Prelude.{Option, None, Some}
-use Prim.Native.Nat.{ℕ, ◌+◌}
+use Prim.Native.Nat.{ℕ, zero, suc, ◌+◌}
+use lib.Dec.{eqb}
+use lib.ListN.{get_or}
 use native.Mathlib.Numerals.{add-one}
 use native.Mathlib.Omega.{arith}
 use mathlib.Core.Path.{◌≡◌, refl, ap, sym, subst, ◌∙◌}
@@ -17,7 +19,7 @@ use Rattle.tables.specs.Row.{Row, row}
 use Rattle.semantics.specs.Log.{Finding, finding, find}
 use Rattle.semantics.specs.World.{World, row_kind, kind_of}
 use Rattle.semantics.specs.Resolve.{State, lookup, say, say_if, leave, use_var, use_name, visit}
-use Rattle.semantics.specs.Kinds.{at_type, at_row}
+use Rattle.semantics.specs.Kinds.{no_type, map_type, leaf_types, type_of, at_type, at_row}
 use Rattle.semantics.specs.Kinds as kinds
 use Rattle.theorems.specs.Needs.{made, carried_in}
 use Rattle.fused.specs.Fused.{Both, when, told, step, same, left, tail_of, name_use, head_of}
@@ -27,6 +29,7 @@ use Rattle.rows.specs.Table.{row_in}
 use Rattle.visible.specs.Visible.{answer}
 use Rattle.visible.specs.Stack.{entries}
 use Rattle.visible.proofs.Pairs.{same_pair}
+use Rattle.steps.specs.Types.{type_number, type_at}
 use Rattle.steps.specs.Modes.{mode_of, setting_of, minds_none, quiet}
 use Rattle.steps.specs.Memory.{is_the, hushed_in, world_at}
 use Rattle.steps.specs.Said.{kept, Says}
@@ -38,6 +41,7 @@ use Rattle.steps.specs.declared.mode.Mode.{Mode}
 use Rattle.steps.specs.declared.mode.Setting.{Setting}
 use Rattle.steps.specs.declared.mode.Setting.TheVariants.{General, Arithmetic, Property, Boolean, Indexed, Sliced, Iterated, Quantified}
 use Rattle.steps.specs.declared.head.Act.{Act}
+use Rattle.steps.specs.declared.head.Act.TheVariants.{Shows}
 use Rattle.steps.proofs.Held.{still-idle, idle-step, then-steps, more-costs, more-steps, instead, as-steps, wanted, unwanted, no-count, says-step, says_if}
 use Rattle.steps.proofs.Moved.{left-still, left-fits, left-frame, left-holds}
 
@@ -257,14 +261,32 @@ module _ {c : Context} {w w1 : Walk} (x : ℕ) (u : hushed_in c x ≡ false) (s 
       go id b (Some v) n = refl
 
 -- ---- a head by its act
+-- a type's number and its type
+pub leaf-numbered : (k : ℕ) → type_number (type_at (get_or leaf_types k no_type)) ≡ get_or leaf_types k no_type
+leaf-numbered zero = refl
+leaf-numbered (suc zero) = refl
+leaf-numbered (suc (suc zero)) = refl
+leaf-numbered (suc (suc (suc zero))) = refl
+leaf-numbered (suc (suc (suc (suc zero)))) = refl
+leaf-numbered (suc (suc (suc (suc (suc zero))))) = refl
+leaf-numbered (suc (suc (suc (suc (suc (suc k)))))) = refl
+
+map-numbered : (b : Bool) → type_number (type_at (cond b map_type no_type)) ≡ cond b map_type no_type
+map-numbered true = refl
+map-numbered false = refl
+
+shows : (W : World) (m : fused.Mode) (d : kinds.Setting) {t : ℕ} (s : Both) → type_number (type_at t) ≡ t → acts W m d (Shows (type_at t)) s ≡ step m same (at_type d t) s
+shows W m d s e = rw e
+
 head-acts : (W : World) (m : fused.Mode) (d : kinds.Setting) (f : Form) (s : Both) → acts W m d (act_of f) s ≡ head_of W m f d s
-head-acts W m d (Leaf k) s = refl
+unfolding type_of
+head-acts W m d (Leaf k) s = shows W m d s (leaf-numbered k)
 head-acts W m d (Var v) s = refl
 head-acts W m d (Unresolved x) s = refl
 head-acts W m d (Prop x) s = refl
 head-acts W m d (Two k) s = refl
 head-acts W m d (Slice b) s = refl
-head-acts W m d (Many k n) s = refl
+head-acts W m d (Many k n) s = shows W m d s (map-numbered (eqb k 13))
 head-acts W m d (BinOp o) s = refl
 head-acts W m d (UnaryOp o) s = refl
 head-acts W m d (Case b n) s = refl

@@ -17,6 +17,7 @@ use Rattle.rows.specs.Table.{row_in, Standing}
 use Rattle.visible.specs.Visible.{seens, Descends}
 use Rattle.visible.specs.Stack.{entries, Sound}
 use Rattle.visible.specs.Stack as stack
+use Rattle.steps.specs.Types.{type_number, type_at}
 use Rattle.steps.specs.Modes.{setting_of}
 use Rattle.steps.specs.Memory.{words_in, names_in, use_in}
 use Rattle.steps.specs.Said.{kept, events_in, findings_in, Roomy, Says, Tells}
@@ -185,26 +186,26 @@ AtRow c w w' set x k = (i a b : ℕ) → Steps 1 c w w' (λ id. on_kinds (at_row
 
 -- what a head does before its parts
 abbrev pub act_of : Form → Act
-act_of (Leaf k) = Shows (type_of (Leaf k))
+act_of (Leaf k) = Shows (type_at (type_of (Leaf k)))
 act_of (Var v) = Uses v
 act_of (Unresolved x) = Names x
-act_of (Prop x) = Shows (type_of (Prop x))
-act_of (Two k) = Shows (type_of (Two k))
-act_of (Slice b) = Shows (type_of (Slice b))
-act_of (Many k n) = Shows (type_of (Many k n))
-act_of (BinOp o) = Shows (type_of (BinOp o))
-act_of (UnaryOp o) = Shows (type_of (UnaryOp o))
-act_of (Case b n) = Shows (type_of (Case b n))
-act_of IsNull = Shows (type_of IsNull)
-act_of PatternPredicate = Shows pattern_type
-act_of (ListComprehension g) = Shows (type_of (ListComprehension g))
+act_of (Prop x) = Shows (type_at (type_of (Prop x)))
+act_of (Two k) = Shows (type_at (type_of (Two k)))
+act_of (Slice b) = Shows (type_at (type_of (Slice b)))
+act_of (Many k n) = Shows (type_at (type_of (Many k n)))
+act_of (BinOp o) = Shows (type_at (type_of (BinOp o)))
+act_of (UnaryOp o) = Shows (type_at (type_of (UnaryOp o)))
+act_of (Case b n) = Shows (type_at (type_of (Case b n)))
+act_of IsNull = Shows (type_at (type_of IsNull))
+act_of PatternPredicate = Shows (type_at pattern_type)
+act_of (ListComprehension g) = Shows (type_at (type_of (ListComprehension g)))
 act_of (PatternComprehension a b g) = Opens a b
-act_of (ListPredicate g) = Shows (type_of (ListPredicate g))
-act_of (MapProjection n) = Shows (type_of (MapProjection n))
+act_of (ListPredicate g) = Shows (type_at (type_of (ListPredicate g)))
+act_of (MapProjection n) = Shows (type_at (type_of (MapProjection n)))
 
 -- what of it is done, of those that look
 abbrev pub acts : World → Mode → Setting → Act → Both → Both
-acts w m c (Shows t) = step m same (at_type c t)
+acts w m c (Shows t) = step m same (at_type c (type_number t))
 acts w m c (Uses v) = step m (use_var w v (w.row v)) (at_row c (w.row v))
 acts w m c (Names x) = step m (name_use w x) []
 acts w m c (Opens a b) = step m (enter comprehension_scope a b) []

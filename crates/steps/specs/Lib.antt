@@ -1,3 +1,4 @@
+pub mod Types
 pub mod Modes
 pub mod Said
 pub mod Memory

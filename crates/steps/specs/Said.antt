@@ -1,11 +1,25 @@
 -- What the walks said, in the words of a log: the name walk's events from the front, the kind walk's findings from the back, six words each.
-use Rattle.std.specs.Prelude.{ℕ, zero, suc, ◌+◌, ◌-◌, ◌*◌, ◌<◌, ◌≤◌, ◌≡◌, Bool, true, false, cond, List, [], ◌∷◌, eqb, length, get_or}
+use Rattle.std.specs.Prelude.{ℕ, zero, suc, ◌+◌, ◌-◌, ◌*◌, ◌<◌, ◌≤◌, ◌≡◌, ◌≢◌, Bool, true, false, cond, List, [], ◌∷◌, eqb, length, get_or, Result, Ok, Err}
 use Rattle.heads.specs.Got.{look}
 use Rattle.scope.specs.Graph.{scope}
 use Rattle.scope.specs.Flat.{parent_of}
 use Rattle.semantics.specs.Log.{Finding, finding, Answer, found, missing, bound, write, Event, open', bind, carry, answer, find}
 use Rattle.theorems.specs.Woven.{written}
 use Rattle.steps.specs.declared.log.Log.{Log}
+use Rattle.steps.specs.declared.log.Sort.{Sort}
+use Rattle.steps.specs.declared.log.Sort.TheVariants.{Scope, Binding, Rebinding, Variable, Name}
+
+-- the sorts of events by their first words, and the sort with a first word, or none
+abbrev pub sort_number : Sort → ℕ
+sort_number Scope = 1
+sort_number Binding = 2
+sort_number Rebinding = 3
+sort_number Variable = 4
+sort_number Name = 5
+
+abbrev pub Sorts : ℕ → Result Sort (Unit {0}) → Type 0
+Sorts word (Ok sort) = sort_number sort ≡ word
+Sorts word (Err e) = (sort : Sort) → sort_number sort ≢ word
 
 -- An event by its six words: 1 a scope, 2 a binding, 3 one that replaces another, 4 a use of a variable, 5 a use of a name, and else a finding.
 -- What a WITH carries and binds is not among them.

@@ -1,6 +1,8 @@
-// What is said, scopes that are opened and left, names that are bound. Kinds of scopes and bindings, and sorts of events, are numbers, as the
-// lists and the log have them.
+// What is said, scopes that are opened and left, names that are bound. The kind of a binding is a number: an element's is one of the tree, which
+// may be any. A finding's code is a number, since that is its name in document 01.
 ghost use Rattle.std.specs.Prelude.{◌≡◌, [], ◌∷◌, suc, ◌<◌, ◌≤◌, Some};
+ghost use Rattle.scope.specs.Kind.{number_of};
+ghost use Rattle.tables.specs.Row.{path_kind};
 ghost use Rattle.semantics.specs.Resolve.{lookup, enter, bind_anew, bind_new, binds};
 ghost use Rattle.fused.specs.Fused.{noting, elem_step, when};
 ghost use Rattle.visible.specs.Stack.{entries, Sound};
@@ -10,8 +12,10 @@ ghost use Rattle.steps.specs.Memory.{names_in, world_at};
 ghost use Rattle.steps.specs.Said.{Roomy};
 ghost use Rattle.steps.specs.Hold.{Binding, Ready, Costs, Steps, Binds, SaysIf, SaysBound, TellsIf, Left, ShownTo, on_names, path_step, name_in, kind_in, misplaced_in};
 
-use crate::{Context, Mode, Walk};
+use crate::{Context, Mode, Sort, Walk};
 use heads::Elem;
+use scope::ScopeKind;
+use tables::VarKind;
 
 // The name of a row, 0 where there is none.
 pub fn name_in(r: Option<(u32, u32)>) -> u32
@@ -35,12 +39,15 @@ impl Walk<'_> {
     }
 
     // A scope of the kind under the current one, which it becomes.
-    pub fn enter(&mut self, context: &Context, kind: u32, start: u32, end: u32)
+    pub fn enter(&mut self, context: &Context, kind: ScopeKind, start: u32, end: u32)
         requires { Ready 1 context.now self.old }
-        ensures { Steps 1 context.now self.old self.new (λ id. on_names (enter kind start end)) }
+        ensures { Steps 1 context.now self.old self.new (λ id. on_names (enter (number_of kind) start end)) }
     {
         let parent = self.cur + 1;
-        self.say_wanted(context, [1, kind, parent, start, end, 0]);
+        self.say_wanted(
+            context,
+            [Sort::Scope as u32, kind as u32, parent, start, end, 0],
+        );
         self.last += 1;
         self.cur = self.last;
     }
@@ -74,9 +81,9 @@ impl Walk<'_> {
     {
         let scope = self.cur;
         if again {
-            self.say_wanted(context, [3, scope, x, v, kind, 0]);
+            self.say_wanted(context, [Sort::Rebinding as u32, scope, x, v, kind, 0]);
         } else {
-            self.say_wanted(context, [2, scope, x, v, kind, 0]);
+            self.say_wanted(context, [Sort::Binding as u32, scope, x, v, kind, 0]);
             self.made += 1;
         }
     }
@@ -131,10 +138,10 @@ impl Walk<'_> {
     // A path's name is bound, where names are resolved.
     fn bind_path_name(&mut self, context: &Context, x: u32, v: u32, mode: Mode)
         requires { (x < self.old.visible.names) × Ready 3 context.now self.old }
-        ensures { Costs 2 3 context.now self.old self.new (λ id. on_names (when (mode_of mode).resolves (bind_anew (world_at context.now id) 0 0 x v 3))) }
+        ensures { Costs 2 3 context.now self.old self.new (λ id. on_names (when (mode_of mode).resolves (bind_anew (world_at context.now id) 0 0 x v path_kind))) }
     {
         if mode.resolves {
-            self.bind_anew(context, 0, 0, x, v, 3);
+            self.bind_anew(context, 0, 0, x, v, VarKind::Path as u32);
         }
     }
 
@@ -145,7 +152,7 @@ impl Walk<'_> {
     {
         let r = self.note(context, v);
         self.bind_path_name(context, name_in(r), v, mode);
-        self.misplace(mode, r, 3, 1, 0, 0);
+        self.misplace(mode, r, VarKind::Path as u32, 1, 0, 0);
     }
 
     // A node's or a relationship's name is bound, where names are resolved, if it is not visible.

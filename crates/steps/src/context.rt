@@ -37,7 +37,7 @@ impl Context<'_> {
     }
 
     // Whether the name x is no use here.
-    pub fn is_hushed(&self, x: u32) -> bool
+    pub(crate) fn is_hushed(&self, x: u32) -> bool
         ensures { result ≡ hushed_in self.now x }
     {
         let i = x as usize;
@@ -45,7 +45,7 @@ impl Context<'_> {
     }
 
     // Whether nothing is written of a variable, whatever its row: its use is not wanted, and no kind is minded.
-    pub fn is_quiet(&self, mode: Mode, set: Setting) -> bool
+    pub(crate) fn is_quiet(&self, mode: Mode, set: Setting) -> bool
         ensures { result ≡ quiet self.now.wants mode set }
     {
         if self.wants && mode.resolves {
@@ -58,6 +58,7 @@ impl Context<'_> {
     }
 
     // The settings of a head's parts, where the head stands in the setting `set`.
+    #[tactic(auto, unfolding(semantics::specs::Kinds::settings))]
     pub fn settings_of(&self, f: Form, set: Setting) -> Settings
         ensures { pair_of result ≡ settings (λ x. is_the x self.now.ident) f (setting_of set) }
     {

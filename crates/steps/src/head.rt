@@ -1,42 +1,44 @@
-// What the head of an expression does before its parts and after them. Kinds of scopes and sorts of events are numbers, as the lists and the
-// log have them.
+// What the head of an expression does before its parts and after them.
 ghost use Rattle.std.specs.Prelude.{◌≡◌, ◌<◌, ◌≤◌, get_or};
 ghost use Rattle.semantics.specs.Resolve.{lookup, use_var};
-ghost use Rattle.semantics.specs.Kinds.{leaf_types, at_type, at_row};
+ghost use Rattle.semantics.specs.Kinds.{no_type, leaf_types, at_type, at_row};
 ghost use Rattle.fused.specs.Fused.{step, same, name_use, head_of};
 ghost use Rattle.rows.specs.Table.{row_in};
 ghost use Rattle.visible.specs.Stack.{Sound};
+ghost use Rattle.steps.specs.Types.{type_number, type_at};
 ghost use Rattle.steps.specs.Modes.{mode_of, setting_of};
 ghost use Rattle.steps.specs.Memory.{names_in, world_at};
 ghost use Rattle.steps.specs.Hold.{Ready, Steps, Closed, act_of, cost_of, Named, on_names, var_record, name_record};
 
-use crate::{Context, Mode, Setting, Walk};
+use crate::{Context, Mode, Setting, Sort, Walk};
+use expr::Type;
 use heads::Form;
+use scope::ScopeKind;
 
-// What a head does before its parts: it shows a type, 0 for none; it uses a variable, or a name; it opens the scope of a comprehension.
+// What a head does before its parts: it shows a type, or none; it uses a variable, or a name; it opens the scope of a comprehension.
 #[derive(Clone, Copy)]
-pub enum Act {
-    Shows(u32),
+enum Act {
+    Shows(Option<Type>),
     Uses(u32),
     Names(u32),
     Opens(u32, u32),
 }
 
 // The type of a leaf by its code.
-fn leaf_type(k: u32) -> u32
-    ensures { result ≡ get_or leaf_types k 0 }
+pub fn leaf_type(k: u32) -> Option<Type>
+    ensures { result ≡ type_at (get_or leaf_types k no_type) }
 {
     match k {
-        0 => 0,
-        1 => 5,
-        2 => 1,
-        3 => 2,
-        4 => 3,
-        5 => 4,
-        _ => 0,
+        1 => Some(Type::Null),
+        2 => Some(Type::Bool),
+        3 => Some(Type::Int),
+        4 => Some(Type::Float),
+        5 => Some(Type::String),
+        _ => None,
     }
 }
 
+#[tactic(auto, unfolding(semantics::specs::Kinds::type_of))]
 fn act_of(f: Form) -> Act
     ensures { result ≡ act_of f }
 {
@@ -44,23 +46,23 @@ fn act_of(f: Form) -> Act
         Form::Leaf(k) => Act::Shows(leaf_type(k)),
         Form::Var(v) => Act::Uses(v),
         Form::Unresolved(x) => Act::Names(x),
-        Form::Prop(_) => Act::Shows(0),
-        Form::Two(_) => Act::Shows(0),
-        Form::Slice(_) => Act::Shows(0),
+        Form::Prop(_) => Act::Shows(None),
+        Form::Two(_) => Act::Shows(None),
+        Form::Slice(_) => Act::Shows(None),
         Form::Many(k, _) => if k == 13 {
-            Act::Shows(6)
+            Act::Shows(Some(Type::Map))
         } else {
-            Act::Shows(0)
+            Act::Shows(None)
         },
-        Form::BinOp(_) => Act::Shows(0),
-        Form::UnaryOp(_) => Act::Shows(0),
-        Form::Case(_, _) => Act::Shows(0),
-        Form::IsNull => Act::Shows(0),
-        Form::PatternPredicate => Act::Shows(7),
-        Form::ListComprehension(_) => Act::Shows(0),
+        Form::BinOp(_) => Act::Shows(None),
+        Form::UnaryOp(_) => Act::Shows(None),
+        Form::Case(_, _) => Act::Shows(None),
+        Form::IsNull => Act::Shows(None),
+        Form::PatternPredicate => Act::Shows(Some(Type::Pattern)),
+        Form::ListComprehension(_) => Act::Shows(None),
         Form::PatternComprehension(a, b, _) => Act::Opens(a, b),
-        Form::ListPredicate(_) => Act::Shows(0),
-        Form::MapProjection(_) => Act::Shows(0),
+        Form::ListPredicate(_) => Act::Shows(None),
+        Form::MapProjection(_) => Act::Shows(None),
     }
 }
 
@@ -71,7 +73,7 @@ impl Walk<'_> {
         ensures { Steps 1 context.now self.old self.new (λ id. on_names (var_record (mode_of mode) v k)) }
     {
         if mode.resolves {
-            self.say_wanted(context, [4, v, k, 0, 0, 0]);
+            self.say_wanted(context, [Sort::Variable as u32, v, k, 0, 0, 0]);
         }
     }
 
@@ -103,8 +105,10 @@ impl Walk<'_> {
             return;
         }
         match self.visible.find(x) {
-            Some((v, _)) => self.log.say([5, x, 1, v, context.rows.kind(v), 0]),
-            None => self.log.say([5, x, 0, 0, 0, 0]),
+            Some((v, _)) => self
+                .log
+                .say([Sort::Name as u32, x, 1, v, context.rows.kind(v), 0]),
+            None => self.log.say([Sort::Name as u32, x, 0, 0, 0, 0]),
         }
     }
 
@@ -123,9 +127,9 @@ impl Walk<'_> {
     }
 
     // A type that a head shows, where kinds are checked. A context is asked for since room is a fact of it.
-    fn show(&mut self, context: &Context, t: u32, mode: Mode, set: Setting)
+    fn show(&mut self, context: &Context, t: Option<Type>, mode: Mode, set: Setting)
         requires { Ready 1 context.now self.old }
-        ensures { Steps 1 context.now self.old self.new (λ id. step (mode_of mode) same (at_type (setting_of set) t)) }
+        ensures { Steps 1 context.now self.old self.new (λ id. step (mode_of mode) same (at_type (setting_of set) (type_number t))) }
     {
         if mode.checks {
             self.at_type(context, set, t);
@@ -147,7 +151,7 @@ impl Walk<'_> {
             }
             Act::Opens(a, b) => {
                 if mode.resolves {
-                    self.enter(context, 9, a, b);
+                    self.enter(context, ScopeKind::PatternComprehension, a, b);
                 }
             }
         }

@@ -13,7 +13,8 @@ ghost use Rattle.std.specs.Prelude.{◌≡◌};
 
 pub use bound::name_in;
 pub use context::Context;
-pub use log::Log;
+pub use head::leaf_type;
+pub use log::{Log, Sort};
 pub use mode::{Mode, Setting, Settings};
 use visible::Visible;
 

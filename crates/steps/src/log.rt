@@ -1,6 +1,33 @@
 // What the walks say: the name walk's events from the front of the words, the kind walk's findings from their back, six words each.
-ghost use Rattle.std.specs.Prelude.{◌≡◌, ℕ, ◌+◌, ◌≤◌, length};
-ghost use Rattle.steps.specs.Said.{Roomy, Put, Says, Tells};
+ghost use Rattle.std.specs.Prelude.{◌≡◌, ℕ, ◌+◌, ◌≤◌, length, Result};
+ghost use Rattle.steps.specs.Said.{Sorts, Roomy, Put, Says, Tells};
+
+// The sorts of events by their first words; any other first word is a finding's code.
+#[derive(Clone, Copy, Debug, PartialEq, Eq)]
+pub enum Sort {
+    Scope = 1,
+    Binding = 2,
+    Rebinding = 3,
+    Variable = 4,
+    Name = 5,
+}
+
+impl TryFrom<u32> for Sort {
+    type Error = ();
+
+    ghost try_from_gives = { Sorts };
+
+    fn try_from(word: u32) -> Result<Sort, ()> {
+        match word {
+            1 => Ok(Sort::Scope),
+            2 => Ok(Sort::Binding),
+            3 => Ok(Sort::Rebinding),
+            4 => Ok(Sort::Variable),
+            5 => Ok(Sort::Name),
+            _ => Err(()),
+        }
+    }
+}
 
 // `said` events and `told` findings.
 #[derive(Drop)]
@@ -29,7 +56,7 @@ impl Log<'_> {
     }
 
     // A finding of the kind walk.
-    pub fn tell(&mut self, finding: [u32; 6])
+    pub(crate) fn tell(&mut self, finding: [u32; 6])
         requires { Roomy self.old }
         ensures { Tells finding self.old self.new }
     {

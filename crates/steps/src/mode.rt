@@ -55,6 +55,7 @@ impl Settings {
 
 impl Setting {
     // "unary passes its setting on"
+    #[tactic(auto, unfolding(semantics::specs::Kinds::passes))]
     pub fn passed(self) -> Setting
         ensures { setting_of result ≡ passes (setting_of self) }
     {

@@ -10,25 +10,25 @@ unfolding at_row
 returns-in-General c =
     λ i a b. rw c.in-General.is (none_told refl)
 
-pub returns-then-k-ne4 : goal.returns-then-k-ne4
+pub returns-then-k : goal.returns-then-k
 unfolding at_row
-returns-then-k-ne4 c =
-    λ i a b. rw (c.in-Arithmetic.is, ne_eqb _ 4 c.if-k-ne4.true) c.mistype.ensures
+returns-then-k c =
+    λ i a b. rw (c.in-Arithmetic.is, ne_eqb _ 4 c.if-k.true) c.mistype.ensures
 
-pub returns-else-k-ne4 : goal.returns-else-k-ne4
+pub returns-else-k : goal.returns-else-k
 unfolding at_row
-returns-else-k-ne4 c =
-    λ i a b. rw (c.in-Arithmetic.is, eq-eqb _ 4 c.if-k-ne4.false) (none_told refl)
+returns-else-k c =
+    λ i a b. rw (c.in-Arithmetic.is, eq-eqb _ 4 c.if-k.false) (none_told refl)
 
-pub returns-then-k-eq3 : goal.returns-then-k-eq3
+pub returns-then-k-2 : goal.returns-then-k-2
 unfolding at_row
-returns-then-k-eq3 c =
-    λ i a b. rw (c.in-Property.is, eq-eqb _ 3 c.if-k-eq3.true) c.mistype-then-k-eq3.ensures
+returns-then-k-2 c =
+    λ i a b. rw (c.in-Property.is, eq-eqb _ 3 c.if-k-2.true) c.mistype-then-k-2.ensures
 
-pub returns-else-k-eq3 : goal.returns-else-k-eq3
+pub returns-else-k-2 : goal.returns-else-k-2
 unfolding at_row
-returns-else-k-eq3 c =
-    λ i a b. rw (c.in-Property.is, ne_eqb _ 3 c.if-k-eq3.false) (none_told refl)
+returns-else-k-2 c =
+    λ i a b. rw (c.in-Property.is, ne_eqb _ 3 c.if-k-2.false) (none_told refl)
 
 pub returns-in-Boolean : goal.returns-in-Boolean
 unfolding at_row

@@ -1,7 +1,8 @@
 -- The event is said where it is wanted, and then the numbers of the scopes move on (`enters`).
+use Rattle.steps.proofs.Numbers.{kind-number}
 use Rattle.steps.proofs.Moved.{enters}
 use Rattle.steps.proofs.Walk.enter.Goals as goal
 
 pub returns : goal.returns
 returns c =
-    enters c.say_wanted.ensures
+    rw (kind-number c.args.kind) (enters c.say_wanted.ensures)

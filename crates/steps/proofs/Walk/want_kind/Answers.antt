@@ -5,10 +5,10 @@ use Rattle.steps.proofs.Held.{tells-step}
 use Rattle.steps.proofs.Heads.{none_told}
 use Rattle.steps.proofs.Walk.want_kind.Goals as goal
 
-pub returns-then-k-ne4 : goal.returns-then-k-ne4
-returns-then-k-ne4 c =
-    rw (ne_eqb _ 4 c.if-k-ne4.true) (tells-step c.tell.ensures)
+pub returns-then-k : goal.returns-then-k
+returns-then-k c =
+    rw (ne_eqb _ 4 c.if-k.true) (tells-step c.tell.ensures)
 
-pub returns-else-k-ne4 : goal.returns-else-k-ne4
-returns-else-k-ne4 c =
-    rw (eq-eqb _ 4 c.if-k-ne4.false) (none_told refl)
+pub returns-else-k : goal.returns-else-k
+returns-else-k c =
+    rw (eq-eqb _ 4 c.if-k.false) (none_told refl)

@@ -1,17 +1,17 @@
 -- No type is no finding.
-use borrow.Author.Tests.{eq-eqb, ne_eqb}
 use mathlib.Core.Path.{refl}
 use Rattle.semantics.specs.Kinds.{at_type}
+use Rattle.steps.proofs.Numbers.{type-number, some-type}
 use Rattle.steps.proofs.Held.{tells-step}
 use Rattle.steps.proofs.Heads.{none_told}
 use Rattle.steps.proofs.Walk.want_list.Goals as goal
 
-pub returns-then-t-ne0 : goal.returns-then-t-ne0
+pub returns-in-Some : goal.returns-in-Some
 unfolding at_type
-returns-then-t-ne0 c =
-    rw (ne_eqb _ 0 c.if-t-ne0.true) (tells-step c.tell.ensures)
+returns-in-Some c =
+    rw (c.in-Some.is, some-type c.in-Some.t, type-number c.in-Some.t) (tells-step c.tell.ensures)
 
-pub returns-else-t-ne0 : goal.returns-else-t-ne0
+pub returns-in_default : goal.returns-in_default
 unfolding at_type
-returns-else-t-ne0 c =
-    rw (eq-eqb _ 0 c.if-t-ne0.false) (none_told refl)
+returns-in_default c =
+    rw c.in_default.is (none_told refl)
