@@ -1,5 +1,5 @@
 -- A kind and a type as a number of the code are the definition's numbers (`kind-number`, `type-number`), and a type's is not 0 (`some-type`).
-use Prim.Native.Nat.{ℕ, ◌+◌}
+use Prim.Native.Nat.{◌+◌}
 use mathlib.Core.Path.{◌≡◌, refl}
 use mathlib.Core.Bool as bool
 use lib.Dec.{eqb}

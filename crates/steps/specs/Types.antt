@@ -1,5 +1,5 @@
 -- The type that is shown, if any, in the definition's numbers.
-use Rattle.std.specs.Prelude.{ℕ, List, [], ◌∷◌, get_or, Option, None, Some}
+use Rattle.std.specs.Prelude.{ℕ, [], ◌∷◌, get_or, Option, None, Some}
 use Rattle.expr.specs.Types.{number_of}
 use Rattle.expr.specs.declared.types.«Type».{«Type»}
 use Rattle.expr.specs.declared.types.«Type».TheVariants.{Bool, Int, Float, String, Null, Map, Pattern, Node, Relationship, Path}

@@ -107,6 +107,7 @@ fn of_two(k: u32) -> Settings
 }
 
 // "Operators 0 to 5 and 8 to 11 set arithmetic"
+#[tactic(auto, using(std::proofs::lemmas::Bool::Decides::nat_tests), unfolding(semantics::specs::Kinds::is_arithmetic))]
 fn of_operator(o: u32) -> Settings
     ensures { pair_of result ≡ both (cond (is_arithmetic o) arithmetic general) (cond (is_arithmetic o) arithmetic general) }
 {
