@@ -2,10 +2,10 @@
 -- Steps of which nothing is to be done (`idle-as`, `none_told`), and in a mode in which one of the walks looks or does not (`checked-step`,
 -- `unchecked-step`, `resolved_step`, `unresolved-step`).
 -- A use of a variable: `var-said`, `quiet-use`, `rowless-use`, `checked-use`, `unchecked-use`. Of a name: `unwanted-name`, `missing-name`,
--- `found_name`; of one that is no use, `hushed-use`; then E1001, `missed-use`, `star-use`, `seen-use`. A head by its act: `by-act`; after its
--- parts, `closed-stays`, `closed-fits`, `closed-frame`, `closed-holds`.
+-- `found_name`; of one that is no use, `hushed-use`; then E1001, `missed-use`, `star-use`, `seen-use`. A head by its act: `by-act`; its
+-- cost: `some_cost`; after its parts, `closed-stays`, `closed-fits`, `closed-frame`, `closed-holds`.
 use Rattle.std.specs.Prelude.{Option, None, Some}
-use Prim.Native.Nat.{ℕ, zero, suc, ◌+◌}
+use Prim.Native.Nat.{ℕ, zero, suc, ◌+◌, ◌≤◌}
 use lib.Dec.{eqb}
 use lib.ListN.{get_or}
 use native.Mathlib.Numerals.{add-one}
@@ -41,7 +41,7 @@ use Rattle.steps.specs.declared.mode.Mode.{Mode}
 use Rattle.steps.specs.declared.mode.Setting.{Setting}
 use Rattle.steps.specs.declared.mode.Setting.TheVariants.{General, Arithmetic, Property, Boolean, Indexed, Sliced, Iterated, Quantified}
 use Rattle.steps.specs.declared.head.Act.{Act}
-use Rattle.steps.specs.declared.head.Act.TheVariants.{Shows}
+use Rattle.steps.specs.declared.head.Act.TheVariants.{Shows, Uses, Names, Opens}
 use Rattle.steps.proofs.Held.{still-idle, idle-step, then-steps, more-costs, more-steps, instead, as-steps, wanted, unwanted, no-count, says-step, says_if}
 use Rattle.steps.proofs.Moved.{left-still, left-fits, left-frame, left-holds}
 
@@ -303,6 +303,16 @@ by-act {c} {w} {w'} f e m set s =
     as-steps _
     (subst (λ (b : Act). Steps (cost_in b) c w w' (λ id. acts (world_at c id) (mode_of m) (setting_of set) b)) (sym e) s)
     (λ id b. head-acts (world_at c id) (mode_of m) (setting_of set) f b)
+
+-- a head is paid for
+some_act : (a : Act) → 1 ≤ cost_in a
+some_act (Shows t) = omega arith
+some_act (Uses v) = omega arith
+some_act (Names x) = omega arith
+some_act (Opens a b) = omega arith
+
+pub some_cost : (f : Form) → 1 ≤ cost_of f
+some_cost f = some_act (act_of f)
 
 -- After a head's parts, from w where the head was read, to n: the walk n' that `finish` leaves fits, frames and holds what it did, and holds
 -- what the definition has after the parts.

@@ -2,35 +2,28 @@
 -- type that it shows (`type-act`, `type-idle`). A part without a path binds nothing (`path-none`).
 use Rattle.std.specs.Prelude.{Option, None}
 use Prim.Native.Nat.{ℕ, ◌/◌, ◌%◌, ◌<◌, ◌≤◌}
-use native.Mathlib.Omega.{arith}
 use mathlib.Core.Path.{◌≡◌, refl, sym}
 use mathlib.Core.Bool.{Bool, true, false, ◌&&◌}
 use mathlib.Core.List.{[]}
 use Rattle.heads.specs.Form.{shape_of, form_one}
+use Rattle.expr.specs.declared.types.«Type».{«Type»}
 use Rattle.expr.specs.Binders.{binder, all_known}
 use Rattle.semantics.specs.World.{variable}
 use Rattle.semantics.specs.Resolve.{use_var, bind_path}
 use Rattle.semantics.specs.Kinds.{at_type, at_row, misplaced, row_for}
 use Rattle.fused.specs.Fused.{Both, when, told, step, name_use, head_of}
+use Rattle.steps.specs.Types.{type_number}
 use Rattle.steps.specs.Modes.{mode_of, setting_of}
 use Rattle.steps.specs.Memory.{names_in, world_at}
-use Rattle.steps.specs.Hold.{Steps, Ready, cost_of, cost_in, act_of, on_names, on_kinds, path_step}
+use Rattle.steps.specs.Hold.{Steps, Ready, cost_of, on_names, on_kinds, path_step}
 use Rattle.steps.specs.declared.Walk.{Walk}
 use Rattle.steps.specs.declared.context.Context.{Context}
-use Rattle.steps.specs.declared.head.Act.{Act}
-use Rattle.steps.specs.declared.head.Act.TheVariants.{Shows, Uses, Names, Opens}
 use Rattle.steps.specs.declared.mode.Mode.{Mode}
 use Rattle.steps.specs.declared.mode.Setting.{Setting}
 use Rattle.steps.proofs.Held.{idle-step, as-steps, more-steps, ready-less}
-use Rattle.steps.proofs.Heads.{checked-step, unchecked-step, resolved_step, unresolved-step}
+use Rattle.steps.proofs.Heads.{some_cost, checked-step, unchecked-step, resolved_step, unresolved-step}
 use Rattle.walk.specs.Plain.{shape, limit, headed, type_by}
 use Rattle.walk.proofs.Plains.{law}
-
-dear : (a : Act) → 1 ≤ cost_in a
-dear (Shows t) = omega arith
-dear (Uses v) = omega arith
-dear (Names x) = omega arith
-dear (Opens a b) = omega arith
 
 -- what a plain head does
 abbrev pub Does : Context → Mode → Setting → (code a : ℕ) → (ℕ → ℕ) → Both → Both
@@ -46,7 +39,7 @@ module _ {c : Context} {w : Walk} (code a : ℕ) where
   name-ready e n h = let k : shape 8 / 64 % 2 ≡ 1 → a < names_in c = rw e at n in (k refl, rw e at h)
 
   pub type-ready : Ready (cost_of (headed code a)) c w → Ready 1 c w
-  type-ready h = ready-less (dear (act_of (headed code a))) h
+  type-ready h = ready-less (some_cost (headed code a)) h
 
   module _ (mode : Mode) (set : Setting) where
     module _ {w' : Walk} where
@@ -63,9 +56,9 @@ module _ {c : Context} {w : Walk} (code a : ℕ) where
     name-idle e y = rw e (unresolved-step mode (λ id. name_use (world_at c id) a) y)
 
     module _ (p : 0 < shape code) (l : a ≤ limit code) (v : code ≡ 7 → ⊥) (n : code ≡ 8 → ⊥) where
-      pub type-act : {w' : Walk} {t : ℕ} → t ≡ type_by code → mode.checks ≡ true → Steps 1 c w w' (λ id. on_kinds (at_type (setting_of set) t)) → Steps (cost_of (headed code a)) c w w' (Does c mode set code a)
-      type-act e y x =
-          more-steps (dear (act_of (headed code a))) (as-steps _ (checked-step mode _ y (rw e at x)) (λ id s. sym ((law code a p l).type v n (world_at c id) (mode_of mode) (setting_of set) s)))
+      pub type-act : {w' : Walk} (t : Option «Type») → type_number t ≡ type_by code → mode.checks ≡ true → Steps 1 c w w' (λ id. on_kinds (at_type (setting_of set) (type_number t))) → Steps (cost_of (headed code a)) c w w' (Does c mode set code a)
+      type-act t e y x =
+          more-steps (some_cost (headed code a)) (as-steps _ (checked-step mode _ y (rw e at x)) (λ id s. sym ((law code a p l).type v n (world_at c id) (mode_of mode) (setting_of set) s)))
 
       pub type-idle : mode.checks ≡ false → Steps (cost_of (headed code a)) c w w (Does c mode set code a)
       type-idle y = as-steps _ (unchecked-step mode (at_type (setting_of set) (type_by code)) y) (λ id s. sym ((law code a p l).type v n (world_at c id) (mode_of mode) (setting_of set) s))

@@ -1,6 +1,8 @@
 // Expressions and patterns, read and walked in one over any words: the refusal, or where both walks stand then. The expression walk and the
 // pattern walk call each other, an expression for the pattern within it and a pattern for its properties, and the words that are left fall.
 // A row of expressions is a loop: the parts of a plain head are counted with the row, on a stack of what is left at each level.
+// `room` is at most 48, since the stack has 49 places. It is a number, and functions have up to six parameters: a type for it, or a struct of what
+// goes with each call, would be built and opened at each call.
 #![tactic(auto)]
 
 mod plain;

@@ -4,12 +4,14 @@ ghost use Rattle.std.specs.Prelude.{◌≡◌, ℕ, ◌+◌, ◌/◌, ◌%◌, �
 ghost use Rattle.words.specs.Words.{words};
 ghost use Rattle.semantics.specs.Kinds.{settings};
 ghost use Rattle.fused.specs.Fused.{head_of};
+ghost use Rattle.steps.specs.Types.{type_number};
 ghost use Rattle.steps.specs.Modes.{mode_of, setting_of, pair_of};
 ghost use Rattle.steps.specs.Memory.{names_in, is_the, world_at};
 ghost use Rattle.steps.specs.Hold.{Ready, Steps, cost_of};
 ghost use Rattle.walk.specs.Plain.{shape, limit, headed, parts_of, type_by, number_of, Plainly};
 
-use steps::{Context, Mode, Setting, Settings, Walk};
+use expr::Type;
+use steps::{Context, Mode, Setting, Settings, Walk, leaf_type};
 use words::{count, word};
 
 // The most parts that a row of the loop counts.
@@ -102,7 +104,7 @@ pub fn shows(t: u32, set: Setting) -> bool
     (t >> (16 + set as u32)) % 2 == 1
 }
 
-// The setting with a number of the shapes.
+// The setting with a number of the shapes. A match and no TryFrom, since it can't fail: three bits of a shape are always one of the eight.
 fn setting_at(n: u32) -> Setting
     requires { n < 8 }
     ensures { number_of result ≡ n }
@@ -119,7 +121,8 @@ fn setting_at(n: u32) -> Setting
     }
 }
 
-// The settings of the parts, the first one's and the others'.
+// The settings of the parts, the first one's and the others'. This and `act` go by the code and not by `settings_of` and `begin` of crate steps: a
+// plain head is not made into a Form, since the loop reads two words and a shape.
 pub fn pair(t: u32, code: u32, a: u32, set: Setting, ident: Option<u32>) -> Settings
     requires { (t ≡ shape code) × ((0 < t) × (a ≤ limit code)) }
     ensures { pair_of result ≡ settings (λ x. is_the x ident) (headed code a) (setting_of set) }
@@ -165,17 +168,12 @@ pub fn act(walk: &mut Walk, context: &Context, code: u32, a: u32, mode: Mode, se
     }
 }
 
-// The type that a plain head shows, 0 for none.
-fn type_by(code: u32) -> u32
-    ensures { result ≡ type_by code }
+// The type that a plain head shows, if any: a leaf's, or a Map's.
+fn type_by(code: u32) -> Option<Type>
+    ensures { type_number result ≡ type_by code }
 {
     match code {
-        1 => 5,
-        2 => 1,
-        3 => 2,
-        4 => 3,
-        5 => 4,
-        13 => 6,
-        _ => 0,
+        13 => Some(Type::Map),
+        _ => leaf_type(code),
     }
 }

@@ -28,7 +28,7 @@ at_type-requires c =
 
 pub returns-then-mode-2 : goal.returns-then-mode-2
 returns-then-mode-2 c =
-    let a = c.args in type-act a.code a.a a.mode a.set c.requires.0 c.requires.1.0 c.if-code-eq7.false c.if-code-eq8.false c.type_by.ensures c.if-mode-2.true c.at_type.ensures
+    let a = c.args in type-act a.code a.a a.mode a.set c.requires.0 c.requires.1.0 c.if-code-eq7.false c.if-code-eq8.false _ c.type_by.ensures c.if-mode-2.true c.at_type.ensures
 
 pub returns-else-mode-2 : goal.returns-else-mode-2
 returns-else-mode-2 c =
