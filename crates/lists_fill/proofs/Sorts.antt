@@ -1,18 +1,21 @@
--- What an event gives each list: one entry, or nothing where it is of another sort.
-use Rattle.std.specs.Prelude.{Option, None, Some}
+-- What an event gives each list: one entry, or nothing where it is of another sort; six words of no sort are a finding (`no-sort`).
+use Rattle.std.specs.Prelude.{◌≢◌, Option, None, Some}
 use Prim.Native.Nat.{ℕ, zero, suc, ◌+◌, ◌*◌, ◌≤◌}
 use native.Mathlib.Omega.{arith}
-use mathlib.Core.Path.{◌≡◌, refl}
-use mathlib.Core.Bool.{Bool}
+use mathlib.Core.Path.{◌≡◌, refl, sym}
+use mathlib.Core.Bool.{Bool, false}
+use lib.Dec.{eqb}
 use mathlib.Core.List.{List, [], ◌∷◌}
 use borrow.Author.Tests.{ne_eqb}
 use lib.ListN.{length}
 use lib.Seq.{sets}
 use Rattle.scope.specs.Flat.{parent_of}
 use Rattle.scope.specs.Graph.{scope}
-use Rattle.semantics.specs.Log.{scope_of, bind_of, answer_of, find_of}
+use Rattle.semantics.specs.Log.{find, finding, scope_of, bind_of, answer_of, find_of}
 use Rattle.theorems.specs.Woven.{barrier_of}
-use Rattle.steps.specs.Said.{finding_at}
+use Rattle.steps.specs.Said.{finding_at, sort_number, event_of}
+use Rattle.steps.specs.declared.log.Sort.{Sort}
+use Rattle.steps.specs.declared.log.Sort.TheVariants as sorts
 use Rattle.finding.specs.Flat.{finding_words}
 use Rattle.finding.specs.Records.{words_of}
 use Rattle.finding.specs.declared.Finding as records
@@ -29,6 +32,11 @@ use Rattle.entries.proofs.Filling.{sized-scope, sized-finding}
 use Rattle.entries.proofs.Adding.{one-added}
 
 module _ (id : ℕ → ℕ) where
+  pub no-sort : {sort : ℕ} (a b c d e : ℕ) → ((s : Sort) → sort_number s ≢ sort) → event_of id sort a b c d e ≡ find (finding sort a b c d e)
+  no-sort {sort} a b c d e h =
+      let other : (s : Sort) → eqb sort (sort_number s) ≡ false = λ s. ne_eqb sort (sort_number s) (λ q. h s (sym q)) in
+      rw (other sorts.Scope, other sorts.Binding, other sorts.Rebinding, other sorts.Variable, other sorts.Name)
+
   pub no-scope : (e : Logged) → ((k p a b : ℕ) → e ≡ Scope k p a b → ⊥) → scope_of (said id e) ≡ []
   unfolding scope_of
   no-scope (Scope k p a b) h = absurd (h k p a b refl)

@@ -1,6 +1,7 @@
 // Four of the five lists, filled from the log that both walks left and from the carried list: scopes and findings as they come, bindings and
 // recorded uses with the first making giving the place and the last one the value. Each list has a loop and an adder of its own, as it has a
-// definition and a law of its own; numbers are those of the log.
+// definition and a law of its own; kinds are numbers, as the lists have them. Loops go by index and not over chunks: tried, and it cost a law and
+// an answer file more.
 #![tactic(auto)]
 
 ghost use Rattle.std.specs.Prelude.{◌≡◌, [], ◌++◌, ℕ, ◌+◌, ◌*◌, ◌≤◌, length};
@@ -19,13 +20,11 @@ ghost use Rattle.lists_fill.specs.Weaving.{barrier_in, Ready, Adopts, Weaves, bo
 use entries::{Binding, Bindings, Found, put_answer, set_entry};
 use finding::{Finding, words_at};
 use rows::Rows;
-use steps::Log;
+use scope::ScopeKind;
+use steps::{Log, Sort};
 
 // The use id of no bytes.
 const NO_NAME: u32 = 4276314682;
-
-// The kind of a Root.
-const ROOT: u32 = 1;
 
 // What the name walk left: a scope that it opened, a binding that it made, the use of a variable or of a name that it recorded, or a finding. A
 // binding's flag, whether it replaces another, is the event's; no list is filled by it, since `put` sees for itself what it replaces.
@@ -59,16 +58,16 @@ impl From<[u32; 6]> for Logged {
             variable: c,
             kind: d,
         };
-        match sort {
-            1 => Logged::Scope(a, b, c, d),
-            2 => Logged::Binding(false, binding),
-            3 => Logged::Binding(true, binding),
-            4 => Logged::Variable(Found {
+        match Sort::try_from(sort) {
+            Ok(Sort::Scope) => Logged::Scope(a, b, c, d),
+            Ok(Sort::Binding) => Logged::Binding(false, binding),
+            Ok(Sort::Rebinding) => Logged::Binding(true, binding),
+            Ok(Sort::Variable) => Logged::Variable(Found {
                 variable: a,
                 kind: b,
             }),
-            5 => Logged::Name(a, found_if(b, c, d)),
-            _ => Logged::Finding(Finding::from(words)),
+            Ok(Sort::Name) => Logged::Name(a, found_if(b, c, d)),
+            Err(_) => Logged::Finding(Finding::from(words)),
         }
     }
 }
@@ -150,7 +149,7 @@ fn root_of(e: Logged) -> u32
 {
     match e {
         Logged::Scope(kind, parent, _, _) => {
-            if kind == ROOT {
+            if kind == ScopeKind::Root as u32 {
                 return parent;
             }
             0
