@@ -205,7 +205,7 @@ fn check_in(
     Ok(lists.fill(s, index, scratch))
 }
 
-// With scratch for sheets of up to N words: V, F and H are the lengths that follow from N.
+// With scratch for sheets of up to N words: V, F and H are the lengths that follow from N, which the language doesn't compute of it.
 fn check_sized<const N: usize, const V: usize, const F: usize, const H: usize>(
     s: &[u8],
     warns: bool,
@@ -239,6 +239,7 @@ fn check_sized<const N: usize, const V: usize, const F: usize, const H: usize>(
 }
 
 // A sheet of any size, with scratch for 1,024 words at least. Its frame is that of the largest scratch, and is touched page by page.
+#[inline(never)]
 fn check_large(
     s: &[u8],
     warns: bool,
@@ -248,18 +249,15 @@ fn check_large(
     ensures still { IsStill lists.old lists.new }
     ensures answers { Answers warns s.now (lent lists.old) room result (lent lists.new) }
 {
-    if s.len() <= 4096 {
-        return check_sized::<1024, 4104, 6144, 2048>(s, warns, lists, room);
+    match s.len() {
+        0..=4096 => check_sized::<1024, 4104, 6144, 2048>(s, warns, lists, room),
+        4097..=8192 => check_sized::<2048, 8200, 12288, 4096>(s, warns, lists, room),
+        _ => Err(Refusal::Size),
     }
-    if s.len() <= 8192 {
-        return check_sized::<2048, 8200, 12288, 4096>(s, warns, lists, room);
-    }
-    Err(Refusal::Size)
 }
 
 // The check call, warnings on or off. Its findings are flat words, for a list of finding records that has room for so many. Scratch is
-// sized to the sheet, since clearing it costs a small sheet more than its check; the large sizes are called from two places, which keeps
-// their frame out of this one's.
+// sized to the sheet, since clearing it costs a small sheet more than its check.
 pub fn check_words(
     s: &[u8],
     warns: bool,
@@ -270,14 +268,9 @@ pub fn check_words(
     ensures answers { answered result ≡ answer_in warns s.now (lent lists.old) room }
     ensures leaves { lent lists.new ≡ left_in warns s.now (lent lists.old) room }
 {
-    if s.len() <= 256 {
-        return check_sized::<64, 264, 384, 128>(s, warns, lists, room);
+    match s.len() {
+        0..=256 => check_sized::<64, 264, 384, 128>(s, warns, lists, room),
+        257..=1024 => check_sized::<256, 1032, 1536, 512>(s, warns, lists, room),
+        _ => check_large(s, warns, lists, room),
     }
-    if s.len() <= 1024 {
-        return check_sized::<256, 1032, 1536, 512>(s, warns, lists, room);
-    }
-    if warns {
-        return check_large(s, true, lists, room);
-    }
-    check_large(s, false, lists, room)
 }

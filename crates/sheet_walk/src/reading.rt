@@ -10,10 +10,11 @@ use crate::Choice;
 use heads::Section;
 use name_chains::are_names;
 use refusal::Refusal;
-use rows::{Index, Rows, mult_of};
-use sheet::Places;
+use rows::{Index, Rows, multiplier};
+use sheet::{Places, read_bindings};
 use steps::Context;
-use tables::{index_of, read_rows};
+use tables::index_of;
+use words::word;
 
 // The shift of a hash for n bindings: 8, 64 or 256 slots.
 #[tactic(auto, unfolding(rows::specs::Slot::slots))]
@@ -25,16 +26,6 @@ fn shift_for(n: u32) -> u32
         14..62 => 26,
         _ => 24,
     }
-}
-
-// The multiplier of a hash: few bindings need none of their own.
-fn mult_for(s: &[u8], rows: usize, n: u32) -> u32
-    requires { rows + n * 5 ≤ length (words s.now) }
-{
-    if n <= 16 {
-        return 2654435769;
-    }
-    mult_of(s, rows, n)
 }
 
 // The names: where they stand and their use ids; whether they are right. The last words are scratch.
@@ -54,7 +45,7 @@ fn hang(s: &[u8], chains: &mut [u32], rows: usize, n: u32) -> Option<Index>
     let index = Index {
         first: rows,
         count: n,
-        mult: mult_for(s, rows, n),
+        mult: multiplier(n, |row| word(s, rows + row as usize * 5)),
         shift: shift_for(n),
     };
     if index.hang_rows(s, chains) {
@@ -68,18 +59,7 @@ fn rows_of(s: &[u8], p: Places, chains: &mut [u32]) -> Result<Index, Refusal>
     requires { (InPlaces s.now p × (p.names ≤ p.rows)) × Clear (length (words s.now)) chains.old }
     ensures { RowedAs s.now p chains.old chains.new result }
 {
-    let section = Section {
-        bytes: &s[..p.head * 4],
-        names: p.names,
-        rows: p.rows,
-        bound: None,
-    };
-    let Ok(q) = read_rows(&section, p.rows, p.bindings) else {
-        return Err(Refusal::Bindings);
-    };
-    if q < p.head {
-        return Err(Refusal::Bindings);
-    }
+    read_bindings(s, p)?;
     hang(s, chains, p.rows, p.bindings).ok_or(Refusal::Bindings)
 }
 
@@ -116,7 +96,7 @@ pub fn context_of<'a>(
     ensures { Settles s.now p choice index places.now ids.now chains.now result }
 {
     let part = &s[..p.rows * 4];
-    let names = p.names as usize;
+    let places = &places[..p.names as usize];
     Context {
         section: Section {
             bytes: s,
@@ -131,8 +111,8 @@ pub fn context_of<'a>(
         },
         uses: ids,
         hushed: &[],
-        star: index_of(part, places, names, b"*").checked_sub(1),
-        ident: index_of(part, places, names, b"id").checked_sub(1),
+        star: index_of(part, places, b"*"),
+        ident: index_of(part, places, b"id"),
         warns: choice.warns,
         wants: choice.wants,
     }

@@ -6,8 +6,9 @@ ghost use Rattle.sheet_walk.specs.Parts.{CutTo, Lent, Begins, Beginning, Standin
 use arm_walk::{walk_arms, walk_clauses};
 use heads::Section;
 use refusal::Refusal;
-use sheet::Places;
-use steps::{Context, Mode, Walk};
+use scope::ScopeKind;
+use sheet::{Places, check_end};
+use steps::{Context, Mode, Sort, Walk};
 
 // The same over the words before `to`.
 fn cut<'a>(context: &Context<'a>, to: usize) -> Context<'a>
@@ -38,7 +39,15 @@ fn begin(walk: &mut Walk, context: &Context, p: Places)
     walk.known = true;
     walk.made = 0;
     walk.taken = 0;
-    walk.say_wanted(context, [1, 1, 0, p.start, p.end, 0]);
+    let root = [
+        Sort::Scope as u32,
+        ScopeKind::Root as u32,
+        0,
+        p.start,
+        p.end,
+        0,
+    ];
+    walk.say_wanted(context, root);
 }
 
 // The head.
@@ -61,10 +70,7 @@ fn walk_head(
         checks: true,
     };
     walk_clauses(walk, &section, held, marks, carried, p.clauses, mode)?;
-    if walk.at < p.tail {
-        return Err(Refusal::Word);
-    }
-    Ok(())
+    check_end(walk.at, p.tail)
 }
 
 // The arms.
@@ -83,10 +89,7 @@ fn walk_tail(
 {
     let section = cut(context, p.trailer);
     walk_arms(walk, &section, held, marks, carried, p.arms)?;
-    if walk.at < p.trailer {
-        return Err(Refusal::Word);
-    }
-    Ok(())
+    check_end(walk.at, p.trailer)
 }
 
 // The head and the arms; then whether every binder had a row.

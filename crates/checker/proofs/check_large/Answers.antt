@@ -9,10 +9,10 @@ pub check_sized-requires-clause-few : goal.check_sized-requires-clause-few
 check_sized-requires-clause-few c =
     simp length-words (omega arith)
 
-pub check_sized-requires-then-s-le8192-clause-few : goal.check_sized-requires-then-s-le8192-clause-few
-check_sized-requires-then-s-le8192-clause-few c =
+pub check_sized-requires-in-4097-to-8192-clause-few : goal.check_sized-requires-in-4097-to-8192-clause-few
+check_sized-requires-in-4097-to-8192-clause-few c =
     simp length-words (omega arith)
 
-pub returns-clause-answers : goal.returns-clause-answers
-returns-clause-answers c =
-    long-answer c.args.warns c.args.s.now (lent c.args.lists.now) c.args.room c.if-s-le8192.false
+pub returns-in_default-clause-answers : goal.returns-in_default-clause-answers
+returns-in_default-clause-answers c =
+    long-answer c.args.warns c.args.s.now (lent c.args.lists.now) c.args.room (omega (arith, c.in_default.not))

@@ -7,6 +7,6 @@ pub check_sized-requires-clause-few : goal.check_sized-requires-clause-few
 check_sized-requires-clause-few c =
     simp length-words (omega arith)
 
-pub check_sized-requires-then-s-le1024-clause-few : goal.check_sized-requires-then-s-le1024-clause-few
-check_sized-requires-then-s-le1024-clause-few c =
+pub check_sized-requires-in-257-to-1024-clause-few : goal.check_sized-requires-in-257-to-1024-clause-few
+check_sized-requires-in-257-to-1024-clause-few c =
     simp length-words (omega arith)
