@@ -1,6 +1,9 @@
 // Expressions and patterns of a section, read in place. The two call each other, an expression for the pattern within it and a pattern
-// for its properties, and the words that are left fall.
+// for its properties, and the words that are left fall. Rows of them are loops of their own and share no trait: an item's reader and its row's
+// stand in one cycle of calls.
 #![tactic(auto)]
+
+mod types;
 
 ghost use Rattle.std.specs.Prelude.{Bool, ℕ, ◌≤◌, length, drop};
 ghost use Rattle.heads.specs.Answer.{Reads, words_of, tables_of, kind_of};
@@ -8,6 +11,7 @@ ghost use Rattle.expr.specs.Read.{reader_of, no_more, no_steps, times, marks, el
 
 use heads::{MarkKind, Section};
 use refusal::Refusal;
+pub use types::Type;
 
 // An expression, with room for this many levels.
 #[cycle(readers)]

@@ -1,5 +1,8 @@
 -- The text of a finding, or the refusal that comes first (document 01's table: 1 to 3, then 9).
-use Rattle.std.specs.Prelude.{ℕ, zero, suc, Bool, cond, not, ◌&&◌, List, [], eqb, ltb, Option, None, Some}
+use denote.Ref.{Bor}
+use Rattle.std.specs.Prelude.{ℕ, zero, suc, ◌≡◌, Bool, true, false, cond, not, ◌&&◌, List, [], eqb, ltb, Option, None, Some, Result, Ok, Err}
+use Rattle.refusal.specs.Number.{number_of}
+use Rattle.refusal.specs.declared.Refusal.{Refusal}
 use Rattle.tables.specs.Distinct.{same_bytes}
 use Rattle.sheet.specs.Read.{Sheet, accepted, refused, then', unless, read_text}
 use Rattle.texts.specs.Bytes.{bytes}
@@ -22,6 +25,20 @@ name_or9 (refused c) = refused (cond (eqb c 5) 9 c)
 unfoldable pub name_text : List ℕ → ℕ → Sheet (List ℕ)
 name_text s zero = nameless (read_text s 0)
 name_text s (suc i) = name_or9 (read_text s i)
+
+-- the text of a name that is cited or not, and whether one is
+abbrev pub text_in : Option (Bor (List ℕ)) → List ℕ
+text_in None = []
+text_in (Some x) = x.now
+
+abbrev pub is_cited : Option (Bor (List ℕ)) → Bool
+is_cited None = false
+is_cited (Some x) = true
+
+-- what is found of "name + 1 or 0"
+abbrev pub Cites : List ℕ → ℕ → Result (Option (Bor (List ℕ))) Refusal → Type 0
+Cites s name (Ok x) = (name_text s name ≡ accepted (text_in x)) × (ltb 0 name ≡ is_cited x)
+Cites s name (Err e) = name_text s name ≡ refused (number_of e)
 
 -- E1001 comes "except `*`"
 abbrev pub starred : ℕ → List ℕ → Bool

@@ -4,27 +4,16 @@
 
 mod pushes;
 
-ghost use Rattle.std.specs.Prelude.{◌≡◌, cond, eqb, IfOk, IfErr};
+ghost use Rattle.std.specs.Prelude.{◌≡◌, cond, eqb};
 ghost use Rattle.refusal.specs.Number.{number_of};
-ghost use Rattle.sheet.specs.Read.{accepted, refused, read_text};
 ghost use Rattle.texts.specs.Codes.{text_for};
 ghost use Rattle.texts.specs.Page.{Writes};
-ghost use Rattle.message.specs.Message.{starred, name_text, text_if, message};
+ghost use Rattle.message.specs.Message.{starred, Cites, is_cited, text_in, text_if, message};
 
 use pushes::push_of;
 use refusal::Refusal;
-use sheet::find_name;
-use tables::name_at;
+use sheet::text_at;
 use texts::{text_for, text_len, write_text};
-
-// The text of the name with the index i.
-fn text_at(s: &[u8], i: u32) -> Result<&[u8], Refusal>
-    ensures text { IfOk result (λ x. read_text s.now i ≡ accepted x.now) }
-    ensures cause { IfErr result (λ refusal. read_text s.now i ≡ refused (number_of refusal)) }
-{
-    let (p, e) = find_name(s, i)?;
-    Ok(name_at(&s[..e], p as usize))
-}
 
 // A name that is cited and that the table has not is no question that can be asked.
 fn cited(refusal: Refusal) -> Refusal
@@ -36,23 +25,19 @@ fn cited(refusal: Refusal) -> Refusal
     }
 }
 
-// The name that is cited as its index + 1, or, for 0, no byte: there, that the table has no name is no cause.
-fn find_text(s: &[u8], name: u32) -> Result<&[u8], Refusal>
-    ensures text { IfOk result (λ x. name_text s.now name ≡ accepted x.now) }
-    ensures cause { IfErr result (λ refusal. name_text s.now name ≡ refused (number_of refusal)) }
+// The text of the name that is cited as its index + 1, or none for 0: there, that the table has no name is no cause.
+fn find_text(s: &[u8], name: u32) -> Result<Option<&[u8]>, Refusal>
+    ensures { Cites s.now name result }
 {
-    if name == 0 {
-        return match text_at(s, 0) {
-            Ok(_) => Ok(b""),
+    match name.checked_sub(1) {
+        Some(i) => text_at(s, i).map(Some).map_err(cited),
+        None => match text_at(s, 0) {
+            Ok(_) => Ok(None),
             Err(refusal) => match refusal {
-                Refusal::Word => Ok(b""),
+                Refusal::Word => Ok(None),
                 other => Err(other),
             },
-        };
-    }
-    match text_at(s, name - 1) {
-        Ok(x) => Ok(x),
-        Err(refusal) => Err(cited(refusal)),
+        },
     }
 }
 
@@ -63,23 +48,23 @@ fn is_starred(code: u32, x: &[u8]) -> bool
     (code == 1001) & (x == b"*".as_slice())
 }
 
-// The text of a finding whose name is x, into the page.
+// The text of a finding, and of a name if one is cited, into the page.
 fn say(
     code: u32,
-    named: bool,
-    x: &[u8],
+    name: Option<&[u8]>,
     one: u32,
     two: u32,
     page: &mut [u8],
 ) -> Result<usize, Refusal>
-    ensures { Writes (text_if (text_for code one) named code x.now two) page.old page.new result }
+    ensures { Writes (text_if (text_for code one) (is_cited name.entry) code (text_in name.entry) two) page.old page.new result }
 {
     let Some(text) = text_for(code, one) else {
         return Err(Refusal::Asked);
     };
-    if !push_of(text).allows(named, two) {
+    if !push_of(text).allows(name.is_some(), two) {
         return Err(Refusal::Asked);
     }
+    let x = name.unwrap_or_default();
     if is_starred(code, x) {
         return Err(Refusal::Asked);
     }
@@ -100,6 +85,6 @@ pub fn message(
 ) -> Result<usize, Refusal>
     ensures { Writes (message s.now code name one two) page.old page.new result }
 {
-    let x = find_text(s, name)?;
-    say(code, 0 < name, x, one, two, page)
+    let text = find_text(s, name)?;
+    say(code, text, one, two, page)
 }

@@ -2,26 +2,11 @@
 ghost use Rattle.std.specs.Prelude.{◌≡◌};
 ghost use Rattle.message.specs.Pushes.{push_of, gives};
 
+use expr::Type;
+use tables::VarKind;
 use texts::Text;
 
-// Kinds and types, as detail two has them.
-#[derive(Clone, Copy, Debug, PartialEq, Eq)]
-enum Kind {
-    Node = 1,
-    Relationship = 2,
-    Path = 3,
-    Value = 4,
-}
-
-#[derive(Clone, Copy, Debug, PartialEq, Eq)]
-enum Type {
-    Bool = 1,
-    Int = 2,
-    String = 4,
-    Path = 10,
-}
-
-// What comes with a text: a name or none; detail two from low to high, but one.
+// What comes with a text: a name or none; detail two, the number of a kind or a type, from low to high, but one.
 #[derive(Clone, Copy)]
 pub struct Push {
     pub named: bool,
@@ -41,8 +26,8 @@ const PLAIN: Push = Push {
 // A name and its kind.
 const ANY_KIND: Push = Push {
     named: true,
-    low: Kind::Node as u32,
-    high: Kind::Value as u32,
+    low: VarKind::Node as u32,
+    high: VarKind::Value as u32,
     but: 0,
 };
 
@@ -63,24 +48,24 @@ pub fn push_of(t: Text) -> Push
         Text::Unresolved => PLAIN,
         Text::Shadows => PLAIN,
         Text::Arithmetic => Push {
-            high: Kind::Path as u32,
+            high: VarKind::Path as u32,
             ..ANY_KIND
         },
         Text::PropAccess => Push {
-            low: Kind::Path as u32,
-            high: Kind::Path as u32,
+            low: VarKind::Path as u32,
+            high: VarKind::Path as u32,
             ..ANY_KIND
         },
         Text::PathBinder => Push {
-            but: Kind::Path as u32,
+            but: VarKind::Path as u32,
             ..ANY_KIND
         },
         Text::NodePosition => Push {
-            but: Kind::Node as u32,
+            but: VarKind::Node as u32,
             ..ANY_KIND
         },
         Text::RelPosition => Push {
-            but: Kind::Relationship as u32,
+            but: VarKind::Relationship as u32,
             ..ANY_KIND
         },
         Text::Index => ANY_TYPE,

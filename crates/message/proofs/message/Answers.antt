@@ -4,10 +4,10 @@ use Rattle.texts.proofs.Giving.{gives-refusal}
 use Rattle.message.specs.Message.{message}
 use Rattle.message.proofs.message.Goals as goal
 
-pub returns-in_err-x : goal.returns-in_err-x
+pub returns-in_err-text : goal.returns-in_err-text
 unfolding message
-returns-in_err-x c = rw (c.in_err-x.ensures.cause, handed _ _ c.from_residual.ensures) (gives-refusal c.in_err-x.field-0.0 _)
+returns-in_err-text c = rw (c.in_err-text.ensures, handed _ _ c.from_residual.ensures) (gives-refusal c.in_err-text.field-0.0 _)
 
 pub returns : goal.returns
 unfolding message
-returns c = rw c.in_ok-x.ensures.text c.say.ensures
+returns c = rw (c.in_ok-text.ensures.0, c.in_ok-text.ensures.1) c.say.ensures
