@@ -4,20 +4,26 @@ use Prim.Native.Nat.{ℕ, zero, suc, ◌+◌, ◌<◌, ◌≤◌}
 use native.Mathlib.Omega.{arith}
 use native.Mathlib.Nat.{mod-lt}
 use mathlib.Core.Path.{◌≡◌, refl, ap, sym, ◌∙◌}
-use mathlib.Core.Bool.{Bool, true, false, cond, ◌||◌}
+use mathlib.Core.Bool.{Bool, true, false, cond, not, ◌&&◌, ◌||◌}
 use mathlib.Core.List.{List, [], ◌∷◌, ◌++◌, map-append}
 use lib.Dec.{eqb}
+use Rattle.std.specs.Simd.{first_chunks}
+use Rattle.std.specs.Prelude.{map, ◌/◌, take, drop}
+use Rattle.std.proofs.Common.{add-one}
+use Rattle.std.proofs.lemmas.List.{take_all}
+use Rattle.words.proofs.Words.{drop-word}
+use Rattle.tables.specs.Name.{name_at}
+use Rattle.words.specs.Words.{words, le32}
 use lib.ListN.{length, get_or, set, length-set}
-use lib.Seq.{take-suc, get_or-set_same, get_or-set_other}
+use lib.Seq.{get_or-take, length-take-le, take-suc, get_or-set_same, get_or-set_other}
 use borrow.Author.Tests.{eqb-true, eqb-false}
 use mathlib.Core.Logic.{◌≢◌}
-use Rattle.tables.specs.Distinct.{same_bytes, name_in}
-use Rattle.tables.specs.Answer.{names_in}
+use Rattle.tables.specs.Distinct.{same_bytes, name_in, fresh_after}
 use Rattle.std.specs.Prelude.{None, Some, Option, is_some}
-use Rattle.rows.specs.Rows.{newest, number_of, Hangs}
+use Rattle.rows.specs.Rows.{newest, seek, number_of, Hangs}
 use Rattle.rows.proofs.Chains.{none-chained}
 use Rattle.name_chains.specs.Slot.{slot_of}
-use Rattle.name_chains.specs.Hung.{text_in, itself, slot_in, Cleared, Hung}
+use Rattle.name_chains.specs.Hung.{text_in, texts_in, itself, slot_in, Cleared, Hung}
 
 pub slot-below : (mult m : ℕ) → 0 < m → (x : List ℕ) → slot_of mult m x < m
 unfolding slot_of
@@ -53,18 +59,60 @@ unfolding name_in
 last-in x y [] = refl
 last-in x y (z ∷ ys) = rw (last-in x y ys) (swap (same_bytes x z) (same_bytes x y) (name_in x ys))
 
-named-some : (s places x : List ℕ) (n : ℕ) → n ≤ length places → name_in x (names_in s n places) ≡ some (newest (λ i. same_bytes x (text_in s places i)) n)
+named-some : (s places x : List ℕ) (n : ℕ) → n ≤ length places → name_in x (texts_in s (take n places)) ≡ some (newest (λ i. same_bytes x (text_in s places i)) n)
 unfolding newest name_in
 named-some s places x zero h = refl
 named-some s places x (suc t) h =
     let same = same_bytes x (text_in s places t) in
     rw (take-suc places t 0 (omega arith), map-append)
-    (last-in x (text_in s places t) (names_in s t places) ∙ ap (◌||◌ same) (named-some s places x t (omega arith)) ∙ sym (some-or same t _))
+    (last-in x (text_in s places t) (texts_in s (take t places)) ∙ ap (◌||◌ same) (named-some s places x t (omega arith)) ∙ sym (some-or same t _))
+
+all-named : (s places x : List ℕ) → name_in x (texts_in s places) ≡ some (newest (λ i. same_bytes x (text_in s places i)) (length places))
+all-named s places x = rw (take_all (length places) places (omega arith)) at (named-some s places x (length places) (omega arith))
 
 -- a text is one of the names where the newest that is the same is some name
-pub named : (s places x : List ℕ) (n : ℕ) (r : Option ℕ) → n ≤ length places → number_of r ≡ newest (λ i. same_bytes x (text_in s places i)) n → is_some r ≡ name_in x (names_in s n places)
-named s places x n None h e = sym (named-some s places x n h ∙ ap some (sym e))
-named s places x n (Some i) h e = sym (named-some s places x n h ∙ ap some (sym e))
+pub named : (s places x : List ℕ) (r : Option ℕ) → number_of r ≡ newest (λ i. same_bytes x (text_in s places i)) (length places) → is_some r ≡ name_in x (texts_in s places)
+named s places x None e = sym (all-named s places x ∙ ap some (sym e))
+named s places x (Some i) e = sym (all-named s places x ∙ ap some (sym e))
+
+-- the name i is not one of those before it, and so on
+pub fresh-next : (s places : List ℕ) (i : ℕ) → i < length places → fresh_after name_in (texts_in s (take i places)) (texts_in s (drop i places)) ≡ (not (name_in (text_in s places i) (texts_in s (take i places))) && fresh_after name_in (texts_in s (take (i + 1) places)) (texts_in s (drop (i + 1) places)))
+unfolding fresh_after
+fresh-next s places i h = rw (drop-word places i h, add-one i, take-suc places i 0 h, map-append)
+
+-- what is sought among the first keys depends on no others
+seek-alike : (f h : ℕ → ℕ) (v t : ℕ) → ((j : ℕ) → j < t → f j ≡ h j) → seek f v t ≡ seek h v t
+unfolding newest
+seek-alike f h v zero e = refl
+seek-alike f h v (suc t) e = rw (e t (omega arith), seek-alike f h v t (λ j l. e j (omega arith)))
+
+-- the names that hang are the first
+pub first-hung : {slot : List ℕ → ℕ} {m n : ℕ} {chains : List ℕ} (s places : List ℕ) → n ≤ length places → Hung slot s places m n chains → Hung slot s (take n places) m (length (take n places)) chains
+first-hung {slot} {m} {n} {chains} s places h w =
+    let all : length (take n places) ≡ n = length-take-le n places h in
+    let same : (i : ℕ) → i < n → slot_in slot s places i ≡ slot_in slot s (take n places) i = λ i l. ap (λ p. slot (name_at s p)) (sym (get_or-take n places i 0 l)) in
+    rw all (record {
+      below = w.below;
+      chained = record {
+        room = w.chained.room;
+        heads = λ b l. w.chained.heads b l ∙ seek-alike _ _ b n same;
+        prevs = λ i l. w.chained.prevs i l ∙ rw (same i l) (seek-alike _ _ (slot_in slot s (take n places) i) i (λ j k. same j (omega arith)));
+      };
+    })
+
+-- the words of a text, four bytes each
+abbrev pub word_of : List ℕ → ℕ
+word_of b = le32 (get_or b 0 0) (get_or b 1 0) (get_or b 2 0) (get_or b 3 0)
+
+pub words_chunks : (s : List ℕ) → map word_of (first_chunks 4 (length s / 4) s) ≡ words s
+unfolding words
+words_chunks [] = refl
+words_chunks (a ∷ []) = refl
+words_chunks (a ∷ (b ∷ [])) = refl
+words_chunks (a ∷ (b ∷ (c ∷ []))) = refl
+words_chunks (a ∷ (b ∷ (c ∷ (d ∷ s)))) =
+    let more : length (a ∷ (b ∷ (c ∷ (d ∷ s)))) / 4 ≡ suc (length s / 4) = omega arith in
+    rw more (ap (◌∷◌ (le32 a b c d)) (words_chunks s))
 
 -- one name more
 pub one_more : {slot : List ℕ → ℕ} {s places : List ℕ} {m n x : ℕ} {old new : List ℕ} → Hung slot s places m n old → x ≡ slot_in slot s places n → Hangs m x n old new → Hung slot s places m (suc n) new

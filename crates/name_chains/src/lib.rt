@@ -5,14 +5,13 @@
 #![tactic(auto)]
 
 ghost use Rattle.std.specs.Prelude.{◌≡◌, ◌+◌, ◌/◌, ◌<◌, ◌≤◌, length};
-ghost use Rattle.words.specs.Words.{words};
 ghost use Rattle.tables.specs.Distinct.{name_in, distinct};
-ghost use Rattle.tables.specs.Answer.{names_in, Roomy};
+ghost use Rattle.tables.specs.Answer.{Roomy};
 ghost use Rattle.sheet.specs.Answer.{Tabled};
-ghost use Rattle.name_chains.specs.Slot.{folded, hash_from, hash_of, slot_of};
-ghost use Rattle.name_chains.specs.Hung.{text_in, Cleared, Hung};
+ghost use Rattle.name_chains.specs.Slot.{folded, hash_of, slot_of};
+ghost use Rattle.name_chains.specs.Hung.{text_in, texts_in, Cleared, Hung};
 
-use rows::{hang, newest_in};
+use rows::{hang, multiplier, newest_in};
 use tables::{distinct_names, name_at, scan_names};
 use words::{count, word};
 
@@ -28,23 +27,16 @@ fn fold(a: u32, b: u32) -> u32
     ((product / 4294967296) as u32) ^ ((product % 4294967296) as u32)
 }
 
-// The hash of the whole words of a text.
-fn hash_words(text: &[u8], mult: u32) -> u32
-    ensures { result ≡ hash_from mult mult (words text.now) }
-{
-    let mut hash = mult;
-    for i in 0..count(text) {
-        hash = fold(hash ^ word(text, i), mult);
-    }
-    hash
-}
-
 // The hash of a text: of its whole words, then of the bytes after them.
 fn hash(text: &[u8], mult: u32) -> u32
     ensures { result ≡ hash_of mult text.now }
 {
-    let mut hash = hash_words(text, mult);
-    for byte in &text[text.len() / 4 * 4..] {
+    let (whole, rest) = text.as_chunks::<4>();
+    let mut hash = mult;
+    for bytes in whole {
+        hash = fold(hash ^ u32::from_le_bytes(*bytes), mult);
+    }
+    for byte in rest {
         hash = fold(hash ^ u32::from(*byte), mult);
     }
     hash
@@ -69,19 +61,17 @@ impl Slots {
     }
 }
 
-// The first names of a section, by the bytes where they stand.
+// The names of a section, by the bytes where they stand.
 #[derive(Clone, Copy)]
 struct Names<'a> {
     bytes: &'a [u8],
     places: &'a [u32],
-    count: usize,
-    ghost within: { count ≤ length places.now },
 }
 
 impl Names<'_> {
     // The text of a name.
     fn text(&self, name: usize) -> &[u8]
-        requires { name < self.now.count }
+        requires { name < length self.now.places.now }
         ensures { result.now ≡ text_in self.now.bytes.now self.now.places.now name }
     {
         name_at(self.bytes, self.places[name] as usize)
@@ -89,9 +79,9 @@ impl Names<'_> {
 
     // Whether a text, by its slot, is one of the names, which hang in chains.
     fn contains(&self, slots: Slots, chains: &[u32], text: &[u8], slot: usize) -> bool
-        requires hung { Hung (slot_of slots.mult slots.count) self.now.bytes.now self.now.places.now slots.count self.now.count chains.now }
+        requires hung { Hung (slot_of slots.mult slots.count) self.now.bytes.now self.now.places.now slots.count (length self.now.places.now) chains.now }
         requires here { slot ≡ slot_of slots.mult slots.count text.now }
-        ensures { result ≡ name_in text.now (names_in self.now.bytes.now self.now.count self.now.places.now) }
+        ensures { result ≡ name_in text.now (texts_in self.now.bytes.now self.now.places.now) }
     {
         let is = |name| text == self.text(name as usize);
         newest_in(chains, slots.count, slot, is).is_some()
@@ -99,16 +89,16 @@ impl Names<'_> {
 
     // Whether no two of the names are the same, over slots that are all empty.
     fn distinct(&self, slots: Slots, chains: &mut [u32]) -> bool
-        requires few { self.now.count < 4294967295 }
-        requires room { slots.count + self.now.count ≤ length chains.old }
+        requires few { length self.now.places.now < 4294967295 }
+        requires room { slots.count + length self.now.places.now ≤ length chains.old }
         requires empty { Hung (slot_of slots.mult slots.count) self.now.bytes.now self.now.places.now slots.count 0 chains.old }
-        ensures { result ≡ distinct name_in (names_in self.now.bytes.now self.now.count self.now.places.now) }
+        ensures { result ≡ distinct name_in (texts_in self.now.bytes.now self.now.places.now) }
     {
-        for i in 0..self.count {
+        // By index: each name is sought among the i before it.
+        for i in 0..self.places.len() {
             let before = Names {
                 bytes: self.bytes,
-                places: self.places,
-                count: i,
+                places: &self.places[..i],
             };
             let text = self.text(i);
             let slot = slots.of(text);
@@ -119,18 +109,6 @@ impl Names<'_> {
         }
         true
     }
-}
-
-// A multiplier, made from the words of the section: few names need none of their own. Whoever writes all of them can still choose it.
-fn mult_for(s: &[u8], n: usize) -> u32 {
-    if n <= 16 {
-        return 2654435769;
-    }
-    let mut hash: u32 = 2166136261;
-    for i in 0..count(s) {
-        hash = fold(hash ^ word(s, i), 2654435769);
-    }
-    hash / 2 * 2 + 1
 }
 
 // How many slots there are, in so much room: the next power of two from n on, or the largest that there is room for.
@@ -154,21 +132,21 @@ fn clear(chains: &mut [u32], m: usize)
     chains[..m].fill(0);
 }
 
-// Whether no two of the first n names are the same. The lent words need one more than n, and hold anything at first.
-pub fn distinct_by_chains(s: &[u8], places: &[u32], n: usize, chains: &mut [u32]) -> bool
-    requires { ((n ≤ length places.now) × (n < 4294967295)) × (n < length chains.old) }
-    ensures { result ≡ distinct name_in (names_in s.now n places.now) }
+// Whether no two of the names that stand at the places are the same. The lent words need one more than there are names, and hold anything at
+// first.
+pub fn distinct_by_chains(s: &[u8], places: &[u32], chains: &mut [u32]) -> bool
+    requires { (length places.now < 4294967295) × (length places.now < length chains.old) }
+    ensures { result ≡ distinct name_in (texts_in s.now places.now) }
 {
+    // The multiplier is made from all the words of the section.
+    let words = count(s).min(u32::MAX as usize) as u32;
+    let n = places.len();
     let slots = Slots {
-        mult: mult_for(s, n),
+        mult: multiplier(words, |i| word(s, i as usize)),
         count: slots_in(chains.len() - n, n),
     };
     clear(chains, slots.count);
-    let names = Names {
-        bytes: s,
-        places,
-        count: n,
-    };
+    let names = Names { bytes: s, places };
     names.distinct(slots, chains)
 }
 
@@ -186,5 +164,5 @@ pub fn are_names(s: &[u8], n: u32, tab: &mut [u32], ids: &mut [u32], chains: &mu
     if n <= FEW {
         return distinct_names(s, tab, ids, n as usize);
     }
-    distinct_by_chains(s, tab, n as usize, chains)
+    distinct_by_chains(s, &tab[..n as usize], chains)
 }

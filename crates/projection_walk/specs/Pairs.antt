@@ -11,6 +11,10 @@ unfoldable pub pairs_in : ℕ → List ℕ → List Pair
 pairs_in zero held = []
 pairs_in (suc n) held = pairs_in n held ++ (pair (get_or held (n * 2) 0) (get_or held (n * 2 + 1) 0) ∷ [])
 
+-- the name and the variable of the pair i
+abbrev pub pair_at : ℕ → Pairs → ℕ × ℕ
+pair_at i p = (get_or p.words.now (i * 2) 0, get_or p.words.now (i * 2 + 1) 0)
+
 abbrev pub pairs_of : Pairs → List Pair
 pairs_of p = pairs_in p.count p.words.now
 

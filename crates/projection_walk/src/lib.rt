@@ -23,7 +23,7 @@ use walk::{walk_expr, walk_row};
 
 // A Var and a name are the two forms of a projection that a WITH carries without an alias too; any other is carried under its alias alone.
 #[derive(Clone, Copy)]
-pub enum Direct {
+enum Direct {
     Var(u32),
     Name(u32),
     Other,
@@ -93,22 +93,9 @@ fn direct_of(f: Form) -> Direct
     ensures { DirectAs f result }
 {
     match f {
-        Form::Leaf(_) => Direct::Other,
         Form::Var(v) => Direct::Var(v),
         Form::Unresolved(x) => Direct::Name(x),
-        Form::Prop(_) => Direct::Other,
-        Form::Two(_) => Direct::Other,
-        Form::Slice(_) => Direct::Other,
-        Form::Many(_, _) => Direct::Other,
-        Form::BinOp(_) => Direct::Other,
-        Form::UnaryOp(_) => Direct::Other,
-        Form::Case(_, _) => Direct::Other,
-        Form::IsNull => Direct::Other,
-        Form::PatternPredicate => Direct::Other,
-        Form::ListComprehension(_) => Direct::Other,
-        Form::PatternComprehension(_, _, _) => Direct::Other,
-        Form::ListPredicate(_) => Direct::Other,
-        Form::MapProjection(_) => Direct::Other,
+        _ => Direct::Other,
     }
 }
 

@@ -1,5 +1,8 @@
 -- The scan reads the names or refuses; then all the bytes are read, and no two names are the same, by pairs or by chains.
 use native.Mathlib.Omega.{arith}
+use Prim.Native.Nat.{◌≤◌}
+use lib.ListN.{length}
+use lib.Seq.{length-take-le}
 use Rattle.sheet.proofs.Section.{names-refused, names-left, names-whole}
 use Rattle.name_chains.proofs.are_names.Goals as goal
 
@@ -27,7 +30,8 @@ pub distinct_by_chains-requires : goal.distinct_by_chains-requires
 distinct_by_chains-requires c =
     let scanned = c.in-Ok.ensures in
     let x = scanned in
-    ((omega (arith, x.ends), omega arith), omega (arith, x.ends))
+    let few : c.args.n ≤ length c.scan_names.new.tab = omega (arith, x.ends) in
+    rw (length-take-le c.args.n c.scan_names.new.tab few) (omega arith, omega (arith, x.ends))
 
 pub returns : goal.returns
 returns c =

@@ -1,5 +1,5 @@
 -- The newest name with the text, along the chain of its slot, tells whether it is one of the names.
-use Rattle.std.proofs.Common.{rules, ap, sym, ◌∙◌}
+use Rattle.std.proofs.Common.{rules, length, ap, sym, ◌∙◌}
 use Rattle.tables.specs.Distinct.{same_bytes}
 use Rattle.tables.proofs.Fresh.{same-eq, same-pointwise}
 use Rattle.name_chains.specs.Slot.{slot_of}
@@ -14,8 +14,8 @@ returns c =
     let slot = slot_of a.slots.mult a.slots.count in
     let f = text_in names.bytes.now names.places.now in
     c.is_some.ensures
-    ∙ named names.bytes.now names.places.now a.text.now names.count c.newest_in.result names.within
-    (c.newest_in.ensures itself (slot_in slot names.bytes.now names.places.now) names.count (λ i. same_bytes a.text.now (f i))
+    ∙ named names.bytes.now names.places.now a.text.now c.newest_in.result
+    (c.newest_in.ensures itself (slot_in slot names.bytes.now names.places.now) (length names.places.now) (λ i. same_bytes a.text.now (f i))
     (record {
       chained = c.requires.hung.chained;
       said = λ i b l s. same-pointwise a.text.now (f i) ∙ search rules;
