@@ -12,9 +12,6 @@ ghost use Rattle.entries.specs.Filled.{recorded_words};
 ghost use Rattle.entries.specs.Adding.{Becomes, place, begins, answer};
 ghost use Rattle.entries.specs.Stamps.{Knows, Marks, Finds, Stores, Makes, Carries, Fits, IsStill, bound_of, kept};
 
-// The number that has no next one.
-const LAST: u32 = u32::MAX;
-
 // A binding of a name in a scope.
 #[derive(Clone, Copy, Debug, PartialEq, Eq)]
 pub struct Binding {
@@ -78,21 +75,13 @@ fn is_new(stamps: &[u32], scope: u32, name: u32) -> bool
     requires { 1 ≤ length stamps.now }
     ensures { result ≡ true → Knows stamps.now scope name → ⊥ }
 {
-    if scope == LAST {
+    let Some(stamp) = scope.checked_add(1) else {
         return false;
+    };
+    if stamp != stamps[0] {
+        return stamps[0] < stamp;
     }
-    let top = stamps[0];
-    if top <= scope {
-        return true;
-    }
-    if scope + 1 < top {
-        return false;
-    }
-    let i = name as usize + 1;
-    if stamps.len() <= i {
-        return false;
-    }
-    stamps[i] != top
+    stamps.get(name as usize + 1).is_some_and(|s| *s != stamp)
 }
 
 // The place of a binding among m, by the stamps or by a search.
@@ -111,17 +100,16 @@ fn mark(stamps: &mut [u32], scope: u32, name: u32)
     requires { 1 ≤ length stamps.old }
     ensures { Marks scope name stamps.old stamps.new }
 {
-    if scope == LAST {
+    let Some(stamp) = scope.checked_add(1) else {
+        return;
+    };
+    if stamp < stamps[0] {
         return;
     }
-    let top = scope + 1;
-    if top < stamps[0] {
-        return;
-    }
-    stamps[0] = top;
+    stamps[0] = stamp;
     let i = name as usize + 1;
     if i < stamps.len() {
-        stamps[i] = top;
+        stamps[i] = stamp;
     }
 }
 

@@ -6,8 +6,8 @@ use Rattle.entries.proofs.mark.Goals as goal
 
 pub returns-then-i-stamps : goal.returns-then-i-stamps
 returns-then-i-stamps c =
-    marked _ _ _ (rw length-set at c.if-i-stamps.true) (omega arith)
+    rw c.in-Some.ensures.1 (marked _ _ _ (rw length-set at c.if-i-stamps.true) (omega arith))
 
 pub returns-else-i-stamps : goal.returns-else-i-stamps
 returns-else-i-stamps c =
-    raised _ _ _ (omega arith) (rw length-set at c.if-i-stamps.false) (omega arith)
+    rw c.in-Some.ensures.1 (raised _ _ _ (omega arith) (rw length-set at c.if-i-stamps.false) (omega arith))
