@@ -57,7 +57,8 @@ pub fn put_carried(out: &mut [u32], n: u32, barrier: u32, x: u32, v: u32)
     set_entry(out, i, [barrier, x, v]);
 }
 
-// The place of the first of m entries of W words that begins with a key, or m.
+// The place of the first of m entries of W words that begins with a key, or m. By index: tried `position` over `as_chunks`, and nothing is known of a
+// closure over arrays of any length.
 fn place_of<const W: usize>(out: &[u32], m: usize, key: &[u32]) -> usize
     requires { m * W ≤ length out.now }
     ensures { (result ≤ m) × (result ≡ place (begins key.now) (entries_of W (λ words. words) m out.now)) }
@@ -95,7 +96,7 @@ fn place_for(out: &[u32], m: usize, stamps: &[u32], scope: u32, name: u32) -> us
     place_of::<6>(out, m, &[scope, name])
 }
 
-// The stamps with a scope's name.
+// The stamps with a scope's name. By a test and not by `get_mut`: tried, and the proof didn't close.
 fn mark(stamps: &mut [u32], scope: u32, name: u32)
     requires { 1 ≤ length stamps.old }
     ensures { Marks scope name stamps.old stamps.new }
