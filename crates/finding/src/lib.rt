@@ -44,10 +44,7 @@ pub fn record_at(flat: &[u32], i: usize) -> Finding
     requires { i * 6 + 6 ≤ length flat.now }
     ensures { result ≡ record_at flat.now i }
 {
-    let at = i * 6;
-    let mut words = [0u32; 6];
-    words.copy_from_slice(&flat[at..at + 6]);
-    Finding::from(words)
+    Finding::from(*flat[i * 6..].first_chunk().unwrap())
 }
 
 // A record's six words, stored at place i of a flat list.

@@ -77,9 +77,7 @@ fn six_at(found: &[u32], p: usize) -> [u32; 6]
     requires { p + 6 ≤ length found.now }
     ensures { result ≡ six_at found.now p }
 {
-    let mut words = [0; 6];
-    words.copy_from_slice(&found[p..p + 6]);
-    words
+    *found[p..].first_chunk().unwrap()
 }
 
 // What was left as the event numbered i.
