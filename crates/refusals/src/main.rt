@@ -1,68 +1,36 @@
-// A row of sheets on standard input, each after its byte length as a little-endian word. A line each: the refusal's number, or 0.
+// A row of sheets on standard input, each after its byte length as a little-endian word. A line each: the refusal's number, or 0. No heap:
+// what is read goes through an array of the largest size.
 #![tactic(auto)]
 
+use refusal::Refusal;
 use std::io;
 use std::io::{Read, Write};
-use streams::read_full;
+use streams::{read_full, read_length, skip};
 
-// The refusal of a sheet, or 0.
-fn refusal(s: &[u8]) -> u32 {
-    match sheet::open(s) {
-        Ok(_) => 0,
-        Err(refusal) => u32::from(refusal),
-    }
-}
-
-// Reads past n bytes, room's length at a time, or to the input's end.
-fn skip<R: Read>(input: &mut R, n: usize, room: &mut [u8]) -> io::Result<()> {
-    let mut left = n;
-    // Each turn reads as much as there is room for.
-    while 0 < left {
-        let k = left.min(room.len());
-        if k == 0 {
-            return Ok(());
-        }
-        if read_full(input, &mut room[..k])? < k {
-            return Ok(());
-        }
-        left -= k;
-    }
-    Ok(())
-}
-
-// A sheet of n bytes; one that is longer than room is too long for a sheet. False where the bytes aren't there.
-fn sheet_line<R: Read, W: Write>(
-    input: &mut R,
-    out: &mut W,
-    n: usize,
-    room: &mut [u8],
-) -> io::Result<bool> {
+// A sheet of n bytes; one that is longer than there is room for is too long for a sheet. False where the bytes aren't there.
+fn sheet_line<R: Read, W: Write>(input: &mut R, out: &mut W, n: usize) -> io::Result<bool> {
+    let mut room = [0u8; 8192];
     if room.len() < n {
-        skip(input, n, room)?;
-        writeln!(out, "1")?;
+        skip(input, n)?;
+        writeln!(out, "{}", u32::from(Refusal::Size))?;
         return Ok(true);
     }
     if read_full(input, &mut room[..n])? < n {
         return Ok(false);
     }
-    writeln!(out, "{}", refusal(&room[..n]))?;
+    let number = sheet::open(&room[..n]).err().map_or(0, u32::from);
+    writeln!(out, "{number}")?;
     Ok(true)
-}
-
-fn one<R: Read, W: Write>(input: &mut R, out: &mut W) -> io::Result<bool> {
-    let mut front = [0u8; 4];
-    if read_full(input, &mut front)? < 4 {
-        return Ok(false);
-    }
-    let mut room = [0u8; 8192];
-    sheet_line(input, out, u32::from_le_bytes(front) as usize, &mut room)
 }
 
 fn main(rt: HostRuntime) -> io::Result<()> {
     let mut input = rt.stdin();
     let mut out = rt.stdout();
-    for _ in 0..4294967295u32 {
-        if !one(&mut input, &mut out)? {
+    for _ in 0..u32::MAX {
+        let Some(n) = read_length(&mut input)? else {
+            return Ok(());
+        };
+        if !sheet_line(&mut input, &mut out, n)? {
             return Ok(());
         }
     }

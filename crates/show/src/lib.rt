@@ -1,4 +1,5 @@
-// A sheet's answers as text on a writer: its listing, and its lists after that.
+// A sheet's answers as text on a writer: its listing, and its lists after that. No heap: what is read and written goes through arrays of the
+// largest size.
 #![tactic(auto)]
 
 mod lists;
@@ -21,6 +22,7 @@ pub fn show_listing<W: Write>(out: &mut W, s: &[u8]) -> io::Result<()>
     let mut page = [0u8; 65536];
     match listing(s, true, &mut page) {
         Ok(n) => out.write_all(&page[..n]),
+        // The words are written here: a refusal's Display promises no text.
         Err(refusal) => write!(out, "refused {}\n", u32::from(refusal)),
     }
 }

@@ -1,6 +1,4 @@
 // The lists of a sheet as text on a writer: each after a line of its name and count, an entry a line, fields between blanks.
-ghost use Rattle.std.specs.Prelude.{◌<◌};
-
 use checker::{Lists, check_words};
 use std::io::Write;
 use std::{fmt, io};
@@ -19,68 +17,52 @@ impl fmt::Display for Shown {
 }
 
 // Kind, parent or `-`, start, end.
-fn scope_line<W: Write>(out: &mut W, entry: &[u32]) -> io::Result<()> {
-    if let [kind, parent, start, end] = entry {
-        let parent = Shown(parent.checked_sub(1));
-        writeln!(out, "{kind} {parent} {start} {end}")?;
-    }
-    Ok(())
+fn scope_line<W: Write>(out: &mut W, entry: &[u32; 4]) -> io::Result<()> {
+    let [kind, parent, start, end] = *entry;
+    let parent = Shown(parent.checked_sub(1));
+    writeln!(out, "{kind} {parent} {start} {end}")
 }
 
 // Scope, name, variable, kind, the variable replaced or `-`.
-fn binding_line<W: Write>(out: &mut W, entry: &[u32]) -> io::Result<()> {
-    if let [scope, name, variable, kind, replaces, replaced] = entry {
-        let replaced = Shown(if *replaces == 0 {
-            None
-        } else {
-            Some(*replaced)
-        });
-        writeln!(out, "{scope} {name} {variable} {kind} {replaced}")?;
-    }
-    Ok(())
+fn binding_line<W: Write>(out: &mut W, entry: &[u32; 6]) -> io::Result<()> {
+    let [scope, name, variable, kind, replaces, replaced] = *entry;
+    let replaced = Shown((replaces != 0).then_some(replaced));
+    writeln!(out, "{scope} {name} {variable} {kind} {replaced}")
 }
 
 // Barrier, name, variable.
-fn carried_line<W: Write>(out: &mut W, entry: &[u32]) -> io::Result<()> {
-    if let [barrier, name, variable] = entry {
-        writeln!(out, "{barrier} {name} {variable}")?;
-    }
-    Ok(())
+fn carried_line<W: Write>(out: &mut W, entry: &[u32; 3]) -> io::Result<()> {
+    let [barrier, name, variable] = *entry;
+    writeln!(out, "{barrier} {name} {variable}")
 }
 
 // Use id, and variable, kind and via_projection if there is an answer.
-fn recorded_line<W: Write>(out: &mut W, entry: &[u32]) -> io::Result<()> {
-    if let [id, found, variable, kind, via] = entry {
-        if *found == 0 {
-            return writeln!(out, "{id} unresolved");
-        }
-        writeln!(out, "{id} resolved {variable} {kind} {via}")?;
+fn recorded_line<W: Write>(out: &mut W, entry: &[u32; 5]) -> io::Result<()> {
+    let [id, found, variable, kind, via] = *entry;
+    if found == 0 {
+        return writeln!(out, "{id} unresolved");
     }
-    Ok(())
+    writeln!(out, "{id} resolved {variable} {kind} {via}")
 }
 
 // Code, start, end, name + 1 or 0, two details.
-fn record_line<W: Write>(out: &mut W, entry: &[u32]) -> io::Result<()> {
-    if let [code, start, end, name, one, two] = entry {
-        writeln!(out, "{code} {start} {end} {name} {one} {two}")?;
-    }
-    Ok(())
+fn record_line<W: Write>(out: &mut W, entry: &[u32; 6]) -> io::Result<()> {
+    let [code, start, end, name, one, two] = *entry;
+    writeln!(out, "{code} {start} {end} {name} {one} {two}")
 }
 
-// The first n entries of a list, of so many words each.
-fn list<W: Write, F: Fn(&mut W, &[u32]) -> io::Result<()>>(
+// The first n entries of a list.
+fn list<E, W: Write, F: Fn(&mut W, &E) -> io::Result<()>>(
     out: &mut W,
     name: &str,
-    width: usize,
-    words: &[u32],
+    entries: &[E],
     n: usize,
     line: F,
 ) -> io::Result<()>
-    requires width { 0 < width }
-    requires callable { F.IsAlwaysCallable line }
+    requires { F.IsAlwaysCallable line }
 {
     writeln!(out, "{name} {n}")?;
-    for entry in words.chunks_exact(width).take(n) {
+    for entry in entries.iter().take(n) {
         line(out, entry)?;
     }
     Ok(())
@@ -88,7 +70,13 @@ fn list<W: Write, F: Fn(&mut W, &[u32]) -> io::Result<()>>(
 
 // The first n finding records of a flat list.
 pub fn show_records<W: Write>(out: &mut W, words: &[u32], n: usize) -> io::Result<()> {
-    list(out, "records", 6, words, n, record_line::<W>)
+    list(
+        out,
+        "records",
+        words.as_chunks::<6>().0,
+        n,
+        record_line::<W>,
+    )
 }
 
 // The lists of a sheet, warnings on; nothing where it is refused.
@@ -106,28 +94,31 @@ pub fn show_lists<W: Write>(out: &mut W, s: &[u8]) -> io::Result<()> {
         findings: &mut findings,
     };
     if let Ok(counts) = check_words(s, true, &mut lists, 2048) {
-        list(out, "scopes", 4, &scopes, counts.scopes, scope_line::<W>)?;
+        list(
+            out,
+            "scopes",
+            scopes.as_chunks::<4>().0,
+            counts.scopes,
+            scope_line::<W>,
+        )?;
         list(
             out,
             "bindings",
-            6,
-            &bindings,
+            bindings.as_chunks::<6>().0,
             counts.bindings,
             binding_line::<W>,
         )?;
         list(
             out,
             "carried",
-            3,
-            &carried,
+            carried.as_chunks::<3>().0,
             counts.carried,
             carried_line::<W>,
         )?;
         list(
             out,
             "recorded",
-            5,
-            &recorded,
+            recorded.as_chunks::<5>().0,
             counts.recorded,
             recorded_line::<W>,
         )?;

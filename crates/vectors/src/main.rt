@@ -1,23 +1,15 @@
 // Byte strings on standard input, each after its length as a little-endian word, at most 256. A line each: its FNV-1 hash in
-// hexadecimal, its use id in decimal, and `utf8` or `-`.
+// hexadecimal, its use id in decimal, and `utf8` or `-`. No heap: what is read goes through an array of the largest size.
 #![tactic(auto)]
 
 use std::io;
 use std::io::{Read, Write};
-
-fn print_decimal<W: Write>(out: &mut W, n: u32, digits: &mut [u8]) -> io::Result<()> {
-    let k = words::put_decimal(n, digits);
-    if k <= digits.len() {
-        out.write_all(&digits[0..k])?;
-    }
-    Ok(())
-}
+use streams::{print_decimal, print_hex, read_full, read_length};
 
 fn line<W: Write>(out: &mut W, s: &[u8]) -> io::Result<()> {
-    streams::print_hex(out, words::fnv1(s) as u64, 8)?;
+    print_hex(out, u64::from(words::fnv1(s)), 8)?;
     out.write_all(b" ")?;
-    let mut digits = [0u8; 10];
-    print_decimal(out, words::use_id(s), &mut digits)?;
+    print_decimal(out, u64::from(words::use_id(s)))?;
     if words::is_utf8(s) {
         out.write_all(b" utf8\n")
     } else {
@@ -25,38 +17,24 @@ fn line<W: Write>(out: &mut W, s: &[u8]) -> io::Result<()> {
     }
 }
 
-// Reads a string of n bytes into the front of room and writes its line; false where it isn't there.
-fn string<R: Read, W: Write>(
-    input: &mut R,
-    out: &mut W,
-    n: usize,
-    room: &mut [u8],
-) -> io::Result<bool> {
-    if room.len() < n {
-        return Ok(false);
-    }
-    if streams::read_full(input, &mut room[0..n])? < n {
-        return Ok(false);
-    }
-    line(out, &room[0..n])?;
-    Ok(true)
-}
-
-fn one<R: Read, W: Write>(input: &mut R, out: &mut W) -> io::Result<bool> {
-    let mut front = [0u8; 4];
-    if streams::read_full(input, &mut front)? < 4 {
-        return Ok(false);
-    }
-    let n = words::word(&front, 0) as usize;
+// Reads a string of n bytes and writes its line; false where it isn't there, or is longer than there is room for.
+fn string<R: Read, W: Write>(input: &mut R, out: &mut W, n: usize) -> io::Result<bool> {
     let mut room = [0u8; 256];
-    string(input, out, n, &mut room)
+    if room.len() < n || read_full(input, &mut room[..n])? < n {
+        return Ok(false);
+    }
+    line(out, &room[..n])?;
+    Ok(true)
 }
 
 fn main(rt: HostRuntime) -> io::Result<()> {
     let mut input = rt.stdin();
     let mut out = rt.stdout();
-    for _ in 0..4096u32 {
-        if !one(&mut input, &mut out)? {
+    for _ in 0..4096 {
+        let Some(n) = read_length(&mut input)? else {
+            return Ok(());
+        };
+        if !string(&mut input, &mut out, n)? {
             return Ok(());
         }
     }
