@@ -23,7 +23,8 @@ use Rattle.std.specs.Prelude.{None, Some, Option, is_some}
 use Rattle.rows.specs.Rows.{newest, seek, number_of, Hangs}
 use Rattle.rows.proofs.Chains.{none-chained}
 use Rattle.name_chains.specs.Slot.{slot_of}
-use Rattle.name_chains.specs.Hung.{text_in, texts_in, itself, slot_in, Cleared, Hung}
+use Rattle.tables.specs.Answer.{names_at}
+use Rattle.name_chains.specs.Hung.{text_in, itself, slot_in, Cleared, Hung}
 
 pub slot-below : (mult m : ℕ) → 0 < m → (x : List ℕ) → slot_of mult m x < m
 unfolding slot_of
@@ -59,24 +60,24 @@ unfolding name_in
 last-in x y [] = refl
 last-in x y (z ∷ ys) = rw (last-in x y ys) (swap (same_bytes x z) (same_bytes x y) (name_in x ys))
 
-named-some : (s places x : List ℕ) (n : ℕ) → n ≤ length places → name_in x (texts_in s (take n places)) ≡ some (newest (λ i. same_bytes x (text_in s places i)) n)
+named-some : (s places x : List ℕ) (n : ℕ) → n ≤ length places → name_in x (names_at s (take n places)) ≡ some (newest (λ i. same_bytes x (text_in s places i)) n)
 unfolding newest name_in
 named-some s places x zero h = refl
 named-some s places x (suc t) h =
     let same = same_bytes x (text_in s places t) in
     rw (take-suc places t 0 (omega arith), map-append)
-    (last-in x (text_in s places t) (texts_in s (take t places)) ∙ ap (◌||◌ same) (named-some s places x t (omega arith)) ∙ sym (some-or same t _))
+    (last-in x (text_in s places t) (names_at s (take t places)) ∙ ap (◌||◌ same) (named-some s places x t (omega arith)) ∙ sym (some-or same t _))
 
-all-named : (s places x : List ℕ) → name_in x (texts_in s places) ≡ some (newest (λ i. same_bytes x (text_in s places i)) (length places))
+all-named : (s places x : List ℕ) → name_in x (names_at s places) ≡ some (newest (λ i. same_bytes x (text_in s places i)) (length places))
 all-named s places x = rw (take_all (length places) places (omega arith)) at (named-some s places x (length places) (omega arith))
 
 -- a text is one of the names where the newest that is the same is some name
-pub named : (s places x : List ℕ) (r : Option ℕ) → number_of r ≡ newest (λ i. same_bytes x (text_in s places i)) (length places) → is_some r ≡ name_in x (texts_in s places)
+pub named : (s places x : List ℕ) (r : Option ℕ) → number_of r ≡ newest (λ i. same_bytes x (text_in s places i)) (length places) → is_some r ≡ name_in x (names_at s places)
 named s places x None e = sym (all-named s places x ∙ ap some (sym e))
 named s places x (Some i) e = sym (all-named s places x ∙ ap some (sym e))
 
 -- the name i is not one of those before it, and so on
-pub fresh-next : (s places : List ℕ) (i : ℕ) → i < length places → fresh_after name_in (texts_in s (take i places)) (texts_in s (drop i places)) ≡ (not (name_in (text_in s places i) (texts_in s (take i places))) && fresh_after name_in (texts_in s (take (i + 1) places)) (texts_in s (drop (i + 1) places)))
+pub fresh-next : (s places : List ℕ) (i : ℕ) → i < length places → fresh_after name_in (names_at s (take i places)) (names_at s (drop i places)) ≡ (not (name_in (text_in s places i) (names_at s (take i places))) && fresh_after name_in (names_at s (take (i + 1) places)) (names_at s (drop (i + 1) places)))
 unfolding fresh_after
 fresh-next s places i h = rw (drop-word places i h, add-one i, take-suc places i 0 h, map-append)
 

@@ -1,14 +1,11 @@
 -- Names that hang in chains by the slots of their texts, in words: the chains of `rows`, with a name's slot for its key.
-use Rattle.std.specs.Prelude.{ℕ, ◌<◌, ◌≡◌, List, map, length, get_or}
+use Rattle.std.specs.Prelude.{ℕ, ◌<◌, ◌≡◌, List, length, get_or}
 use Rattle.tables.specs.Name.{name_at}
 use Rattle.rows.specs.Rows.{Chained}
 
 -- the text of the name i
 abbrev pub text_in : (s places : List ℕ) → ℕ → List ℕ
 text_in s places i = name_at s (get_or places i 0)
-
-abbrev pub texts_in : (s places : List ℕ) → List (List ℕ)
-texts_in s places = map (name_at s) places
 
 -- a slot stands for itself
 abbrev pub itself : ℕ → ℕ

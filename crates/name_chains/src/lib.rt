@@ -6,13 +6,13 @@
 
 ghost use Rattle.std.specs.Prelude.{◌≡◌, ◌+◌, ◌/◌, ◌<◌, ◌≤◌, length};
 ghost use Rattle.tables.specs.Distinct.{name_in, distinct};
-ghost use Rattle.tables.specs.Answer.{Roomy};
+ghost use Rattle.tables.specs.Answer.{names_at, Roomy};
 ghost use Rattle.sheet.specs.Answer.{Tabled};
 ghost use Rattle.name_chains.specs.Slot.{folded, hash_of, slot_of};
-ghost use Rattle.name_chains.specs.Hung.{text_in, texts_in, Cleared, Hung};
+ghost use Rattle.name_chains.specs.Hung.{text_in, Cleared, Hung};
 
 use rows::{hang, multiplier, newest_in};
-use tables::{distinct_names, name_at, scan_names};
+use tables::{are_read, distinct_names, name_at};
 use words::{count, word};
 
 // So few names are compared each with all before it, by their use ids first.
@@ -81,7 +81,7 @@ impl Names<'_> {
     fn contains(&self, slots: Slots, chains: &[u32], text: &[u8], slot: usize) -> bool
         requires hung { Hung (slot_of slots.mult slots.count) self.now.bytes.now self.now.places.now slots.count (length self.now.places.now) chains.now }
         requires here { slot ≡ slot_of slots.mult slots.count text.now }
-        ensures { result ≡ name_in text.now (texts_in self.now.bytes.now self.now.places.now) }
+        ensures { result ≡ name_in text.now (names_at self.now.bytes.now self.now.places.now) }
     {
         let is = |name| text == self.text(name as usize);
         newest_in(chains, slots.count, slot, is).is_some()
@@ -92,7 +92,7 @@ impl Names<'_> {
         requires few { length self.now.places.now < 4294967295 }
         requires room { slots.count + length self.now.places.now ≤ length chains.old }
         requires empty { Hung (slot_of slots.mult slots.count) self.now.bytes.now self.now.places.now slots.count 0 chains.old }
-        ensures { result ≡ distinct name_in (texts_in self.now.bytes.now self.now.places.now) }
+        ensures { result ≡ distinct name_in (names_at self.now.bytes.now self.now.places.now) }
     {
         // By index: each name is sought among the i before it.
         for i in 0..self.places.len() {
@@ -136,11 +136,15 @@ fn clear(chains: &mut [u32], m: usize)
 // first.
 pub fn distinct_by_chains(s: &[u8], places: &[u32], chains: &mut [u32]) -> bool
     requires { (length places.now < 4294967295) × (length places.now < length chains.old) }
-    ensures { result ≡ distinct name_in (texts_in s.now places.now) }
+    ensures { result ≡ distinct name_in (names_at s.now places.now) }
 {
-    // The multiplier is made from all the words of the section.
-    let words = count(s).min(u32::MAX as usize) as u32;
     let n = places.len();
+    // The multiplier is made from all the words of the section, where there are so many names that one is worth it.
+    let words = if n <= 16 {
+        0
+    } else {
+        count(s).min(u32::MAX as usize) as u32
+    };
     let slots = Slots {
         mult: multiplier(words, |i| word(s, i as usize)),
         count: slots_in(chains.len() - n, n),
@@ -155,14 +159,12 @@ pub fn are_names(s: &[u8], n: u32, tab: &mut [u32], ids: &mut [u32], chains: &mu
     requires { Roomy s.now tab.old ids.old × (length s.now / 4 < length chains.old) }
     ensures { Tabled n s.now tab.new ids.new result }
 {
-    let Ok(p) = scan_names(s, n, tab, ids) else {
-        return false;
-    };
-    if p < s.len() {
+    if !are_read(s, n, tab, ids) {
         return false;
     }
+    let places = &tab[..n as usize];
     if n <= FEW {
-        return distinct_names(s, tab, ids, n as usize);
+        return distinct_names(s, places, &ids[..n as usize]);
     }
-    distinct_by_chains(s, &tab[..n as usize], chains)
+    distinct_by_chains(s, places, chains)
 }
