@@ -16,6 +16,10 @@ nth fs i = get_or fs i nothing
 abbrev pub record_of : log.Finding → Finding
 record_of (finding c a b x o t) = record { code = c; start = a; end = b; name = x; one = o; two = t }
 
+-- the six words from p on
+abbrev pub six_at : List ℕ → ℕ → List ℕ
+six_at l p = get_or l p 0 ∷ get_or l (p + 1) 0 ∷ get_or l (p + 2) 0 ∷ get_or l (p + 3) 0 ∷ get_or l (p + 4) 0 ∷ get_or l (p + 5) 0 ∷ []
+
 -- the record at place i of a flat list, six words a record
 abbrev pub record_at : List ℕ → ℕ → Finding
 record_at flat i = record {

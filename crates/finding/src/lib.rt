@@ -3,7 +3,7 @@
 
 ghost use Rattle.std.specs.Prelude.{◌≡◌, ◌+◌, ◌*◌, ◌≤◌, length};
 ghost use Rattle.std.proofs.lemmas.List.Edits.{sets};
-ghost use Rattle.finding.specs.Records.{record_at, words_of, into, out_of};
+ghost use Rattle.finding.specs.Records.{six_at, record_at, words_of, into, out_of};
 
 // Code, span, name + 1 or 0, two details.
 #[derive(Clone, Copy, Debug, PartialEq, Eq)]
@@ -39,12 +39,20 @@ impl From<Finding> for [u32; 6] {
     }
 }
 
+// The six words from p on.
+pub fn six_at(words: &[u32], p: usize) -> [u32; 6]
+    requires { p + 6 ≤ length words.now }
+    ensures { result ≡ six_at words.now p }
+{
+    *words[p..].first_chunk().unwrap()
+}
+
 // The record at place i of a flat list, six words a record.
 pub fn record_at(flat: &[u32], i: usize) -> Finding
     requires { i * 6 + 6 ≤ length flat.now }
     ensures { result ≡ record_at flat.now i }
 {
-    Finding::from(*flat[i * 6..].first_chunk().unwrap())
+    Finding::from(six_at(flat, i * 6))
 }
 
 // A record's six words, stored at place i of a flat list.

@@ -17,14 +17,14 @@ use Rattle.steps.specs.Said.{finding_at, sort_number, event_of}
 use Rattle.steps.specs.declared.log.Sort.{Sort}
 use Rattle.steps.specs.declared.log.Sort.TheVariants as sorts
 use Rattle.finding.specs.Flat.{finding_words}
-use Rattle.finding.specs.Records.{words_of}
+use Rattle.finding.specs.Records.{six_at, words_of}
 use Rattle.finding.specs.declared.Finding as records
 use Rattle.entries.specs.Filled.{parent_word, scope_words}
 use Rattle.entries.specs.Adding.{Becomes, after}
 use Rattle.entries.specs.declared.Binding as bindings
 use Rattle.entries.specs.declared.Found as founds
 use Rattle.std.specs.declared.option.Option as options
-use Rattle.lists_fill.specs.Adding.{six_at, said}
+use Rattle.lists_fill.specs.Adding.{said}
 use Rattle.lists_fill.specs.Weaving.{barrier_in}
 use Rattle.lists_fill.specs.declared.Logged.{Logged}
 use Rattle.lists_fill.specs.declared.Logged.TheVariants.{Scope, Binding, Variable, Name, Finding}

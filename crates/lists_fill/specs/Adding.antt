@@ -1,5 +1,5 @@
 -- An event by its six words.
-use Rattle.std.specs.Prelude.{ℕ, ◌+◌, List, [], ◌∷◌, get_or, false}
+use Rattle.std.specs.Prelude.{ℕ, false}
 use Rattle.scope.specs.Graph.{scope}
 use Rattle.scope.specs.Flat.{parent_of}
 use Rattle.semantics.specs.Log.{Event, open', bind, answer, find, write, found, finding}
@@ -7,10 +7,6 @@ use Rattle.entries.specs.Adding as entries
 use Rattle.entries.specs.Stamps.{bound_of}
 use Rattle.lists_fill.specs.declared.Logged.{Logged}
 use Rattle.lists_fill.specs.declared.Logged.TheVariants.{Scope, Binding, Variable, Name, Finding}
-
--- the six words from p on
-abbrev pub six_at : List ℕ → ℕ → List ℕ
-six_at l p = get_or l p 0 ∷ get_or l (p + 1) 0 ∷ get_or l (p + 2) 0 ∷ get_or l (p + 3) 0 ∷ get_or l (p + 4) 0 ∷ get_or l (p + 5) 0 ∷ []
 
 -- what was left as an event of the definition's
 abbrev pub said : (ℕ → ℕ) → Logged → Event

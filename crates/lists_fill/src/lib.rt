@@ -14,11 +14,11 @@ ghost use Rattle.entries.specs.Filled.{scope_words, recorded_words};
 ghost use Rattle.entries.specs.Adding.{Holds, Becomes, after, answer};
 ghost use Rattle.entries.specs.Stamps.{Makes, Fits, IsStill, kept};
 ghost use Rattle.lists_fill.specs.Said.{id_in, events_in, told_in, all_in, all_told};
-ghost use Rattle.lists_fill.specs.Adding.{six_at, said};
+ghost use Rattle.lists_fill.specs.Adding.{said};
 ghost use Rattle.lists_fill.specs.Weaving.{barrier_in, Ready, Adopts, Weaves, bound_in, Weavable, Makings};
 
 use entries::{Binding, Bindings, Found, put_answer, set_entry};
-use finding::{Finding, words_at};
+use finding::{Finding, six_at, words_at};
 use rows::Rows;
 use scope::ScopeKind;
 use steps::{Log, Sort};
@@ -70,14 +70,6 @@ impl From<[u32; 6]> for Logged {
             Err(_) => Logged::Finding(Finding::from(words)),
         }
     }
-}
-
-// The six words from p on.
-fn six_at(found: &[u32], p: usize) -> [u32; 6]
-    requires { p + 6 ≤ length found.now }
-    ensures { result ≡ six_at found.now p }
-{
-    *found[p..].first_chunk().unwrap()
 }
 
 // What was left as the event numbered i.
