@@ -2,7 +2,7 @@
 // sheet's words and in a reader's list.
 #![tactic(auto)]
 
-ghost use Rattle.std.specs.Prelude.{◌≡◌, ◌<◌};
+ghost use Rattle.std.specs.Prelude.{◌≡◌};
 ghost use Rattle.condition.specs.Cond.{binary_level, unary_level, left_level, binary_sign, unary_sign};
 ghost use Rattle.condition.specs.Judge.{is_wanted, is_there, unary_mode, may_join};
 
@@ -21,7 +21,8 @@ pub const NOT_LEVEL: usize = 3;
 
 pub const COMPARISON: usize = 4;
 
-// By operator, its level.
+// By operator, its level. These are tables, and no enum's methods: an operator goes by its number. Past the last one a level is 0 and a sign
+// empty.
 const LEVELS: [usize; 20] = [6, 6, 7, 7, 7, 8, 4, 4, 4, 4, 4, 4, 2, 0, 1, 5, 5, 5, 5, 6];
 
 const LEFT_LEVELS: [usize; 20] = [6, 6, 7, 7, 7, 8, 5, 5, 5, 5, 5, 5, 2, 0, 1, 5, 5, 5, 5, 6];
@@ -51,10 +52,9 @@ const SIGNS: [&[u8]; 20] = [
 
 // The level of a binary operator, and of a unary one.
 pub fn binary_level(operator: usize) -> usize
-    requires { operator < 20 }
     ensures { result ≡ binary_level operator }
 {
-    LEVELS[operator]
+    LEVELS.get(operator).copied().unwrap_or(0)
 }
 
 pub fn unary_level(operator: usize) -> usize
@@ -69,25 +69,26 @@ pub fn unary_level(operator: usize) -> usize
 
 // The least level of a bare left operand.
 pub fn left_level(operator: usize) -> usize
-    requires { operator < 20 }
     ensures { result ≡ left_level operator }
 {
-    LEFT_LEVELS[operator]
+    LEFT_LEVELS.get(operator).copied().unwrap_or(0)
 }
 
 // The sign of a binary operator with its blanks, and of a unary one.
 pub fn binary_sign(operator: usize) -> &'static [u8]
-    requires { operator < 20 }
     ensures { result.now ≡ binary_sign operator }
 {
-    SIGNS[operator]
+    SIGNS.get(operator).copied().unwrap_or(b"")
 }
 
 pub fn unary_sign(operator: usize) -> &'static [u8]
-    requires { operator < 2 }
     ensures { result.now ≡ unary_sign operator }
 {
-    if operator == MINUS { b"- " } else { b"NOT " }
+    match operator {
+        MINUS => b"- ",
+        NOT => b"NOT ",
+        _ => b"",
+    }
 }
 
 // What stands to the right of a position: an operand is wanted; there is one; there is one that begins with NOT; or nothing can stand here.
