@@ -10,6 +10,7 @@ ghost use Rattle.semantics.specs.World.{row_kind};
 ghost use Rattle.rows.specs.Rows.{id_at, seek, number_of, shown, Hung, Hangs, Asks, Newest, Empty};
 ghost use Rattle.rows.specs.Table.{row_in, Standing, Indexed};
 
+use tables::VarKind;
 use words::word;
 
 // How variables spread over slots: 2 to the power of 32 - shift of them.
@@ -191,7 +192,7 @@ impl Rows<'_> {
     {
         match self.row(v) {
             Some((_, kind)) => kind,
-            None => 4,
+            None => VarKind::Value as u32,
         }
     }
 }

@@ -37,7 +37,7 @@ impl Context<'_> {
     }
 
     // Whether the name x is no use here.
-    pub(crate) fn is_hushed(&self, x: u32) -> bool
+    pub fn is_hushed(&self, x: u32) -> bool
         ensures { result ≡ hushed_in self.now x }
     {
         let i = x as usize;
@@ -45,7 +45,7 @@ impl Context<'_> {
     }
 
     // Whether nothing is written of a variable, whatever its row: its use is not wanted, and no kind is minded.
-    pub(crate) fn is_quiet(&self, mode: Mode, set: Setting) -> bool
+    pub fn is_quiet(&self, mode: Mode, set: Setting) -> bool
         ensures { result ≡ quiet self.now.wants mode set }
     {
         if self.wants && mode.resolves {

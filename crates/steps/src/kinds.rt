@@ -72,7 +72,7 @@ impl Walk<'_> {
 
     // A row with the name x and the kind k in a setting.
     #[tactic(auto, unfolding(semantics::specs::Kinds::at_row))]
-    pub(crate) fn at_row(&mut self, context: &Context, set: Setting, x: u32, k: u32)
+    pub fn at_row(&mut self, context: &Context, set: Setting, x: u32, k: u32)
         requires { (x < 4294967295) × ((k ≤ 4) × Ready 1 context.now self.old) }
         ensures { AtRow context.now self.old self.new set x k }
     {

@@ -56,7 +56,7 @@ impl Log<'_> {
     }
 
     // A finding of the kind walk.
-    pub(crate) fn tell(&mut self, finding: [u32; 6])
+    pub fn tell(&mut self, finding: [u32; 6])
         requires { Roomy self.old }
         ensures { Tells finding self.old self.new }
     {
