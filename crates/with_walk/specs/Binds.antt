@@ -1,5 +1,8 @@
 -- What the walk over a WITH asks and leaves: what it has taken is carried by a barrier, and bound in a new Root.
-use Rattle.std.specs.Prelude.{ℕ, ◌+◌, ◌*◌, ◌<◌, ◌≤◌, ◌≡◌, Bool, true, false, cond, List, [], ◌∷◌, length}
+use Rattle.std.specs.Prelude.{ℕ, ◌+◌, ◌*◌, ◌<◌, ◌≤◌, ◌≡◌, Bool, true, false, cond, List, [], ◌∷◌, eqb, length}
+use Rattle.clauses.specs.Kind.{code_of}
+use Rattle.clauses.specs.declared.kind.ClauseKind.{ClauseKind}
+use Rattle.clauses.specs.declared.kind.ClauseKind.TheVariants.{SortedWith}
 use Rattle.scope.specs.Graph.{root_scope}
 use Rattle.semantics.specs.World.{World}
 use Rattle.semantics.specs.Resolve.{Seen, seen, binds, State, Pair, pair, enter, standing, bind_all, barrier}
@@ -111,6 +114,10 @@ pub record Again (p : Pairs) (root : ℕ) (w w' : Walk) : Type 0 where
 pub record SeesAgain (p : Pairs) (height root : ℕ) (w w' : Walk) : Type 0 where
   pub yes : p.star ≡ true → Left w w' height root
   pub no : p.star ≡ false → Again p root w w'
+
+-- whether a clause is a WITH with sort keys
+abbrev pub sorts : ClauseKind → Bool
+sorts kind = eqb (code_of kind) (code_of SortedWith)
 
 -- a WITH from a to b in a mode, sorted or not
 module _ (c : Context) (mode : Mode) where

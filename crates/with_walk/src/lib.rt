@@ -1,16 +1,18 @@
 // WITH: what its projections carry is held, then bound in a new Root, and alone visible; a star takes each name before it once, in its place on
 // the stack. Sort keys are walked while the names before the WITH are still seen below the pairs, unless a star carries these. No event says what
-// is carried and bound: it is counted.
+// is carried and bound: it is counted. `held` is lent beside the walk (tried: what a struct borrows from another's field is not known afterwards,
+// and the pairs borrow it).
 #![tactic(auto)]
 
-ghost use Rattle.std.specs.Prelude.{◌≡◌, true, false, ◌+◌, length};
+ghost use Rattle.std.specs.Prelude.{◌≡◌, ◌+◌, length};
 ghost use Rattle.steps.specs.Modes.{mode_of};
 ghost use Rattle.steps.specs.Hold.{Binding, Ready};
 ghost use Rattle.clause_parts.specs.Passes.{Held, Passes};
 ghost use Rattle.projection_walk.specs.Pairs.{kept_of};
-ghost use Rattle.with_walk.specs.Binds.{Rebinds, Sees, SeesIn, Spreads, CountsPairs, Countable, BindsIn, SeesAgainIn, SeesAgain, with_at};
+ghost use Rattle.with_walk.specs.Binds.{Rebinds, Sees, SeesIn, Spreads, CountsPairs, Countable, BindsIn, SeesAgainIn, SeesAgain, sorts, with_at};
 
 use clause_parts::{Head, walk_counted};
+use clauses::ClauseKind;
 use projection_walk::{Pairs, walk_filtered};
 use refusal::Refusal;
 use steps::{Context, Mode, Walk};
@@ -21,11 +23,11 @@ fn see_pairs(walk: &mut Walk, pairs: &Pairs) -> u32
     ensures { Sees pairs.now walk.old walk.new result }
 {
     let mut made = 0;
-    for i in 0..pairs.count as usize {
-        let x = pairs.words[i * 2];
+    for i in 0..pairs.count {
+        let (x, v) = pairs.pair(i);
         made += u32::from(!walk.is_again(x));
         let cur = walk.cur;
-        walk.visible.bind(x, pairs.words[i * 2 + 1], cur);
+        walk.visible.bind(x, v, cur);
     }
     made
 }
@@ -68,30 +70,6 @@ fn bind_with(walk: &mut Walk, context: &Context, pairs: &Pairs, head: Head, top:
     count_pairs(walk, pairs.count, star, first);
 }
 
-// WITH.
-pub fn walk_with(
-    walk: &mut Walk,
-    context: &Context,
-    held: &mut [u32],
-    head: Head,
-    mode: Mode,
-) -> Result<(), Refusal>
-    requires { Held context.now held.old (mode_of mode) × Ready 3 context.now walk.old }
-    ensures kept { length held.new ≡ length held.old }
-    ensures passes { Passes 3 context.now walk.old walk.new (with_at context.now (mode_of mode) false head.start head.end) result }
-{
-    let before = walk.visible.top;
-    let mut pairs = Pairs {
-        words: held,
-        count: 0,
-        star: false,
-    };
-    walk_filtered(walk, context, &mut pairs, mode)?;
-    let top = if pairs.star { before } else { 0 };
-    bind_with(walk, context, &pairs, head, top);
-    Ok(())
-}
-
 // After the keys only what is carried is visible. With a star that is all up to the height, where the keys began; without one the stack is
 // emptied, of the names before the WITH too, and the pairs become visible anew.
 fn see_again(walk: &mut Walk, pairs: &Pairs, height: u32, root: u32)
@@ -106,8 +84,8 @@ fn see_again(walk: &mut Walk, pairs: &Pairs, height: u32, root: u32)
     see_pairs(walk, pairs);
 }
 
-// WITH and sort keys, which see the pairs in the new Root, and below them the names before, unless a star carries these.
-pub fn walk_sorted_with(
+// WITH, with sort keys or without: keys see the pairs in the new Root, and below them the names before, unless a star carries these.
+pub fn walk_with(
     walk: &mut Walk,
     context: &Context,
     held: &mut [u32],
@@ -116,19 +94,28 @@ pub fn walk_sorted_with(
 ) -> Result<(), Refusal>
     requires { Held context.now held.old (mode_of mode) × Ready 3 context.now walk.old }
     ensures kept { length held.new ≡ length held.old }
-    ensures passes { Passes 3 context.now walk.old walk.new (with_at context.now (mode_of mode) true head.start head.end) result }
+    ensures passes { Passes 3 context.now walk.old walk.new (with_at context.now (mode_of mode) (sorts head.kind) head.start head.end) result }
 {
-    let top = walk.visible.top;
+    let before = walk.visible.top;
     let mut pairs = Pairs {
         words: held,
         count: 0,
         star: false,
     };
     walk_filtered(walk, context, &mut pairs, mode)?;
-    bind_with(walk, context, &pairs, head, top);
-    let root = walk.cur;
-    let height = walk.visible.top;
-    walk_counted(walk, context, mode)?;
-    see_again(walk, &pairs, height, root);
-    Ok(())
+    match head.kind {
+        ClauseKind::SortedWith => {
+            bind_with(walk, context, &pairs, head, before);
+            let root = walk.cur;
+            let height = walk.visible.top;
+            walk_counted(walk, context, mode)?;
+            see_again(walk, &pairs, height, root);
+            Ok(())
+        }
+        _ => {
+            let top = if pairs.star { before } else { 0 };
+            bind_with(walk, context, &pairs, head, top);
+            Ok(())
+        }
+    }
 }

@@ -1,5 +1,5 @@
 -- After i turns the first i pairs are seen, and as many of them counted as are the first of their name (`Seeing`).
-use mathlib.Core.Path.{◌≡◌, refl}
+use mathlib.Core.Path.{◌≡◌, ap}
 use native.Mathlib.Omega.{arith}
 use Rattle.with_walk.proofs.Names.{names_at}
 use Rattle.with_walk.proofs.Seeing.{none_seen, first-as, one_seen, all_seen}
@@ -14,11 +14,11 @@ bind-requires c =
     let b = c.loop-i.invariant in
     let n = names_at c.args.walk.now.visible.names c.args.pairs.now.words.now _ _ c.loop-i-test.true q.named in
     let s = b.still in
-    (omega (arith, n, s.names), (omega (arith, q.few, b.top), (omega (arith, q.room, b.top, s.names, s.size), b.sound)))
+    (omega (arith, ap (λ p. p.0) c.pair-x.ensures, n, s.names), (omega (arith, q.few, b.top), (omega (arith, q.room, b.top, s.names, s.size), b.sound)))
 
 pub loop-i-preserved : goal.loop-i-preserved
 loop-i-preserved c =
-    one_seen c.loop-i.invariant refl refl (first-as c.from-made.ensures c.is_again.ensures) c.bind.ensures
+    one_seen c.loop-i.invariant (ap (λ p. p.0) c.pair-x.ensures) (ap (λ p. p.1) c.pair-x.ensures) (first-as c.from-made.ensures c.is_again.ensures) c.bind.ensures
 
 pub returns : goal.returns
 returns c =
