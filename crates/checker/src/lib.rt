@@ -51,7 +51,7 @@ pub fn has_room(n: usize, len: usize, width: usize) -> bool
     n <= len / width
 }
 
-// The first n words of a list, copied to the front of another.
+// The first n words of a list, copied to the front of another: of a slice of a struct's list alone it is not known what was copied.
 fn copy(from: &[u32], n: usize, to: &mut [u32])
     requires { (n ≤ length from.now) × (n ≤ length to.old) }
     ensures { to.new ≡ filled to.old (take n from.now) }
@@ -180,7 +180,8 @@ fn check_again(
 }
 
 // The answer and the lists, with scratch for the sheet's words: its refusal; 8 where one of the lists is short; or they are filled. What is
-// carried goes into `kept`, since a sheet that is refused may have carried something; where that is too short, the sheet is run again.
+// carried goes into `kept`, since a sheet that is refused may have carried something; where that is too short, the sheet is run again. Sheet,
+// choice, lists and room go from the call down as they came: a struct of them would be taken apart in each.
 fn check_in(
     s: &[u8],
     warns: bool,

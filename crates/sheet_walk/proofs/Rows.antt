@@ -1,5 +1,5 @@
--- The bindings of a sheet: refused by cause 4 (`rows-no`, `rows-over`), else read and hung up (`rows-hung`), within their section
--- (`rows-within`); and what their words are, where they are read (`row_words_lem`).
+-- The bindings of a sheet: refused by cause 4 (`rows-fell`), else read and hung up (`rows-hung`); and what their words are, where they are read
+-- (`row_words_lem`).
 use Prim.Native.Nat.{ℕ, zero, suc, ◌+◌, ◌*◌, ◌<◌, ◌≤◌}
 use native.Mathlib.Omega.{arith}
 use mathlib.Core.Path.{◌≡◌, refl, ap, sym, ◌∙◌}
@@ -10,23 +10,21 @@ use lib.Seq.{get_or-drop, get_or-take}
 use Rattle.words.specs.Words.{words}
 use Rattle.words.proofs.Words.{length-words}
 use Rattle.heads.specs.Got.{ok, many}
-use Rattle.heads.specs.Answer.{Reads, row_ids, is_in}
 use Rattle.expr.proofs.Inverse.{never}
 use Rattle.clauses.specs.Well.{Each}
 use Rattle.clauses.proofs.WrittenClause.{many-gives}
-use Rattle.tables.specs.Distinct.{distinct}
 use Rattle.tables.specs.Row.{Row, row, row_words, read_row}
 use Rattle.sheet.specs.Trailer.{section}
-use Rattle.sheet.specs.Read.{Sheet, accepted, refused, unless, read_rows}
+use Rattle.sheet.specs.Read.{Sheet, accepted, refused}
 use Rattle.sheet.specs.Write.{WellRow}
-use Rattle.sheet.specs.Answer.{InPlaces, judged}
+use Rattle.sheet.specs.Answer.{InPlaces, judged, bindings_of, rows_of}
 use Rattle.sheet.specs.declared.trailer.Places.{Places}
 use Rattle.std.specs.Prelude.{Option, None, Some, Ok, Err}
 use Rattle.std.proofs.Common.{ok_or}
+use Rattle.refusal.specs.Number.{number_of}
 use Rattle.refusal.specs.declared.Refusal.{Refusal}
 use Rattle.refusal.specs.declared.Refusal.TheVariants.{Bindings}
-use Rattle.sheet.proofs.Cutting.{ids-take}
-use Rattle.sheet.proofs.Reading.{row_gives, rows-read, rows-refused, rows_left, rows_long, rows-done}
+use Rattle.sheet.proofs.Reading.{row_gives, rows-read, rows-no, rows-once}
 use Rattle.rows.specs.declared.Index.{Index}
 use Rattle.sheet_walk.specs.Parts.{Hangs, HungIf, HungAs, RowedIf, RowedAs}
 
@@ -35,37 +33,21 @@ judged-no : {A : Type 0} (x : Sheet A) {c : ℕ} → refused c ≡ judged x → 
 judged-no (accepted a) e = cc
 judged-no (refused d) e = cc
 
-module _ {s : List ℕ} {p : Places} (h : InPlaces s p) where
-  part-long : length (take p.head (words s)) ≡ p.head
-  part-long = omega (arith, length-take p.head (words s), h.head, h.tail, h.trailer, length-words s)
+-- bindings that are refused are so whatever hangs
+pub rows-fell : {s : List ℕ} {p : Places} {chains : List ℕ} (r : Refusal) → refused (number_of r) ≡ judged (bindings_of s p) → RowedAs s p chains chains (Err r)
+rows-fell {s} {p} r e = record { kept = refl; rowed = judged-no _ (rows-no s p e) }
 
-  pub rows-no : (e : Refusal) → Reads (take p.head (words s)) p.rows (many (read_row p.names) p.bindings) (Err e) → read_rows p.names p.bindings (section (words s) p.rows p.head) ≡ refused 4
-  rows-no e x = judged-no _ (rows-refused _ _ _ x.same)
+module _ {s : List ℕ} {p : Places} (h : InPlaces s p) (e : accepted tt ≡ judged (bindings_of s p)) where
+  pub rows-hung : {old new : List ℕ} {o : Option Index} → HungAs (words s) p.rows p.bindings old new o → RowedAs s p old new (ok_or o Bindings)
+  rows-hung {new = new} {o} y = record { kept = y.kept; rowed = go o y.hung }
+    where
+      rowed : {i : Index} (g : Sheet (List Row)) → rows_of s p ≡ g → accepted tt ≡ judged g → Hangs (words s) p.rows p.bindings new i → RowedIf s p new (Ok i)
+      rowed (accepted rs) f k x = record { rows = rs; read = f; first = x.first; count = x.count; stands = x.stands }
+      rowed (refused c) f k x = never (cc)
 
-  pub rows-over : {q : ℕ} → Reads (take p.head (words s)) p.rows (many (read_row p.names) p.bindings) (Ok q) → q < p.head → read_rows p.names p.bindings (section (words s) p.rows p.head) ≡ refused 4
-  rows-over {q} x l = judged-no _ (rows_left p.names p.bindings (drop p.rows (take p.head (words s))) {p = q} (take p.head (words s)) x.same (omega (arith, part-long)))
-
-  module _ {q : ℕ} (x : Reads (take p.head (words s)) p.rows (many (read_row p.names) p.bindings) (Ok q)) (l : p.head ≤ q) where
-    pub rows-within : p.rows + p.bindings * 5 ≤ p.head
-    rows-within =
-        let long = rows_long p.names p.bindings (drop p.rows (take p.head (words s))) {p = q} (take p.head (words s)) x.same (omega (arith, part-long)) in
-        omega (arith, long, part-long, length-drop p.rows (take p.head (words s)), h.rows)
-
-    rows-once : {b : Bool} → b ≡ distinct is_in (row_ids p.bindings (drop p.rows (words s))) → unless 4 b (accepted tt) ≡ judged (read_rows p.names p.bindings (section (words s) p.rows p.head))
-    rows-once e =
-        rows-done p.names p.bindings (drop p.rows (take p.head (words s))) {p = q} (take p.head (words s)) x.same (omega (arith, part-long))
-        (e ∙ sym (ap (distinct is_in) (ids-take p.bindings p.rows p.head (words s) rows-within (omega (arith, part-long, length-take p.head (words s))))))
-
-    pub rows-hung : {old new : List ℕ} {o : Option Index} → HungAs (words s) p.rows p.bindings old new o → RowedAs s p old new (ok_or o Bindings)
-    rows-hung {new = new} {o} y = record { kept = y.kept; rowed = go o y.hung }
-      where
-        rowed : {i : Index} (g : Sheet (List Row)) → read_rows p.names p.bindings (section (words s) p.rows p.head) ≡ g → accepted tt ≡ judged g → Hangs (words s) p.rows p.bindings new i → RowedIf s p new (Ok i)
-        rowed (accepted rs) e k h = record { rows = rs; read = e; first = h.first; count = h.count; stands = h.stands }
-        rowed (refused c) e k h = never (cc)
-
-        go : (o : Option Index) → HungIf (words s) p.rows p.bindings new o → RowedIf s p new (ok_or o Bindings)
-        go (Some i) h = rowed _ refl (rows-once (sym h.apart)) h
-        go None h = judged-no _ (rows-once (sym h))
+      go : (o : Option Index) → HungIf (words s) p.rows p.bindings new o → RowedIf s p new (ok_or o Bindings)
+      go (Some i) x = rowed _ refl (rows-once s p h e {b = true} (sym x.apart)) x
+      go None x = judged-no _ (rows-once s p h e {b = false} (sym x))
 
 -- a row's name is one of the names, and its kind at most Value
 well-at : (names : ℕ) (rs : List Row) (r : List ℕ) → Each (WellRow names) rs → (j : ℕ) → j < length rs → (get_or (flat_map row_words rs ++ r) (j * 5 + 1) 0 < names) × (get_or (flat_map row_words rs ++ r) (j * 5 + 2) 0 ≤ 4)

@@ -41,7 +41,8 @@ use Rattle.rows.proofs.Found.{row-found}
 use Rattle.steps.specs.Memory.{is_the, world_at}
 use Rattle.steps.specs.Hold.{Fine}
 use Rattle.steps.specs.declared.context.Context.{Context}
-use Rattle.sheet_walk.specs.Parts.{Rowed, RowedAs, names_by, Reads, ReadsAs, numbered, Settles, Set, Uses}
+use Rattle.tables.specs.Index as index
+use Rattle.sheet_walk.specs.Parts.{Rowed, RowedAs, names_by, Reads, ReadsAs, Settles, Set, Uses}
 use Rattle.sheet_walk.specs.declared.Choice.{Choice}
 use Rattle.sheet_walk.proofs.Rows.{row_words_lem}
 
@@ -125,12 +126,9 @@ id-is (b ∷ c ∷ []) = same-comm (105 ∷ 100 ∷ []) (b ∷ c ∷ []) ∙ ap 
 id-is (b ∷ c ∷ d ∷ s) = ap (λ (t : Bool). eqb 105 b && t) (and-false (eqb 100 c)) ∙ and-false (eqb 105 b)
 
 -- a name by its number + 1
-numbered-is : (x n : ℕ) {o : Option ℕ} → o ≡ numbered n → is_the x o ≡ eqb (suc x) n
-numbered-is x n e = ap (is_the x) e ∙ go n
-  where
-    go : (n : ℕ) → is_the x (numbered n) ≡ eqb (suc x) n
-    go zero = sym (ne_eqb (suc x) 0 (λ e. omega arith))
-    go (suc n) = sym (eqb-suc-suc x n)
+numbered-is : (x n : ℕ) (o : Option ℕ) → index.number_of o ≡ n → is_the x o ≡ eqb (suc x) n
+numbered-is x n None e = rw (← e) (sym (ne_eqb (suc x) 0 (λ k. omega arith)))
+numbered-is x n (Some y) e = rw (← e) (sym (eqb-suc-suc x y))
 
 module _ {s : List ℕ} {p : Places} {choice : Choice} {x : Index} {places ids chains : List ℕ} {c : Context} (t : Reads s p places ids chains x) (q : Settles s p choice x places ids chains c) (used : length (words s) ≤ length ids) where
   inside : InPlaces s p
@@ -173,8 +171,8 @@ module _ {s : List ℕ} {p : Places} {choice : Choice} {x : Index} {places ids c
   world =
       let ns = names_by s p places in
       world_same (world_at c id_by) (world_by choice.warns ns t.rows) (λ x. refl)
-      (λ x. numbered-is x _ q.star ∙ index_is (42 ∷ []) ns apart 42 [] refl x ∙ star-is (get_or ns x []))
-      (λ x. numbered-is x _ q.ident ∙ index_is (105 ∷ 100 ∷ []) ns apart 105 (100 ∷ []) refl x ∙ id-is (get_or ns x []))
+      (λ x. numbered-is x _ c.star q.star ∙ index_is (42 ∷ []) ns apart 42 [] refl x ∙ star-is (get_or ns x []))
+      (λ x. numbered-is x _ c.ident q.ident ∙ index_is (105 ∷ 100 ∷ []) ns apart 105 (100 ∷ []) refl x ∙ id-is (get_or ns x []))
       (λ x. rw q.hushed refl)
       (λ v. rw (q.indexed, q.rows) (t.named v))
       q.warns

@@ -8,6 +8,7 @@ use Rattle.heads.specs.Answer.{row_ids, is_in}
 use Rattle.tables.specs.Answer.{names_in}
 use Rattle.tables.specs.Distinct.{distinct}
 use Rattle.tables.specs.Index.{index_of}
+use Rattle.tables.specs.Index as index
 use Rattle.tables.specs.Row.{Row}
 use Rattle.sheet.specs.Trailer.{section}
 use Rattle.sheet.specs.Read.{Sheet, accepted, refused, read_rows, read_sheet}
@@ -98,11 +99,6 @@ pub record Settling (s : List ℕ) (p : Places) (places : List ℕ) : Type 0 whe
   pub named : p.names ≤ length places
   pub below : p.names ≤ 8192
 
--- a name by its number + 1, or 0 for none
-abbrev pub numbered : ℕ → Option ℕ
-numbered zero = None
-numbered (suc x) = Some x
-
 pub record Settles (s : List ℕ) (p : Places) (choice : Choice) (x : Index) (places ids chains : List ℕ) (c : Context) : Type 0 where
   pub bytes : c.section.bytes.now ≡ s
   pub names : memory.names_in c ≡ p.names
@@ -111,8 +107,8 @@ pub record Settles (s : List ℕ) (p : Places) (choice : Choice) (x : Index) (pl
   pub indexed : c.rows.index ≡ x
   pub uses : c.uses.now ≡ ids
   pub hushed : c.hushed.now ≡ []
-  pub star : c.star ≡ numbered (index_of (42 ∷ []) (names_by s p places))
-  pub ident : c.ident ≡ numbered (index_of (105 ∷ 100 ∷ []) (names_by s p places))
+  pub star : index.number_of c.star ≡ index_of (42 ∷ []) (names_by s p places)
+  pub ident : index.number_of c.ident ≡ index_of (105 ∷ 100 ∷ []) (names_by s p places)
   pub warns : c.warns ≡ choice.warns
   pub wants : c.wants ≡ choice.wants
 

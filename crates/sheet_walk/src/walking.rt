@@ -50,7 +50,7 @@ fn begin(walk: &mut Walk, context: &Context, p: Places)
     walk.say_wanted(context, root);
 }
 
-// The head.
+// The head. It and the arms are a function each: the one walks clauses with kinds checked, the other arms.
 fn walk_head(
     walk: &mut Walk,
     context: &Context,

@@ -15,6 +15,7 @@ use clause_parts::{Head, walk_counted};
 use clauses::ClauseKind;
 use projection_walk::{Pairs, walk_filtered};
 use refusal::Refusal;
+use scope::ScopeKind;
 use steps::{Context, Mode, Walk};
 
 // The pairs that are held become visible in the current scope, without an event; how many of them have a name that the scope didn't bind yet.
@@ -60,9 +61,8 @@ fn bind_with(walk: &mut Walk, context: &Context, pairs: &Pairs, head: Head, top:
     requires { BindsIn top walk.old pairs.now × Ready (2 + kept_of pairs.now) context.now walk.old }
     ensures { Rebinds context.now pairs.now walk.old walk.new head.start head.end top }
 {
-    // The kinds of scopes are the numbers that the lists have.
-    walk.enter(context, 7, head.start, head.end);
-    walk.enter(context, 1, head.end, head.end);
+    walk.enter(context, ScopeKind::WithBarrier, head.start, head.end);
+    walk.enter(context, ScopeKind::Root, head.end, head.end);
     let root = walk.cur;
     walk.leave(top, root);
     let star = spread(walk, pairs.star);

@@ -18,7 +18,8 @@ pub fn decimal_width(n: u32) -> usize
     k
 }
 
-// Writes the digits of n at the front of out and answers how many; 0, and out as it was, where they don't fit.
+// Writes the digits of n at the front of out and answers how many; 0, and out as it was, where they don't fit: callers go on from there, and
+// no number has 0 digits.
 #[tactic(auto, using(std::proofs::lemmas::Bool::Decides::nat_tests, crate::proofs::Digits::written), unfolding(crate::specs::Front::put_front, crate::specs::Front::put_length))]
 pub fn put_decimal(n: u32, out: &mut [u8]) -> usize
     ensures { (result ≡ put_length (decimal n) out.old) × (out.new ≡ put_front (decimal n) out.old) }
