@@ -1,8 +1,8 @@
 -- A RETURN: its projections are walked as rounds, from outside its scope. They are refused (`return_refused`), or its scope is current after them
--- (`return-passes`).
+-- (`leave-asks`, `return-passes`).
 use Rattle.std.specs.Prelude.{Result, Ok, Err}
 use Rattle.std.specs.Result.{IsErr, IsErrAnd}
-use Prim.Native.Nat.{ℕ, zero, suc, ◌+◌}
+use Prim.Native.Nat.{ℕ, zero, suc, ◌+◌, ◌≤◌}
 use native.Mathlib.Omega.{arith}
 use mathlib.Core.Path.{◌≡◌, refl, ap, sym, subst, ◌∙◌}
 use mathlib.Core.Bool.{Bool, true, false}
@@ -18,7 +18,7 @@ use Rattle.semantics.specs.Kinds.{general}
 use Rattle.fused.specs.Fused.{Both, Mode, Go, rounds, step}
 use Rattle.fused.specs.Clauses.{within, aliased, projections_go, returned, return_go}
 use Rattle.visible.specs.Visible.{seens}
-use Rattle.visible.specs.Stack.{entries}
+use Rattle.visible.specs.Stack.{entries, Sound}
 use Rattle.steps.specs.Memory.{words_in, tables_in, world_at}
 use Rattle.steps.specs.Hold.{Fit, Holds, Frame, Still, Steps, Ready, Left, on_names}
 use Rattle.steps.specs.declared.Walk.{Walk}
@@ -118,6 +118,9 @@ module _ {c : Context} {w w1 w2 : Walk} {a b : ℕ} (ready : Ready 3 c w) (x : S
           passes = record { same = λ id s h. inner-go m sorts live id s ∙ rw (y.goes.same id _ (inner-holds h), q.1) };
         }
     return_refused (Ok u) y q = absurd q.1
+
+    pub leave-asks : {u : Unit {0}} → Walked 48 c w2 w3 (outside_at c m sorts) (Ok u) → (w.visible.top ≤ w3.visible.top) × Sound w3.visible
+    leave-asks y = (omega (arith, inner-frame.top, y.goes.frame.top), (y.goes.fit 2 (inner-fits 0 ready.fit)).sound)
 
     pub return-passes : {w4 : Walk} {u : Unit {0}} → Walked 48 c w2 w3 (outside_at c m sorts) (Ok u) → Left w3 w4 w.visible.top w1.cur → Passes 3 c w w4 (return_at c m sorts a b) (Ok u)
     return-passes {w4} {u} y l =

@@ -1,6 +1,9 @@
 -- What the walk over a RETURN asks and does: its projections, the aliases that it holds, and its sort keys, in which these are no use.
 use Rattle.std.specs.Prelude.{ℕ, zero, suc, ◌+◌, ◌<◌, ◌≤◌, ◌≡◌, Bool, true, false, cond, ◌||◌, List, [], ◌∷◌, ◌++◌, eqb, length, get_or, Option, Some}
 use Rattle.heads.specs.Got.{bind, word_in, any_word}
+use Rattle.clauses.specs.Kind.{code_of}
+use Rattle.clauses.specs.declared.kind.ClauseKind.{ClauseKind}
+use Rattle.clauses.specs.declared.kind.ClauseKind.TheVariants.{SortedReturn}
 use Rattle.semantics.specs.Resolve.{alias_in}
 use Rattle.semantics.specs.Kinds.{general}
 use Rattle.fused.specs.Fused.{Mode, rounds}
@@ -34,6 +37,10 @@ is_marked x (suc k) held = eqb x (get_or held k 0) || is_marked x k held
 pub record Marked (to k : ℕ) (held marks marks' : List ℕ) : Type 0 where
   pub kept : length marks' ≡ length marks
   pub at : (x : ℕ) → get_or marks' x 0 ≡ cond (is_marked x k held) to (get_or marks x 0)
+
+-- whether a clause is a RETURN with sort keys
+abbrev pub sorts : ClauseKind → Bool
+sorts kind = eqb (code_of kind) (code_of SortedReturn)
 
 -- What is walked, in a mode.
 module _ (c : Context) (mode : Mode) where

@@ -1,17 +1,23 @@
 // RETURN: its projections are walked from outside its scope, which is current after it. So are its sort keys, in which its aliases are no use:
 // these are held while its projections are walked, and marked while its sort keys are. The kind of its scope is the number that the lists have.
+// `held` and `marks` are lent beside the walk, so that walk_return has six parameters (tried: what a struct borrows from another's field is not known
+// afterwards, and the aliases and a context borrow them).
 #![tactic(auto)]
 
-ghost use Rattle.std.specs.Prelude.{◌≡◌, true, false, ◌<◌, ◌≤◌, length};
+ghost use Rattle.std.specs.Prelude.{◌≡◌, length};
 ghost use Rattle.steps.specs.Modes.{mode_of};
 ghost use Rattle.steps.specs.Memory.{names_in};
 ghost use Rattle.steps.specs.Hold.{Ready};
 ghost use Rattle.walk.specs.Goes.{Walked};
 ghost use Rattle.clause_parts.specs.Passes.{Passes, Held, Clear};
-ghost use Rattle.return_walk.specs.Returns.{aliases_in, AllNamed, HeldAlias, Marked, output_at, outputs_at, returned_at, hushed_at, keyed_at, sorted_at, return_at};
+ghost use Rattle.return_walk.specs.Returns.{sorts, output_at, outputs_at, returned_at, hushed_at, sorted_at, return_at};
+ghost use Rattle.return_walk.specs.Aliases.{aliases_of, InRange};
 
+mod aliases;
+
+use aliases::Aliases;
 use clause_parts::{Head, alias_of, next_word, walk_counted};
-use clauses::MAX_DEPTH;
+use clauses::{ClauseKind, MAX_DEPTH};
 use refusal::Refusal;
 use steps::{Context, Mode, Setting, Walk};
 use walk::walk_expr;
@@ -45,97 +51,29 @@ fn walk_returned(walk: &mut Walk, context: &Context, mode: Mode) -> Result<(), R
     walk_outputs(walk, context, n, mode)
 }
 
-// Return: its expressions look from outside its scope, which is current after it.
-pub fn walk_return(
-    walk: &mut Walk,
-    context: &Context,
-    head: Head,
-    mode: Mode,
-) -> Result<(), Refusal>
-    requires { ((mode_of mode).resolves ≡ true) × Ready 3 context.now walk.old }
-    ensures { Passes 3 context.now walk.old walk.new (return_at context.now (mode_of mode) false head.start head.end) result }
-{
-    let top = walk.visible.top;
-    let cur = walk.cur;
-    walk.enter(context, 8, head.start, head.end);
-    let scope = walk.cur;
-    walk.leave(top, cur);
-    walk_returned(walk, context, mode)?;
-    walk.leave(top, scope);
-    Ok(())
-}
-
-// An alias, if there is one, is held behind the first k; how many there are then.
-fn hold(held: &mut [u32], k: u32, alias: Option<u32>) -> u32
-    requires { (k < length held.old) × (k < 4294967295) }
-    ensures { HeldAlias k alias held.old held.new result }
-{
-    match alias {
-        Some(x) => {
-            held[k as usize] = x;
-            k + 1
-        }
-        None => k,
-    }
-}
-
-// The marks of the first k aliases become `to`.
-fn mark(marks: &mut [u32], held: &[u32], k: u32, to: u32)
-    requires { (k ≤ length held.now) × AllNamed (length marks.old) k held.now }
-    ensures { Marked to k held.now marks.old marks.new }
-{
-    for x in &held[..k as usize] {
-        marks[*x as usize] = to;
-    }
-}
-
-// A count, and as many sort keys, in which the first k aliases are no use.
+// A count, and as many sort keys, in which the aliases are no use.
 fn walk_hushed(
     walk: &mut Walk,
     context: &Context,
-    held: &[u32],
-    k: u32,
+    aliases: &Aliases,
     marks: &mut [u32],
     mode: Mode,
 ) -> Result<(), Refusal>
-    requires { (Clear context.now marks.old × ((k ≤ length held.now) × AllNamed (names_in context.now) k held.now)) × Ready 0 context.now walk.old }
+    requires { (Clear context.now marks.old × InRange (names_in context.now) aliases.now) × Ready 0 context.now walk.old }
     ensures same { marks.new ≡ marks.old }
-    ensures walked { Walked 48 context.now walk.old walk.new (hushed_at context.now (mode_of mode) (aliases_in k held.now)) result }
+    ensures walked { Walked 48 context.now walk.old walk.new (hushed_at context.now (mode_of mode) (aliases_of aliases.now)) result }
 {
-    mark(marks, held, k, 1);
+    aliases.mark(marks, 1);
     let hushing = Context {
         hushed: &*marks,
         ..*context
     };
     let r = walk_counted(walk, &hushing, mode);
-    mark(marks, held, k, 0);
+    aliases.mark(marks, 0);
     r
 }
 
-// n projections, whose aliases are held, and sort keys.
-fn walk_keyed(
-    walk: &mut Walk,
-    context: &Context,
-    held: &mut [u32],
-    marks: &mut [u32],
-    n: u32,
-    mode: Mode,
-) -> Result<(), Refusal>
-    requires { (Held context.now held.old (mode_of mode) × Clear context.now marks.old) × Ready 0 context.now walk.old }
-    ensures same { marks.new ≡ marks.old }
-    ensures kept { length held.new ≡ length held.old }
-    ensures walked { Walked 48 context.now walk.old walk.new (keyed_at context.now (mode_of mode) n) result }
-{
-    let mut k = 0;
-    for _ in 0..n {
-        let word = next_word(walk, context, 0, context.section.names as u64 + 1)?;
-        k = hold(held, k, alias_of(word));
-        walk_expr(walk, context, MAX_DEPTH, mode, Setting::General)?;
-    }
-    walk_hushed(walk, context, held, k, marks, mode)
-}
-
-// A count, projections, and sort keys.
+// A count, projections, whose aliases are held, and sort keys.
 fn walk_sorted(
     walk: &mut Walk,
     context: &Context,
@@ -149,11 +87,20 @@ fn walk_sorted(
     ensures walked { Walked 48 context.now walk.old walk.new (sorted_at context.now (mode_of mode)) result }
 {
     let n = next_word(walk, context, 0, 4294967296)?;
-    walk_keyed(walk, context, held, marks, n, mode)
+    let mut aliases = Aliases {
+        words: held,
+        count: 0,
+    };
+    for _ in 0..n {
+        let word = next_word(walk, context, 0, context.section.names as u64 + 1)?;
+        aliases.hold(alias_of(word));
+        walk_expr(walk, context, MAX_DEPTH, mode, Setting::General)?;
+    }
+    walk_hushed(walk, context, &aliases, marks, mode)
 }
 
-// Return and sort keys, which look from outside its scope too.
-pub fn walk_sorted_return(
+// RETURN, with sort keys or without: what it walks looks from outside its scope, which is current after it.
+pub fn walk_return(
     walk: &mut Walk,
     context: &Context,
     held: &mut [u32],
@@ -164,14 +111,17 @@ pub fn walk_sorted_return(
     requires { (Held context.now held.old (mode_of mode) × Clear context.now marks.old) × Ready 3 context.now walk.old }
     ensures same { marks.new ≡ marks.old }
     ensures kept { length held.new ≡ length held.old }
-    ensures passes { Passes 3 context.now walk.old walk.new (return_at context.now (mode_of mode) true head.start head.end) result }
+    ensures passes { Passes 3 context.now walk.old walk.new (return_at context.now (mode_of mode) (sorts head.kind) head.start head.end) result }
 {
     let top = walk.visible.top;
     let outer = walk.cur;
     walk.enter(context, 8, head.start, head.end);
     let scope = walk.cur;
     walk.leave(top, outer);
-    walk_sorted(walk, context, held, marks, mode)?;
+    match head.kind {
+        ClauseKind::SortedReturn => walk_sorted(walk, context, held, marks, mode)?,
+        _ => walk_returned(walk, context, mode)?,
+    }
     walk.leave(top, scope);
     Ok(())
 }

@@ -4,7 +4,7 @@ use native.Mathlib.Omega.{arith}
 use mathlib.Core.Path.{sym}
 use lib.Seq.{get_or-take, length-take-le}
 use Rattle.return_walk.proofs.Marking.{none-marked, one-marked}
-use Rattle.return_walk.proofs.mark.Goals as goal
+use Rattle.return_walk.proofs.aliases.Aliases.mark.Goals as goal
 
 pub loop-x-init : goal.loop-x-init
 loop-x-init c = none-marked
@@ -12,6 +12,7 @@ loop-x-init c = none-marked
 pub loop-x-preserved : goal.loop-x-preserved
 loop-x-preserved c =
     let l = c.loop-x in
-    let h : l.x-index < c.args.k = omega (arith, length-take-le c.args.k c.args.held.now c.requires.0) in
-    let same = get_or-take c.args.k c.args.held.now l.x-index 0 h in
-    one-marked l.invariant (sym same) (rw same (c.requires.1.named l.x-index h))
+    let a = c.args.self.now in
+    let h : l.x-index < a.count = omega (arith, length-take-le a.count a.words.now c.requires.wide) in
+    let same = get_or-take a.count a.words.now l.x-index 0 h in
+    one-marked l.invariant (sym same) (rw same (c.requires.named.named l.x-index h))
