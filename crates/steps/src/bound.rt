@@ -21,10 +21,7 @@ use tables::VarKind;
 pub fn name_in(r: Option<(u32, u32)>) -> u32
     ensures { result ≡ name_in r }
 {
-    match r {
-        Some((x, _)) => x,
-        None => 0,
-    }
+    r.map_or(0, |(x, _)| x)
 }
 
 impl Walk<'_> {
@@ -125,13 +122,10 @@ impl Walk<'_> {
         requires { (name_in r < 4294967295) × Roomy self.old.log }
         ensures { TellsIf (misplaced_in mode.checks want r) (2008 ∷ start ∷ end ∷ suc (name_in r) ∷ one ∷ kind_in r ∷ []) self.old self.new }
     {
-        match r {
-            Some((x, k)) => {
-                if mode.checks && k != want {
-                    self.log.tell([2008, start, end, x + 1, one, k]);
-                }
+        if let Some((x, k)) = r {
+            if mode.checks && k != want {
+                self.log.tell([2008, start, end, x + 1, one, k]);
             }
-            None => {}
         }
     }
 
@@ -170,13 +164,10 @@ impl Walk<'_> {
         requires { (h.kind < 4294967295) × Ready 3 context.now self.old }
         ensures { Steps 3 context.now self.old self.new (λ id. elem_step (world_at context.now id) (mode_of mode) h) }
     {
-        match h.variable {
-            None => {}
-            Some(v) => {
-                let r = self.note(context, v);
-                self.bind_new(context, name_in(r), v, h.kind, mode);
-                self.misplace(mode, r, h.kind, h.kind + 1, h.start, h.end);
-            }
+        if let Some(v) = h.variable {
+            let r = self.note(context, v);
+            self.bind_new(context, name_in(r), v, h.kind, mode);
+            self.misplace(mode, r, h.kind, h.kind + 1, h.start, h.end);
         }
     }
 

@@ -1,4 +1,4 @@
-// What the head of an expression does before its parts and after them.
+// What the head of an expression does before its parts and after them. A finding's code is a number, since that is its name in document 01.
 ghost use Rattle.std.specs.Prelude.{◌≡◌, ◌<◌, ◌≤◌, get_or};
 ghost use Rattle.semantics.specs.Resolve.{lookup, use_var};
 ghost use Rattle.semantics.specs.Kinds.{no_type, leaf_types, at_type, at_row};
@@ -85,13 +85,10 @@ impl Walk<'_> {
         if context.is_quiet(mode, set) {
             return;
         }
-        match context.row_of(v) {
-            None => {}
-            Some((x, k)) => {
-                self.record_var(context, v, k, mode);
-                if mode.checks {
-                    self.at_row(context, set, x, k);
-                }
+        if let Some((x, k)) = context.row_of(v) {
+            self.record_var(context, v, k, mode);
+            if mode.checks {
+                self.at_row(context, set, x, k);
             }
         }
     }

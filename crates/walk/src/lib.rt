@@ -278,9 +278,8 @@ fn bind_part(walk: &mut Walk, context: &Context, path: Option<u32>, mode: Mode)
     requires { Ready (path_cost path) context.now walk.old }
     ensures { Steps (path_cost path) context.now walk.old walk.new (λ id. path_step (world_at context.now id) (mode_of mode) path) }
 {
-    match path {
-        Some(v) => walk.bind_path(context, v, mode),
-        None => {}
+    if let Some(v) = path {
+        walk.bind_path(context, v, mode);
     }
 }
 

@@ -6,6 +6,6 @@ pub returns-in-Some : goal.returns-in-Some
 returns-in-Some c =
     rw c.in-Some.is c.bind_path.ensures
 
-pub returns-in-None : goal.returns-in-None
-returns-in-None c =
-    path-none c.args.mode c.in-None.is
+pub returns-in_default : goal.returns-in_default
+returns-in_default c =
+    path-none c.args.mode c.in_default.is

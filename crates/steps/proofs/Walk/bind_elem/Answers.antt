@@ -13,9 +13,9 @@ pub misplace-requires : goal.misplace-requires
 misplace-requires c =
     let p = c.requires.1 in let n = c.note-r.ensures in (omega (arith, names_small p, name_below p.fit.some p.fit.places n.told), roomy-in p.fine (c.bind_new.ensures.fit 2 0 (n.steps.fit 3 3 p.fit)))
 
-pub returns-in-None : goal.returns-in-None
-returns-in-None c =
-    let a = c.args in elem-none a.h.kind a.h.start a.h.end a.mode c.in-None.is
+pub returns-in_default : goal.returns-in_default
+returns-in_default c =
+    let a = c.args in elem-none a.h.kind a.h.start a.h.end a.mode c.in_default.is
 
 pub returns-in-Some : goal.returns-in-Some
 returns-in-Some c =

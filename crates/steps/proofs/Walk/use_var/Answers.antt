@@ -13,9 +13,9 @@ pub at_row-requires : goal.at_row-requires
 at_row-requires c =
     let p = c.requires in let r = rw c.in-Some.is at c.row_of.ensures.range in (omega (arith, r.0, names_small p, p.fit.places), (r.1, record { fine = p.fine; fit = c.record_var.ensures.fit 1 1 p.fit }))
 
-pub returns-in-None : goal.returns-in-None
-returns-in-None c =
-    let a = c.args in rowless-use a.mode a.set a.v _ (sym c.row_of.ensures.value ∙ c.in-None.is)
+pub returns-in_default : goal.returns-in_default
+returns-in_default c =
+    let a = c.args in rowless-use a.mode a.set a.v _ (sym c.row_of.ensures.value ∙ c.in_default.is)
 
 pub returns-then-mode : goal.returns-then-mode
 returns-then-mode c =
