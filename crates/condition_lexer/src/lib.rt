@@ -38,7 +38,7 @@ fn after_operand(text: &[u8]) -> bool
     *blank == b' ' && (*end == b')' || end.is_ascii_digit())
 }
 
-// The binary sign at the end.
+// The binary sign at the end. The loop turns as the definition does; what `find_map` promises would take an induction to it.
 #[tactic(auto, using(crate::proofs::Ends::sign_turn, crate::proofs::Ends::sign_stop))]
 fn last_binary(text: &[u8]) -> Option<(Token, &[u8])>
     ensures { first_sign 20 0 (reverse text.now) ≡ last_of result }
@@ -86,7 +86,7 @@ fn number_end(text: &[u8], value: u32, digits: usize) -> Option<(Token, &[u8])>
     None
 }
 
-// The atom at the end.
+// The atom at the end. A loop: each digit counts ten times the one after it, and the text before it is what is left.
 #[tactic(auto, using(crate::proofs::Ends::digits_none, crate::proofs::Ends::digits_turn, crate::proofs::Ends::digits_stop))]
 fn last_atom(text: &[u8]) -> Option<(Token, &[u8])>
     ensures { number_last 4 0 1 0 (reverse text.now) ≡ last_of result }

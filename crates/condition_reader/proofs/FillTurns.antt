@@ -16,21 +16,19 @@ use Rattle.condition.specs.Tokens.{Tok, open', close', bad, number, un, bin, not
 use Rattle.condition.specs.Machine.{empty, Work, work, depth_at, turn, run, weight, count_of}
 use Rattle.condition.proofs.Lexing.{last_found, lex-found, lex-none}
 use Rattle.condition.proofs.Reading.{Clean, clean-tail}
-use Rattle.condition.proofs.Sound.{WellTok}
 use Rattle.condition_lexer.proofs.Ends.{reverse_last, reverse_none}
-use Rattle.condition_reader.specs.Fill.{stack_of, work_of, Starts, Unwound, Turned, Fillable, Filled}
+use Rattle.condition_reader.specs.Fill.{stack_of, work_of, HasRoom, Starts, Unwound, Turned, Fillable, Filled}
 use Rattle.condition_reader.specs.declared.machine.Machine.{Machine}
 
 -- what a token tells of the text before it
 pub record Tells (rest : List ℕ) (t : Tok) (before : List ℕ) : Type 0 where
   pub lexed : lex (reverse rest) ≡ t ∷ lex (reverse before)
   pub earlier : length before < length rest
-  pub well : WellTok t
 
 pub tells : (rest : List ℕ) (token : Token) (before : Bor (List ℕ)) → last (reverse rest) ≡ last_of (Some (token, before)) → Tells rest (tok_of token) before.now
 tells rest token before e =
     let g = last_found (reverse rest) (tok_of token) (reverse before.now) e in
-    record { lexed = lex-found (reverse rest) e; earlier = omega (arith, g.shorter, length-reverse rest, length-reverse before.now); well = g.well }
+    record { lexed = lex-found (reverse rest) e; earlier = omega (arith, g.shorter, length-reverse rest, length-reverse before.now) }
 
 -- no token, and yet a text
 pub none_left : (rest : List ℕ) → 1 ≤ length rest → last (reverse rest) ≡ nothing → lex (reverse rest) ≡ bad ∷ []
@@ -68,7 +66,7 @@ deeper (un o) d p q n h g = omega arith
 deeper (bin o) d p q n h g = omega arith
 
 module _ {text : List ℕ} {n : ℕ} {old rest : List ℕ} {m : Machine} (f : Filling text n old rest m) where
-  pub roomy : {t : Tok} {before : List ℕ} → Tells rest t before → m.waiting * 2 + weight t * 2 ≤ m.first
+  pub roomy : {t : Tok} {before : List ℕ} → Tells rest t before → HasRoom (weight t) m
   roomy {t} {before} x = omega (arith, f.room, count-cons t (lex (reverse before)) (lex (reverse rest)) x.lexed)
 
   pub turns : {t : Tok} {before : List ℕ} {m' : Machine} → Tells rest t before → Turned t m m' → Filling text n old before m'

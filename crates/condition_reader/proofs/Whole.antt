@@ -1,5 +1,5 @@
 -- From passes to the judge, and from the list to the tree.
-use Prim.Native.Nat.{ℕ, max, ◌+◌, ◌*◌, ◌<◌, ◌≤◌}
+use Prim.Native.Nat.{ℕ, max, ◌+◌, ◌*◌, ◌^◌, ◌<◌, ◌≤◌}
 use native.Mathlib.Omega.{arith}
 use mathlib.Core.Path.{◌≡◌, sym, ap, ◌∙◌}
 use mathlib.Core.Bool.{Bool, true, false, false≢true}
@@ -39,7 +39,7 @@ reads s e = judged-reads s e
 pub unread : (s : List ℕ) → judge (toks_of s) mode.Wanted false [] ≡ false → (t : Cond) → Reads s t → ⊥
 unread s e t w = let x : ◌≡◌ {A = Bool} false true = sym e ∙ reads-judged w in false≢true x
 
-pub fillable : (s : List ℕ) (n : ℕ) (list : List ℕ) → judge (toks_of s) mode.Wanted false [] ≡ true → n ≡ count_of (toks_of s) → n * 2 ≤ length list → length s * 10 + 20 < 18446744073709551616 → Fillable s n list
+pub fillable : (s : List ℕ) (n : ℕ) (list : List ℕ) → judge (toks_of s) mode.Wanted false [] ≡ true → n ≡ count_of (toks_of s) → n * 2 ≤ length list → length s * 10 + 20 < 2 ^ 64 → Fillable s n list
 fillable s n list e c f k = record { clean = clean (toks_of s) mode.Wanted false [] e; count = c; fits = f; short = k }
 
 pub filled : (s : List ℕ) (n : ℕ) (old new : List ℕ) → judge (toks_of s) mode.Wanted false [] ≡ true → n ≡ count_of (toks_of s) → n * 2 ≤ length old → Filled s n old new → (t : Cond) × (Reads s t × ((length (entries t) ≡ n * 2) × (new ≡ entries t ++ drop (n * 2) old)))

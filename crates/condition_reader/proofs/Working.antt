@@ -10,7 +10,7 @@ use borrow.Author.Tests.{lt-ltb, le-ltb}
 use Rattle.condition.specs.Cond.{binary_level}
 use Rattle.condition.specs.Tokens.{bin}
 use Rattle.condition.specs.Machine.{Work, work, unwind, rank_of}
-use Rattle.condition_reader.specs.Fill.{stack_of, work_of, Lent, Written, Unwound, Turned}
+use Rattle.condition_reader.specs.Fill.{stack_of, work_of, HasRoom, Lent, Written, Unwound, Turned}
 use Rattle.condition_reader.specs.declared.machine.Machine.{Machine}
 use Rattle.condition_reader.proofs.Stacked.{stack-two, stack_push, drop-two, drop-below}
 
@@ -18,7 +18,7 @@ use Rattle.condition_reader.proofs.Stacked.{stack-two, stack_push, drop-two, dro
 lent : {old new : Machine} (i a b : ℕ) → new.list.ghost_name ≡ old.list.ghost_name → new.list.now ≡ set (set old.list.now i a) (i + 1) b → Lent old new
 lent i a b n e = record { name = n; size = rw e (simp length-set) }
 
-pub written : {kind operand : ℕ} {old new : Machine} → old.waiting * 2 + 2 ≤ old.first → new.list.ghost_name ≡ old.list.ghost_name → new.list.now ≡ set (set old.list.now (old.first - 2) kind) (old.first - 2 + 1) operand → new.waiting ≡ old.waiting → new.first ≡ old.first - 2 → new.depth ≡ old.depth → Written kind operand old new
+pub written : {kind operand : ℕ} {old new : Machine} → HasRoom 1 old → new.list.ghost_name ≡ old.list.ghost_name → new.list.now ≡ set (set old.list.now (old.first - 2) kind) (old.first - 2 + 1) operand → new.waiting ≡ old.waiting → new.first ≡ old.first - 2 → new.depth ≡ old.depth → Written kind operand old new
 written {kind} {operand} {old} h n e s w d =
     let l = old.list.now in
     let i = old.first - 2 in
@@ -78,7 +78,7 @@ module _ {limit : ℕ} {old m : Machine} (i : Unwinding limit old m) where
   ends e = record { same = i.same ∙ rw e; room = i.room; less = i.less; depth = i.depth; lent = i.lent }
 
 -- a binary operator
-pub joined : {old mid new : Machine} (rank : ℕ) {operator : ℕ} → old.waiting * 2 + 2 ≤ old.first → rank ≡ rank_of old.depth (binary_level operator) → Unwound rank old mid → new.list.ghost_name ≡ mid.list.ghost_name → new.list.now ≡ set (set mid.list.now (mid.waiting * 2) rank) (mid.waiting * 2 + 1) operator → new.waiting ≡ mid.waiting + 1 → new.first ≡ mid.first → new.depth ≡ mid.depth → Turned (bin operator) old new
+pub joined : {old mid new : Machine} (rank : ℕ) {operator : ℕ} → HasRoom 1 old → rank ≡ rank_of old.depth (binary_level operator) → Unwound rank old mid → new.list.ghost_name ≡ mid.list.ghost_name → new.list.now ≡ set (set mid.list.now (mid.waiting * 2) rank) (mid.waiting * 2 + 1) operator → new.waiting ≡ mid.waiting + 1 → new.first ≡ mid.first → new.depth ≡ mid.depth → Turned (bin operator) old new
 joined {old} {mid} {new} rank {operator} h k u n e s f d =
     let l = u.lent in
     let m = lent {old = mid} {new = new} (mid.waiting * 2) rank operator n e in

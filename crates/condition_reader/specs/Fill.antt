@@ -1,5 +1,5 @@
 -- The machine in a list: its stack at the front, two words an operator, and what it made from a word on.
-use Rattle.std.specs.Prelude.{ℕ, zero, suc, ◌+◌, ◌*◌, ◌<◌, ◌≤◌, ◌≡◌, List, ◌∷◌, length, reverse, get_or, drop}
+use Rattle.std.specs.Prelude.{ℕ, zero, suc, ◌+◌, ◌*◌, ◌^◌, ◌<◌, ◌≤◌, ◌≡◌, List, ◌∷◌, length, reverse, get_or, drop}
 use Rattle.condition.specs.Tokens.{Tok, lex}
 use Rattle.condition.specs.Machine.{Stack, empty, waits, Work, work, unwind, turn, run, depth_at, weight, count_of}
 use Rattle.condition.proofs.Reading.{Clean}
@@ -12,6 +12,10 @@ stack_of (suc k) l = waits (get_or l (k * 2) 0) (get_or l (k * 2 + 1) 0) (stack_
 
 abbrev pub work_of : Machine → Work
 work_of m = work (stack_of m.waiting m.list.now) (drop m.first m.list.now)
+
+-- room for n entries more, with those that wait
+abbrev pub HasRoom : ℕ → Machine → Type 0
+HasRoom n m = m.waiting * 2 + n * 2 ≤ m.first
 
 -- a machine that has taken nothing, with room for n entries
 pub record Starts (old : List ℕ) (n : ℕ) (m : Machine) : Type 0 where
@@ -50,7 +54,7 @@ pub record Fillable (text : List ℕ) (n : ℕ) (list : List ℕ) : Type 0 where
   pub clean : Clean (lex (reverse text))
   pub count : n ≡ count_of (lex (reverse text))
   pub fits : n * 2 ≤ length list
-  pub short : length text * 10 + 20 < 18446744073709551616
+  pub short : length text * 10 + 20 < 2 ^ 64
 
 -- what the machine made stands at the end of the list, which is as long as it was
 pub record Filled (text : List ℕ) (n : ℕ) (old new : List ℕ) : Type 0 where

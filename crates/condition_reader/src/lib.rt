@@ -39,6 +39,7 @@ fn fill(text: &[u8], entries: usize, list: &mut [u64])
 {
     let mut machine = Machine::new(list, entries);
     let mut rest = text;
+    // Token by token from the end: each turn says where the next begins.
     while let Some((token, before)) = last_token(rest) {
         machine.take(token);
         rest = before;

@@ -1,6 +1,6 @@
 // The machine that writes the entries of a text that reads, from the last to the first. Operators that wait for their left operand stand at
 // the front of its list, each as its rank and its number: a rank is ten for each level of brackets, and the operator's level + 1.
-ghost use Rattle.std.specs.Prelude.{◌+◌, ◌*◌, ◌<◌, ◌≤◌, length};
+ghost use Rattle.std.specs.Prelude.{◌+◌, ◌*◌, ◌^◌, ◌<◌, ◌≤◌, length};
 
 use condition::{BINARY, UNARY, binary_level, unary_level};
 use condition_lexer::Token;
@@ -17,16 +17,15 @@ pub struct Machine<'a> {
     depth: u64,
     ghost apart: { waiting * 2 ≤ first },
     ghost within: { first ≤ length list.now },
-    ghost ranked: { depth * 10 + 10 < 18446744073709551616 },
+    ghost ranked: { depth * 10 + 10 < 2 ^ 64 },
 }
 
 impl<'a> Machine<'a> {
     ghost use Rattle.std.specs.Prelude.{◌≡◌};
     ghost use Rattle.condition.specs.Tokens.{open', un, bin};
     ghost use Rattle.condition.specs.Machine.{rank_of, weight};
-    ghost use Rattle.condition.proofs.Sound.{WellTok};
     ghost use Rattle.condition_lexer.specs.Seen.{tok_of};
-    ghost use Rattle.condition_reader.specs.Fill.{Starts, Written, Unwound, Turned};
+    ghost use Rattle.condition_reader.specs.Fill.{HasRoom, Starts, Written, Unwound, Turned};
 
     // A machine over a list, with room for so many entries.
     pub fn new(list: &'a mut [u64], entries: usize) -> Machine<'a>
@@ -45,7 +44,7 @@ impl<'a> Machine<'a> {
 
     // An entry before the others.
     fn write(&mut self, kind: u64, operand: u64)
-        requires { self.old.waiting * 2 + 2 ≤ self.old.first }
+        requires { HasRoom 1 self.old }
         ensures { Written kind operand self.old self.new }
     {
         self.first -= 2;
@@ -82,8 +81,7 @@ impl<'a> Machine<'a> {
 
     // A unary operator: its operand is done, and so is it.
     fn unary(&mut self, operator: usize)
-        requires known { operator < 2 }
-        requires room { self.old.waiting * 2 + 2 ≤ self.old.first }
+        requires { HasRoom 1 self.old }
         ensures { Turned (un operator) self.old self.new }
     {
         self.unwind(self.rank(unary_level(operator)));
@@ -92,8 +90,7 @@ impl<'a> Machine<'a> {
 
     // A binary operator: its right operand is done, and it waits for its left one.
     fn binary(&mut self, operator: usize)
-        requires known { operator < 20 }
-        requires room { self.old.waiting * 2 + 2 ≤ self.old.first }
+        requires { HasRoom 1 self.old }
         ensures { Turned (bin operator) self.old self.new }
     {
         let rank = self.rank(binary_level(operator));
@@ -105,9 +102,8 @@ impl<'a> Machine<'a> {
 
     // Takes the last token of what is left of the text.
     pub fn take(&mut self, token: Token)
-        requires known { WellTok (tok_of token) }
-        requires room { self.old.waiting * 2 + weight (tok_of token) * 2 ≤ self.old.first }
-        requires ranked { self.old.depth * 10 + 20 < 18446744073709551616 }
+        requires room { HasRoom (weight (tok_of token)) self.old }
+        requires ranked { self.old.depth * 10 + 20 < 2 ^ 64 }
         ensures { Turned (tok_of token) self.old self.new }
     {
         match token {

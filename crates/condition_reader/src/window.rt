@@ -33,17 +33,14 @@ impl Window {
     fn place(&self, depth: usize) -> Option<usize>
         ensures { result ≡ place_of self.now.low depth }
     {
-        let place = depth.checked_sub(self.low)?;
-        if place < LEVELS { Some(place) } else { None }
+        depth.checked_sub(self.low).filter(|place| *place < LEVELS)
     }
 
     pub fn is_marked(&self, depth: usize) -> bool
         ensures { result ≡ marked self.now depth }
     {
-        match self.place(depth) {
-            Some(place) => (self.flags[place / 8] >> (place % 8)) & 1 == 1,
-            None => false,
-        }
+        self.place(depth)
+            .is_some_and(|place| (self.flags[place / 8] >> (place % 8)) & 1 == 1)
     }
 
     // Whether an operator of this level would be the second comparison in its row.

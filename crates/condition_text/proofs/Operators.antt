@@ -3,10 +3,13 @@ use Prim.Native.Nat.{ℕ, suc, ◌+◌, ◌-◌, ◌<◌, ◌≤◌}
 use native.Mathlib.Omega.{arith}
 use mathlib.Core.Path.{◌≡◌, refl, sym, ap, ◌∙◌}
 use mathlib.Core.Bool.{Bool, true, false}
+use mathlib.Core.Logic.{⊎_elim}
 use mathlib.Core.List.{List, [], ◌∷◌, ◌++◌, append_assoc, append-nil}
 use lib.Dec.{leb, ltb}
 use lib.ListN.{length, get_or, drop, length-append, length-drop}
 use borrow.Author.Tests.{leb-true}
+use Rattle.std.proofs.lemmas.Bool.{cases_lt}
+use Rattle.std.proofs.lemmas.List.{get_or_past}
 use Rattle.words.proofs.Digits.{length-decimal, width-le}
 use Rattle.heads.specs.Got.{Got, ok, no, bare}
 use Rattle.heads.specs.Head.{Tables}
@@ -16,7 +19,7 @@ use Rattle.expr.specs.Write.{write_e}
 use Rattle.expr.proofs.Accepted.{ok-inverse}
 use Rattle.expr.proofs.Written.{written}
 use Rattle.flat.proofs.Few.{a_word}
-use Rattle.condition.specs.Cond.{Cond, unary, binary, binary_level, unary_level, left_level, binary_sign, unary_sign, atom_text}
+use Rattle.condition.specs.Cond.{Cond, unary, binary, binary_level, unary_level, left_level, binary_signs, binary_sign, unary_signs, unary_sign, atom_text}
 use Rattle.condition.specs.Printed.{wrap, printed}
 use Rattle.condition.proofs.Tables.{all-below}
 use Rattle.condition_text.specs.Tree.{cond_e, printed_at}
@@ -30,11 +33,16 @@ pub bracket-short : (b : Bool) (x : ℕ) → length (maybe b (x ∷ [])) ≤ 1
 bracket-short true x = omega arith
 bracket-short false x = omega arith
 
-pub binary-short : (o : ℕ) → o < 20 → length (binary_sign o) ≤ 13
-binary-short o h = leb-true (length (binary_sign o)) 13 (all-below 20 (λ k. leb (length (binary_sign k)) 13) refl o h)
+-- a sign has at most so many bytes where each of the table has; past the table it has none
+short : (signs : List (List ℕ)) (most : ℕ) → ((o : ℕ) → o < length signs → leb (length (get_or signs o [])) most ≡ true) → (o : ℕ) → length (get_or signs o []) ≤ most
+short signs most h o =
+    ⊎_elim (λ l. leb-true (length (get_or signs o [])) most (h o l)) (λ l. rw (get_or_past signs o [] l) (omega arith)) (cases_lt o (length signs))
 
-pub unary-short : (o : ℕ) → o < 2 → length (unary_sign o) ≤ 4
-unary-short o h = leb-true (length (unary_sign o)) 4 (all-below 2 (λ k. leb (length (unary_sign k)) 4) refl o h)
+pub binary-short : (o : ℕ) → length (binary_sign o) ≤ 13
+binary-short = short binary_signs 13 (all-below 20 (λ k. leb (length (binary_sign k)) 13) refl)
+
+pub unary-short : (o : ℕ) → length (unary_sign o) ≤ 4
+unary-short = short unary_signs 4 (all-below 2 (λ k. leb (length (unary_sign k)) 4) refl)
 
 pub atom-short : (at : ℕ) → at ≤ 2048 → length (atom_text at) ≤ 15
 atom-short at h = omega (arith, length-decimal at, width-le at (omega arith))

@@ -8,23 +8,11 @@ use Rattle.condition_text.proofs.Stages.{fits, piece, ready, part}
 use Rattle.condition_text.proofs.Operators.{task, bracket-short, binary-short, unary-short, operator, binary-begun, left-shorter, second, right-shorter, binary-put, prefix, unary-begun, operand-shorter, unary-put, atom-fits, atom-put}
 use Rattle.condition_text.proofs.writing.+print.Goals as goal
 
-pub binary_level-level-requires : goal.binary_level-level-requires
-binary_level-level-requires t c =
-    let two = let a = c.args in task (words_of a.section.now) (tables_of a.section.now) a.room a.at a.least a.page.now.end a.page.now.bytes.now c.requires in
-    let code = sym c.word.ensures ∙ c.in-15.is in
-    rw (← c.word-operator.ensures) at (operator two code).known
-
 pub overflow_sub-room : goal.overflow_sub-room
 overflow_sub-room t c =
     let two = let a = c.args in task (words_of a.section.now) (tables_of a.section.now) a.room a.at a.least a.page.now.end a.page.now.bytes.now c.requires in
     let code = sym c.word.ensures ∙ c.in-15.is in
     (operator two code).deep
-
-pub left_level-requires : goal.left_level-requires
-left_level-requires t c =
-    let two = let a = c.args in task (words_of a.section.now) (tables_of a.section.now) a.room a.at a.least a.page.now.end a.page.now.bytes.now c.requires in
-    let code = sym c.word.ensures ∙ c.in-15.is in
-    rw (← c.word-operator.ensures) at (operator two code).known
 
 pub print-middle-requires : goal.print-middle-requires
 print-middle-requires t c =
@@ -34,21 +22,14 @@ print-middle-requires t c =
     let s1 = piece (binary-begun two code) 1 14 c.put_if.ensures.wrote (bracket-short _ _) (omega arith) in
     (rw (← c.decreases) (left-shorter two code), ready s1 _ (ap is_ok op.first) two.ready.few)
 
-pub binary_sign-requires : goal.binary_sign-requires
-binary_sign-requires t c =
-    let two = let a = c.args in task (words_of a.section.now) (tables_of a.section.now) a.room a.at a.least a.page.now.end a.page.now.bytes.now c.requires in
-    let code = sym c.word.ensures ∙ c.in-15.is in
-    rw (← c.word-operator.ensures) at (operator two code).known
-
 pub put-requires : goal.put-requires
 put-requires t c =
     let two = let a = c.args in task (words_of a.section.now) (tables_of a.section.now) a.room a.at a.least a.page.now.end a.page.now.bytes.now c.requires in
     let code = sym c.word.ensures ∙ c.in-15.is in
     let op = operator two code in
-    let known = rw (← c.word-operator.ensures) at op.known in
     let s1 = piece (binary-begun two code) 1 14 c.put_if.ensures.wrote (bracket-short _ _) (omega arith) in
     let s2 = part s1 c.print-middle.ensures.put op.left op.mid op.first in
-    rw c.binary_sign.ensures (fits s2 13 _ (binary-short _ known) (omega arith))
+    rw c.binary_sign.ensures (fits s2 13 _ (binary-short c.word-operator.result) (omega arith))
 
 pub overflow_sub-room-in-15 : goal.overflow_sub-room-in-15
 overflow_sub-room-in-15 t c =
@@ -61,10 +42,9 @@ print-next-requires t c =
     let two = let a = c.args in task (words_of a.section.now) (tables_of a.section.now) a.room a.at a.least a.page.now.end a.page.now.bytes.now c.requires in
     let code = sym c.word.ensures ∙ c.in-15.is in
     let op = operator two code in
-    let known = rw (← c.word-operator.ensures) at op.known in
     let s1 = piece (binary-begun two code) 1 14 c.put_if.ensures.wrote (bracket-short _ _) (omega arith) in
     let s2 = part s1 c.print-middle.ensures.put op.left op.mid op.first in
-    let s3 = piece s2 13 1 (rw c.binary_sign.ensures at c.put.ensures.wrote) (binary-short _ known) (omega arith) in
+    let s3 = piece s2 13 1 (rw c.binary_sign.ensures at c.put.ensures.wrote) (binary-short c.word-operator.result) (omega arith) in
     let next = second two code _ c.print-middle.ensures.put in
     (rw (← c.decreases) (right-shorter two code _ c.print-middle.ensures.put), ready s3 _ (ap is_ok next) two.ready.few)
 
@@ -73,10 +53,9 @@ put_if-requires-in-15 t c =
     let two = let a = c.args in task (words_of a.section.now) (tables_of a.section.now) a.room a.at a.least a.page.now.end a.page.now.bytes.now c.requires in
     let code = sym c.word.ensures ∙ c.in-15.is in
     let op = operator two code in
-    let known = rw (← c.word-operator.ensures) at op.known in
     let s1 = piece (binary-begun two code) 1 14 c.put_if.ensures.wrote (bracket-short _ _) (omega arith) in
     let s2 = part s1 c.print-middle.ensures.put op.left op.mid op.first in
-    let s3 = piece s2 13 1 (rw c.binary_sign.ensures at c.put.ensures.wrote) (binary-short _ known) (omega arith) in
+    let s3 = piece s2 13 1 (rw c.binary_sign.ensures at c.put.ensures.wrote) (binary-short c.word-operator.result) (omega arith) in
     let next = second two code _ c.print-middle.ensures.put in
     let s4 = part s3 c.print-next.ensures.put _ _ next in
     fits s4 1 _ (bracket-short _ _) (omega arith)
@@ -86,10 +65,9 @@ returns-in-15 t c =
     let two = let a = c.args in task (words_of a.section.now) (tables_of a.section.now) a.room a.at a.least a.page.now.end a.page.now.bytes.now c.requires in
     let code = sym c.word.ensures ∙ c.in-15.is in
     let op = operator two code in
-    let known = rw (← c.word-operator.ensures) at op.known in
     let s1 = piece (binary-begun two code) 1 14 c.put_if.ensures.wrote (bracket-short _ _) (omega arith) in
     let s2 = part s1 c.print-middle.ensures.put op.left op.mid op.first in
-    let s3 = piece s2 13 1 (rw c.binary_sign.ensures at c.put.ensures.wrote) (binary-short _ known) (omega arith) in
+    let s3 = piece s2 13 1 (rw c.binary_sign.ensures at c.put.ensures.wrote) (binary-short c.word-operator.result) (omega arith) in
     let next = second two code _ c.print-middle.ensures.put in
     let s4 = part s3 c.print-next.ensures.put _ _ next in
     let s5 = piece s4 1 0 c.put_if-in-15.ensures.wrote (bracket-short _ _) (omega arith) in
@@ -97,12 +75,6 @@ returns-in-15 t c =
       put = binary-put two code _ c.print-middle.ensures.put c.word-operator.ensures c.binary_level-level.ensures c.left_level.ensures refl c.print-next.ensures.put s5;
       lent = c.put_if-in-15.ensures.lent ∙ (c.print-next.ensures.lent ∙ (c.put.ensures.lent ∙ (c.print-middle.ensures.lent ∙ c.put_if.ensures.lent)));
     }
-
-pub unary_sign-requires : goal.unary_sign-requires
-unary_sign-requires t c =
-    let two = let a = c.args in task (words_of a.section.now) (tables_of a.section.now) a.room a.at a.least a.page.now.end a.page.now.bytes.now c.requires in
-    let code = sym c.word.ensures ∙ c.in-16.is in
-    rw (← c.word-operator-in-16.ensures) at (prefix two code).known
 
 pub overflow_sub-room-in-16 : goal.overflow_sub-room-in-16
 overflow_sub-room-in-16 t c =
@@ -115,9 +87,8 @@ print-next-requires-in-16 t c =
     let two = let a = c.args in task (words_of a.section.now) (tables_of a.section.now) a.room a.at a.least a.page.now.end a.page.now.bytes.now c.requires in
     let code = sym c.word.ensures ∙ c.in-16.is in
     let op = prefix two code in
-    let known = rw (← c.word-operator-in-16.ensures) at op.known in
     let u1 = piece (unary-begun two code) 1 14 c.put_if-in-16.ensures.wrote (bracket-short _ _) (omega arith) in
-    let u2 = piece u1 4 10 (rw c.unary_sign.ensures at c.put-in-16.ensures.wrote) (unary-short _ known) (omega arith) in
+    let u2 = piece u1 4 10 (rw c.unary_sign.ensures at c.put-in-16.ensures.wrote) (unary-short c.word-operator-in-16.result) (omega arith) in
     (rw (← c.decreases) (operand-shorter two code), ready u2 _ (ap is_ok op.first) two.ready.few)
 
 pub put_if-requires-in-16-2 : goal.put_if-requires-in-16-2
@@ -125,9 +96,8 @@ put_if-requires-in-16-2 t c =
     let two = let a = c.args in task (words_of a.section.now) (tables_of a.section.now) a.room a.at a.least a.page.now.end a.page.now.bytes.now c.requires in
     let code = sym c.word.ensures ∙ c.in-16.is in
     let op = prefix two code in
-    let known = rw (← c.word-operator-in-16.ensures) at op.known in
     let u1 = piece (unary-begun two code) 1 14 c.put_if-in-16.ensures.wrote (bracket-short _ _) (omega arith) in
-    let u2 = piece u1 4 10 (rw c.unary_sign.ensures at c.put-in-16.ensures.wrote) (unary-short _ known) (omega arith) in
+    let u2 = piece u1 4 10 (rw c.unary_sign.ensures at c.put-in-16.ensures.wrote) (unary-short c.word-operator-in-16.result) (omega arith) in
     let u3 = part u2 c.print-next-in-16.ensures.put op.operand _ op.first in
     fits u3 1 _ (bracket-short _ _) (omega arith)
 
@@ -136,9 +106,8 @@ returns-in-16 t c =
     let two = let a = c.args in task (words_of a.section.now) (tables_of a.section.now) a.room a.at a.least a.page.now.end a.page.now.bytes.now c.requires in
     let code = sym c.word.ensures ∙ c.in-16.is in
     let op = prefix two code in
-    let known = rw (← c.word-operator-in-16.ensures) at op.known in
     let u1 = piece (unary-begun two code) 1 14 c.put_if-in-16.ensures.wrote (bracket-short _ _) (omega arith) in
-    let u2 = piece u1 4 10 (rw c.unary_sign.ensures at c.put-in-16.ensures.wrote) (unary-short _ known) (omega arith) in
+    let u2 = piece u1 4 10 (rw c.unary_sign.ensures at c.put-in-16.ensures.wrote) (unary-short c.word-operator-in-16.result) (omega arith) in
     let u3 = part u2 c.print-next-in-16.ensures.put op.operand _ op.first in
     let u4 = piece u3 1 0 c.put_if-in-16-2.ensures.wrote (bracket-short _ _) (omega arith) in
     record {

@@ -5,4 +5,4 @@ use Rattle.condition_reader.proofs.machine.Machine.binary.Goals as goal
 
 pub returns : goal.returns
 returns c =
-    joined _ c.requires.room (rw c.binary_level.ensures at c.rank-rank.ensures) c.unwind.ensures refl refl refl refl refl
+    joined _ c.requires (rw c.binary_level.ensures at c.rank-rank.ensures) c.unwind.ensures refl refl refl refl refl
