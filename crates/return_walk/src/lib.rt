@@ -1,5 +1,5 @@
 // RETURN: its projections are walked from outside its scope, which is current after it. So are its sort keys, in which its aliases are no use:
-// these are held while its projections are walked, and marked while its sort keys are. The kind of its scope is the number that the lists have.
+// these are held while its projections are walked, and marked while its sort keys are.
 // `held` and `marks` are lent beside the walk, so that walk_return has six parameters (tried: what a struct borrows from another's field is not known
 // afterwards, and the aliases and a context borrow them).
 #![tactic(auto)]
@@ -19,6 +19,7 @@ use aliases::Aliases;
 use clause_parts::{Head, alias_of, next_word, walk_counted};
 use clauses::{ClauseKind, MAX_DEPTH};
 use refusal::Refusal;
+use scope::ScopeKind;
 use steps::{Context, Mode, Setting, Walk};
 use walk::walk_expr;
 
@@ -115,7 +116,7 @@ pub fn walk_return(
 {
     let top = walk.visible.top;
     let outer = walk.cur;
-    walk.enter(context, 8, head.start, head.end);
+    walk.enter(context, ScopeKind::Return, head.start, head.end);
     let scope = walk.cur;
     walk.leave(top, outer);
     match head.kind {

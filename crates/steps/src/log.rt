@@ -1,5 +1,5 @@
 // What the walks say: the name walk's events from the front of the words, the kind walk's findings from their back, six words each.
-ghost use Rattle.std.specs.Prelude.{◌≡◌, ℕ, ◌+◌, ◌≤◌, length, Result};
+ghost use Rattle.std.specs.Prelude.{◌≡◌, ℕ, ◌+◌, ◌≤◌, length};
 ghost use Rattle.steps.specs.Said.{Sorts, Roomy, Put, Says, Tells};
 
 // The sorts of events by their first words; any other first word is a finding's code.
