@@ -11,7 +11,6 @@ use Rattle.heads.specs.Got.{Got, ok, no, bind, bare, any_word, flag, counted}
 use Rattle.heads.specs.Head.{Tables}
 use Rattle.heads.specs.Answer.{Ans}
 use Rattle.heads.proofs.Shapes.{bare-map}
-use Rattle.heads.proofs.Reading.{past, failed, beyond, stopped, ended, over, chosen, otherwise}
 use Rattle.expr.specs.Read.{no_more, times, pattern, maybe_pattern}
 use Rattle.clauses.specs.Tree.{Opening, Reading, where', delete, Keys, unsorted, opening, reading, return, unwind}
 use Rattle.clauses.specs.Kind.{code_of, Decodes}
@@ -20,9 +19,6 @@ use Rattle.clauses.specs.declared.kind.ClauseKind.TheVariants.{Match, Where, Wit
 use lib.Dec.{eqb}
 use borrow.Author.Tests.{ne_eqb}
 use Rattle.clauses.specs.Read.{clause_expr, read_projection, read_yield, counted_exprs, counted_marks, no_keys, some_keys, read_match, read_opening, read_where, read_with, read_return, read_unwind, read_marked, read_delete, read_call, read_body}
-
--- what is read first, and what is read after it
-pub ruleset steps = (past, failed, beyond, stopped, ended, over, chosen, otherwise)
 
 bare-both : {A : Type 0} (b : Bool) (x y : Got A) → bare (cond b x y) ≡ cond b (bare x) (bare y)
 bare-both true x y = refl

@@ -1,5 +1,5 @@
 // Clauses and arms of a section, read in place.
-#![tactic(auto, using(crate::proofs::Body::steps), unfolding(crate::specs::Read::clausal, heads::specs::Got::counted, expr::specs::Read::maybe_pattern))]
+#![tactic(auto, using(heads::proofs::Reading::steps), unfolding(crate::specs::Read::clausal, heads::specs::Got::counted, expr::specs::Read::maybe_pattern))]
 
 mod kind;
 

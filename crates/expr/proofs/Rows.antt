@@ -1,5 +1,5 @@
 -- The rows of an expression and a pattern: expressions, marks with their expressions, elements, parts.
-use Rattle.std.proofs.Common.{◌≤◌, drop, length, arith}
+use Rattle.std.proofs.Common.{drop, arith}
 use Rattle.heads.specs.Answer.{Ans}
 use mathlib.Core.Bool.{cond}
 use Rattle.heads.proofs.Rows.{Rows, rows-rest}

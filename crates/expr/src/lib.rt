@@ -63,6 +63,7 @@ pub fn read_marks(
 
 // A pattern, where there is one.
 #[cycle(readers)]
+#[tactic(auto, using(heads::proofs::Reading::steps), unfolding(crate::specs::Read::maybe_pattern, crate::specs::Read::pattern))]
 pub fn read_pattern(section: &Section, at: usize, room: u32, has: bool) -> Result<usize, Refusal>
     requires { at ≤ length (words_of section.now) }
     ensures { Reads (words_of section.now) at (maybe_pattern has (tables_of section.now) (reader_of section.now room)) result }
@@ -89,6 +90,7 @@ pub fn read_parts(section: &Section, at: usize, room: u32, n: u32) -> Result<usi
 
 // A part of a pattern, with its elements.
 #[cycle(readers)]
+#[tactic(auto, using(heads::proofs::Reading::steps), unfolding(crate::specs::Read::part_one))]
 pub fn read_part(section: &Section, at: usize, room: u32) -> Result<usize, Refusal>
     requires { at ≤ length (words_of section.now) }
     ensures { Reads (words_of section.now) at (part_one (tables_of section.now) (reader_of section.now room)) result }
@@ -115,6 +117,7 @@ pub fn read_elems(section: &Section, at: usize, room: u32, n: u32) -> Result<usi
 
 // An element of a part, with its property.
 #[cycle(readers)]
+#[tactic(auto, using(heads::proofs::Reading::steps), unfolding(crate::specs::Read::elem_one))]
 pub fn read_elem(section: &Section, at: usize, room: u32) -> Result<usize, Refusal>
     requires { at ≤ length (words_of section.now) }
     ensures { Reads (words_of section.now) at (elem_one (tables_of section.now) (reader_of section.now room)) result }

@@ -6,7 +6,11 @@ use Rattle.std.specs.Result.{IsErr, IsErrAnd}
 use Rattle.refusal.specs.Number.{number_of}
 use Rattle.refusal.specs.declared.Refusal.{Refusal}
 use Rattle.refusal.proofs.Handed.{handed}
-use Rattle.heads.specs.Got.{Got, ok, no, bind, bare}
+use borrow.Author.Tests.{eq-eqb, ne_eqb}
+use Rattle.words.proofs.Words.{drop-word, drop-none}
+use Rattle.heads.specs.Got.{Got, ok, no, bind, bare, counted}
+use Rattle.heads.specs.Form.{case_rest, comp_rest, read_form}
+use Rattle.heads.specs.Head.{read_maybe, read_part, read_elem}
 use Rattle.heads.specs.Answer.{Ans, got, end, longer, read_got, read_end}
 
 -- what a `?` answers
@@ -72,5 +76,16 @@ pub longer_from : {A : Type 0} {ws : List ℕ} {at p : ℕ} {g : Got A} (r : Res
 longer_from (Ok x) lt a = omega arith
 longer_from (Err e) lt a = tt
 
+-- `unfolding readers` opens the readers' definitions
+unfoldable pub readers : Unit {0}
+unfolding counted case_rest comp_rest read_form read_maybe read_part read_elem
+readers = tt
+
 -- what is read first, and what is read after it
-pub ruleset steps = (onward, halted, past, failed, over, chosen, otherwise)
+pub ruleset steps = (onward, halted, past, failed, beyond, stopped, ended, over, chosen, otherwise)
+
+-- the words from a place on have a first one, or there are none
+pub ruleset from_there = (drop-word, drop-none)
+
+-- a test of equality that holds or not
+pub ruleset tests = (eq-eqb, ne_eqb)

@@ -35,7 +35,6 @@ pub fn read_many<I: Item>(section: &Section, at: usize, n: u32) -> Result<usize,
 }
 
 // A count, and as many items of a kind.
-#[tactic(auto, using(crate::proofs::Reading::steps), unfolding(crate::specs::Got::counted))]
 pub fn counted<I: Item>(section: &Section, at: usize) -> Result<usize, Refusal>
     requires { at ≤ length (words_of section.now) }
     ensures { Reads (words_of section.now) at (counted (I.one (tables_of section.now))) result }

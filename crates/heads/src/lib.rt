@@ -2,7 +2,7 @@
 // head. A section is a part of a sheet that ends where its words do; a position in it is a word's number. What reads takes a position and
 // answers what it read and the next position, and shares no cursor: after a refusal there is no next one, and readers in a row are a row of
 // `let (x, at)`.
-#![tactic(auto)]
+#![tactic(auto, using(crate::proofs::Reading::steps), unfolding(crate::proofs::Reading::readers))]
 
 mod item;
 
@@ -78,12 +78,14 @@ const LIMIT: [u64; 26] = [
     0, 0, 2, 0, 2, 4294967296, 0,
 ];
 
+#[tactic(auto, unfolding(crate::specs::Form::shape_of))]
 pub fn shape_of(code: u32) -> u8
     ensures { result ≡ shape_of code }
 {
     if code < 26 { SHAPE[code as usize] } else { 0 }
 }
 
+#[tactic(auto, using(crate::proofs::Reading::tests), unfolding(crate::specs::Form::limit_of))]
 pub fn limit_of(code: u32, names: u32) -> u64
     ensures { result ≡ limit_of names code }
 {
@@ -97,6 +99,7 @@ pub fn limit_of(code: u32, names: u32) -> u64
 }
 
 // The head with the code and no word after it.
+#[tactic(auto, using(crate::proofs::Reading::tests), unfolding(crate::specs::Form::form_none))]
 pub fn form_none(code: u32) -> Form
     ensures { result ≡ form_none code }
 {
@@ -110,6 +113,7 @@ pub fn form_none(code: u32) -> Form
 }
 
 // The head with the code and the word a after it.
+#[tactic(auto, using(crate::proofs::Reading::tests), unfolding(crate::specs::Form::form_one))]
 pub fn form_one(code: u32, a: u32) -> Form
     ensures { result ≡ form_one code a }
 {
@@ -129,6 +133,7 @@ pub fn form_one(code: u32, a: u32) -> Form
 
 impl Section<'_> {
     // The word at `at`, if it is there, at least lo and below hi.
+    #[tactic(auto, using(crate::proofs::Reading::from_there), unfolding(crate::specs::Got::word_in))]
     pub fn word_in(&self, at: usize, lo: u32, hi: u64) -> Result<(u32, usize), Refusal>
         requires { at ≤ length (words_of self.now) }
         ensures one { one_on at result }
@@ -182,6 +187,7 @@ impl Section<'_> {
     }
 
     // What follows a code.
+    #[tactic(auto, using(crate::proofs::Reading::steps, crate::proofs::Reading::tests), unfolding(crate::specs::Form::rest_of))]
     fn read_rest(&self, code: u32, at: usize) -> Result<(Form, usize), Refusal>
         requires { at ≤ length (words_of self.now) }
         ensures { Takes (words_of self.now) at (rest_of self.now.names code) result }
@@ -271,6 +277,7 @@ impl Section<'_> {
     }
 
     // Whether a variable may be bound.
+    #[tactic(auto, unfolding(crate::specs::Answer::known_at))]
     pub fn knows(&self, v: u32) -> bool
         ensures { result ≡ (tables_of self.now).known v }
     {
@@ -291,6 +298,7 @@ impl Section<'_> {
     }
 
     // The refusal where no room is left: a word there is too deep, and a missing one is missing.
+    #[tactic(auto, using(crate::proofs::Reading::from_there), unfolding(crate::specs::Head::deep_cause))]
     pub fn too_deep(&self, at: usize) -> Refusal
         ensures { number_of result ≡ deep_cause (drop at (words_of self.now)) }
     {

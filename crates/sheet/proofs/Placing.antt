@@ -97,3 +97,6 @@ places-of s p e = sym (passed (sized s) (in_place (words s)) (places_of (words s
 -- the same of an answer
 pub placed_at : (s : List ℕ) {p : Places} → sheet_of (Ok p) ≡ locate s → (locate s ≡ accepted p) × InPlaces s p
 placed_at s {p} e = let h : locate s ≡ accepted p = cc in (h, in-places s p h)
+
+-- what tells how many words there are
+pub ruleset lengths = (length-words, size_of, falling)

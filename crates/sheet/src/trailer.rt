@@ -28,6 +28,7 @@ const MIN_BYTES: usize = 40;
 
 pub const MAX_BYTES: usize = 8192;
 
+#[tactic(auto, unfolding(crate::specs::Trailer::sized))]
 fn is_sized(s: &[u8]) -> bool
     ensures { result ≡ sized s.now }
 {
@@ -36,6 +37,7 @@ fn is_sized(s: &[u8]) -> bool
 
 // Whether each section begins no earlier than the one before it, the first at word 0, and the span is not reversed; t is the trailer's
 // first word.
+#[tactic(auto, using(crate::proofs::Placing::lengths), unfolding(crate::specs::Trailer::in_place))]
 fn is_in_place(s: &[u8], t: usize) -> bool
     requires { t + 10 ≡ length (words s.now) }
     ensures { result ≡ in_place (words s.now) }
@@ -49,6 +51,7 @@ fn is_in_place(s: &[u8], t: usize) -> bool
     (names as usize == t) & ((rows <= names) & ((head <= rows) & ((arms <= head) & (start <= end))))
 }
 
+#[tactic(auto, using(crate::proofs::Placing::lengths), unfolding(crate::specs::Trailer::places_of))]
 fn read_places(s: &[u8], t: usize) -> Places
     requires { (t + 10 ≡ length (words s.now)) × (in_place (words s.now) ≡ true) }
     ensures { result ≡ places_of (words s.now) }
@@ -68,6 +71,7 @@ fn read_places(s: &[u8], t: usize) -> Places
 }
 
 // Where the sections stand, by the trailer alone.
+#[tactic(auto, using(crate::proofs::Placing::lengths), unfolding(crate::specs::Read::locate))]
 pub fn find_places(s: &[u8]) -> Result<Places, Refusal>
     ensures { sheet_of result ≡ locate s.now }
 {

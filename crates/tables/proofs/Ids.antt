@@ -6,7 +6,7 @@ use mathlib.Core.Bool.{not, ◌&&◌}
 use mathlib.Core.List.{List, [], ◌∷◌, ◌++◌}
 use lib.ListN.{length, drop, get_or}
 use lib.Seq.{drop-drop}
-use Rattle.words.proofs.Words.{drop-word}
+use Rattle.words.proofs.Words.{drop-word, length-words}
 use Rattle.heads.specs.Answer.{row_ids, is_in}
 use Rattle.tables.specs.Distinct.{fresh_after}
 
@@ -33,3 +33,6 @@ fresh-id ws rows n i h lt =
     let more : i + 1 ≡ suc i = omega arith in
     let on : rows + i * 5 + 5 ≡ rows + (i + 1) * 5 = omega arith in
     rw (one, ids-first ws (rows + i * 5) (n - (i + 1)) lt, on, ← ids-last ws rows i lt, more)
+
+-- how many words there are
+pub ruleset lengths = (length-words)

@@ -31,6 +31,7 @@ impl Item for Row {
 }
 
 // Whether no two of the section's first n bindings have the same variable.
+#[tactic(auto, using(crate::proofs::Ids::lengths))]
 pub fn distinct_ids(section: &Section, n: usize) -> bool
     requires { section.now.rows + n * 5 ≤ length (words_of section.now) }
     ensures { result ≡ distinct is_in (row_ids n (drop section.now.rows (words_of section.now))) }

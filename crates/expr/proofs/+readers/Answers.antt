@@ -1,45 +1,9 @@
-use Rattle.std.proofs.Common.{rules, arith, ◌≡◌, refl, ◌-◌, ℕ, suc}
+use Rattle.std.proofs.Common.{rules, arith, ◌≡◌, ◌-◌, suc}
 use Rattle.heads.proofs.Reading.{refused, past, failed, beyond, stopped, ended, chosen, otherwise}
 use Rattle.heads.proofs.Rows.{row_begun, row_next, row_stop, row_done}
-use Rattle.expr.specs.Read.{elem_one, part_one, maybe_pattern, pattern, read_expr, after_form}
+use Rattle.expr.specs.Read.{read_expr, after_form}
 use Rattle.expr.proofs.Rows.{mark_none, mark_then, kids_refused, items_read}
 use Rattle.expr.proofs.+readers.Goals as goal
-
-pub read_elem-returns-in_err-elem : goal.read_elem-returns-in_err-elem
-unfolding elem_one
-read_elem-returns-in_err-elem t c = search (rules, past, failed, beyond, stopped, ended, chosen, otherwise)
-
-pub read_elem-returns-then-not-may_bind : goal.read_elem-returns-then-not-may_bind
-unfolding elem_one
-read_elem-returns-then-not-may_bind t c = search (rules, past, failed, beyond, stopped, ended, chosen, otherwise)
-
-pub read_elem-returns : goal.read_elem-returns
-unfolding elem_one
-read_elem-returns t c = search (rules, past, failed, beyond, stopped, ended, chosen, otherwise)
-
-pub read_part-returns-in_err-part : goal.read_part-returns-in_err-part
-unfolding part_one
-read_part-returns-in_err-part t c = search (rules, past, failed, beyond, stopped, ended, chosen, otherwise)
-
-pub read_part-returns-then-not-may_bind : goal.read_part-returns-then-not-may_bind
-unfolding part_one
-read_part-returns-then-not-may_bind t c = search (rules, past, failed, beyond, stopped, ended, chosen, otherwise)
-
-pub read_part-returns : goal.read_part-returns
-unfolding part_one
-read_part-returns t c = search (rules, past, failed, beyond, stopped, ended, chosen, otherwise)
-
-pub read_pattern-returns-then-not-has : goal.read_pattern-returns-then-not-has
-unfolding maybe_pattern
-read_pattern-returns-then-not-has t c = record { same = rw c.if-not-has.true; from = omega arith; within = omega arith }
-
-pub read_pattern-returns-in_err-n : goal.read_pattern-returns-in_err-n
-unfolding maybe_pattern pattern
-read_pattern-returns-in_err-n t c = rw c.if-not-has.false (search (rules, failed))
-
-pub read_pattern-returns : goal.read_pattern-returns
-unfolding maybe_pattern pattern
-read_pattern-returns t c = rw c.if-not-has.false (search (rules, past))
 
 pub read_expr-returns-then-room-eq0 : goal.read_expr-returns-then-room-eq0
 unfolding read_expr

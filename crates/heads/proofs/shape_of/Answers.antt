@@ -1,13 +1,8 @@
--- The code's table is the definition's, which has 0 past its end.
-use mathlib.Core.Path.{sym, refl}
+-- Past the end of its table the definition has 0.
+use mathlib.Core.Path.{sym}
 use lib.ListN.{get_or-eq_default}
 use Rattle.heads.specs.Form.{shapes, shape_of}
 use Rattle.heads.proofs.shape_of.Goals as goal
-
-pub returns-then-code-lt26 : goal.returns-then-code-lt26
-unfolding shape_of
-returns-then-code-lt26 c =
-    refl
 
 pub returns-else-code-lt26 : goal.returns-else-code-lt26
 unfolding shape_of

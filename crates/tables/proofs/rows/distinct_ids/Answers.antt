@@ -5,7 +5,6 @@ use mathlib.Core.Path.{◌≡◌, sym, ◌∙◌}
 use mathlib.Core.Bool.{Bool, not, ◌&&◌}
 use mathlib.Core.List.{List}
 use lib.ListN.{length, drop, get_or}
-use Rattle.words.proofs.Words.{length-words}
 use Rattle.heads.specs.Answer.{row_ids, is_in}
 use Rattle.tables.specs.Distinct.{fresh_after, distinct}
 use Rattle.tables.proofs.Ids.{fresh-id}
@@ -22,16 +21,6 @@ loop-i-init c =
     let n : c.args.n - 0 ≡ c.args.n = omega arith in
     let p : c.args.section.now.rows + 0 * 5 ≡ c.args.section.now.rows = omega arith in
     record { most = omega arith; same = rw (n, p) }
-
-pub overflow_mul-i : goal.overflow_mul-i
-unfolding distinct fresh_after row_ids
-overflow_mul-i c =
-    omega (arith, length-words c.args.section.now.bytes.now)
-
-pub overflow_add-section : goal.overflow_add-section
-unfolding distinct fresh_after row_ids
-overflow_add-section c =
-    omega (arith, length-words c.args.section.now.bytes.now)
 
 pub returns-then-has_row : goal.returns-then-has_row
 unfolding distinct fresh_after row_ids
