@@ -1,4 +1,6 @@
 // The clauses of a head and the arms, one after the other. What a WITH carries is stored into the carried list behind it, where that has room.
+// `held`, `marks` and `carried` are lent beside the walk, so there are five to seven parameters (tried: what a struct borrows from another's field is
+// not known afterwards, and a WITH's pairs and a context borrow them).
 #![tactic(auto)]
 
 ghost use Rattle.std.specs.Prelude.{◌≡◌, length};
@@ -37,14 +39,8 @@ fn take_carried(walk: &Walk, carried: &mut [u32], from: u32)
     }
     let barrier = walk.cur - 1;
     for i in 0..walk.visible.top {
-        let k = walk.visible.names as usize + i as usize * 4;
-        put_carried(
-            carried,
-            from + i,
-            barrier,
-            walk.visible.words[k],
-            walk.visible.words[k + 1],
-        );
+        let (name, variable) = walk.visible.entry(i);
+        put_carried(carried, from + i, barrier, name, variable);
     }
 }
 

@@ -1,6 +1,8 @@
 // A clause, read and walked in one over any words: the refusal, or where both walks stand then. `held` has the pairs that a WITH is to carry, two
 // words each, or the aliases of a RETURN with sort keys, while its projections are walked. Such a RETURN sets the marks of these, and takes them
-// away again. Kinds of scopes and bindings are the numbers that the lists have.
+// away again. Kinds of scopes and bindings are the numbers that the lists have. Both are lent beside the walk, so that walk_body has six parameters
+// (tried: what a struct borrows from another's field is not known afterwards, and a WITH's pairs and a context borrow them). Contracts say that the
+// mode resolves names; it is handed on whole, since an Unwind and a Call walk on in it without resolving.
 #![tactic(auto)]
 
 ghost use Rattle.std.specs.Prelude.{◌≡◌, true, length};
@@ -15,10 +17,10 @@ use clause_parts::{Head, alias_of, next_word, walk_counted};
 use clauses::{ClauseKind, MAX_DEPTH};
 use heads::MarkKind;
 use refusal::Refusal;
-use return_walk::{walk_return, walk_sorted_return};
+use return_walk::walk_return;
 use steps::{Context, Mode, Setting, Settings, Walk, name_in};
 use walk::{walk_expr, walk_marks, walk_pattern, walk_row};
-use with_walk::{walk_sorted_with, walk_with};
+use with_walk::walk_with;
 
 // A count, and as many marks of the kind.
 fn walk_marked(
@@ -144,8 +146,10 @@ fn walk_body(
             mode,
             Settings::all(Setting::General),
         ),
-        ClauseKind::With => walk_with(walk, context, held, head, mode),
-        ClauseKind::Return => walk_return(walk, context, head, mode),
+        ClauseKind::With | ClauseKind::SortedWith => walk_with(walk, context, held, head, mode),
+        ClauseKind::Return | ClauseKind::SortedReturn => walk_return(
+            walk, context, held, marks, head, mode,
+        ),
         ClauseKind::Unwind => walk_unwind(walk, context, head, mode),
         ClauseKind::Create => walk_opening(walk, context, head, 3, mode),
         ClauseKind::Merge => walk_opening(walk, context, head, 4, mode),
@@ -153,8 +157,6 @@ fn walk_body(
         ClauseKind::Remove => walk_marked(walk, context, MarkKind::Remove, mode),
         ClauseKind::Delete => walk_counted(walk, context, mode),
         ClauseKind::Call => walk_call(walk, context, head, mode),
-        ClauseKind::SortedWith => walk_sorted_with(walk, context, held, head, mode),
-        ClauseKind::SortedReturn => walk_sorted_return(walk, context, held, marks, head, mode),
     }
 }
 
