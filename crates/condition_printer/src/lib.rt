@@ -20,7 +20,7 @@ use sheet::{Places, check_both, find_places, open};
 const ROOM: usize = 15 * 2048;
 
 // Where the sections stand, or which of the causes 1 to 6 the sheet has. Only where a variable has no binding, head and arms are read again,
-// with binders not looked up.
+// with binders not looked up. Two tests: a match's default arm tells a proof nothing of the refusal.
 fn open_unbound(s: &[u8]) -> Result<Places, Refusal>
     ensures { sheet_of result ≡ opened_for (read_conditions s.now) s.now }
 {
