@@ -1,12 +1,13 @@
 // A clause, read and walked in one over any words: the refusal, or where both walks stand then. `held` has the pairs that a WITH is to carry, two
 // words each, or the aliases of a RETURN with sort keys, while its projections are walked. Such a RETURN sets the marks of these, and takes them
-// away again. Kinds of scopes and bindings are the numbers that the lists have. Both are lent beside the walk, so that walk_body has six parameters
+// away again. Both are lent beside the walk, so that walk_body has six parameters
 // (tried: what a struct borrows from another's field is not known afterwards, and a WITH's pairs and a context borrow them). Contracts say that the
 // mode resolves names; it is handed on whole, since an Unwind and a Call walk on in it without resolving.
 #![tactic(auto)]
 
 ghost use Rattle.std.specs.Prelude.{◌≡◌, true, length};
 ghost use Rattle.heads.specs.Answer.{kind_of};
+ghost use Rattle.scope.specs.Kind.{number_of};
 ghost use Rattle.clauses.specs.Kind.{code_of};
 ghost use Rattle.steps.specs.Modes.{mode_of};
 ghost use Rattle.steps.specs.Hold.{Ready, Steps};
@@ -18,7 +19,9 @@ use clauses::{ClauseKind, MAX_DEPTH};
 use heads::MarkKind;
 use refusal::Refusal;
 use return_walk::walk_return;
+use scope::ScopeKind;
 use steps::{Context, Mode, Setting, Settings, Walk, name_in};
+use tables::VarKind;
 use walk::{walk_expr, walk_marks, walk_pattern, walk_row};
 use with_walk::walk_with;
 
@@ -36,16 +39,16 @@ fn walk_marked(
     walk_marks(walk, context, MAX_DEPTH, kind, n, mode)
 }
 
-// A scope of the kind with a pattern: 2 Match, 3 Create, 4 Merge by the kinds of scopes.
+// A scope of the kind with a pattern.
 fn walk_opening(
     walk: &mut Walk,
     context: &Context,
     head: Head,
-    kind: u32,
+    kind: ScopeKind,
     mode: Mode,
 ) -> Result<(), Refusal>
     requires { ((mode_of mode).resolves ≡ true) × Ready 3 context.now walk.old }
-    ensures { Passes 3 context.now walk.old walk.new (scope_at context.now (mode_of mode) head.start head.end kind) result }
+    ensures { Passes 3 context.now walk.old walk.new (scope_at context.now (mode_of mode) head.start head.end (number_of kind)) result }
 {
     walk.enter(context, kind, head.start, head.end);
     walk_pattern(walk, context, MAX_DEPTH, mode)
@@ -56,9 +59,9 @@ fn bind_unwind(walk: &mut Walk, context: &Context, head: Head, v: u32)
     requires { Ready 4 context.now walk.old }
     ensures { Steps 4 context.now walk.old walk.new (unwound_at context.now head.start head.end v) }
 {
-    walk.enter(context, 5, head.start, head.end);
+    walk.enter(context, ScopeKind::Unwind, head.start, head.end);
     let r = walk.note(context, v);
-    walk.bind_name(context, name_in(r), v, 4);
+    walk.bind_name(context, name_in(r), v, VarKind::Value as u32);
 }
 
 // Unwind: its list is not resolved.
@@ -86,7 +89,9 @@ fn walk_yield(walk: &mut Walk, context: &Context, head: Head) -> Result<(), Refu
     let x = next_word(walk, context, 0, names)?;
     let alias = alias_of(next_word(walk, context, 0, names + 1)?);
     let v = next_word(walk, context, 0, 4294967296)?;
-    walk.bind_anew(context, head.start, head.end, alias.unwrap_or(x), v, 4);
+    let name = alias.unwrap_or(x);
+    let kind = VarKind::Value as u32;
+    walk.bind_anew(context, head.start, head.end, name, v, kind);
     Ok(())
 }
 
@@ -106,7 +111,7 @@ fn walk_call(walk: &mut Walk, context: &Context, head: Head, mode: Mode) -> Resu
     requires { ((mode_of mode).resolves ≡ true) × Ready 3 context.now walk.old }
     ensures { Passes 3 context.now walk.old walk.new (call_at context.now (mode_of mode) head.start head.end) result }
 {
-    walk.enter(context, 6, head.start, head.end);
+    walk.enter(context, ScopeKind::Call, head.start, head.end);
     walk_counted(walk, context, mode.unresolving())?;
     let n = next_word(walk, context, 0, 4294967296)?;
     walk_yields(walk, context, head, n)
@@ -118,7 +123,7 @@ fn walk_match(walk: &mut Walk, context: &Context, head: Head, mode: Mode) -> Res
     ensures { Passes 3 context.now walk.old walk.new (match_at context.now (mode_of mode) head.start head.end) result }
 {
     next_word(walk, context, 0, 2)?;
-    walk_opening(walk, context, head, 2, mode)
+    walk_opening(walk, context, head, ScopeKind::Match, mode)
 }
 
 // What follows the kind and the span of a clause.
@@ -151,8 +156,8 @@ fn walk_body(
             walk, context, held, marks, head, mode,
         ),
         ClauseKind::Unwind => walk_unwind(walk, context, head, mode),
-        ClauseKind::Create => walk_opening(walk, context, head, 3, mode),
-        ClauseKind::Merge => walk_opening(walk, context, head, 4, mode),
+        ClauseKind::Create => walk_opening(walk, context, head, ScopeKind::Create, mode),
+        ClauseKind::Merge => walk_opening(walk, context, head, ScopeKind::Merge, mode),
         ClauseKind::Set => walk_marked(walk, context, MarkKind::Set, mode),
         ClauseKind::Remove => walk_marked(walk, context, MarkKind::Remove, mode),
         ClauseKind::Delete => walk_counted(walk, context, mode),

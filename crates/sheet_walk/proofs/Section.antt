@@ -1,22 +1,26 @@
 -- A section that is walked. Its context is the sheet's, cut to its end (`cut_to` is one): the World and the tables are the same, so the
 -- definition's head and arms are what is walked (`head-is`, `arms-are`), and it asks no more than the sheet's does (`ready-in`, `held-in`,
 -- `clear-in`).
--- What the walk over the section's words says of the section: it is refused (`walks-fell`, at a `?`), leaves a word over
--- (`walks-left`), or reaches the end (`walks-end`). From one section to the next: `stands_on`.
+-- What the walk over the section's words says of the section: it is refused (`walks-fell`, at a `?`), or reaches the end or not
+-- (`walks-to`). From one section to the next: `stands_on`.
 use Prim.Native.Nat.{ℕ, ◌*◌, ◌<◌, ◌≤◌}
 use native.Mathlib.Omega.{arith}
 use mathlib.Core.Path.{◌≡◌, refl, ap, sym, ◌∙◌}
-use mathlib.Core.Bool.{true}
+use mathlib.Core.Bool.{Bool, true, false, not}
+use lib.Dec.{ltb}
+use borrow.Author.Tests.{ltb-true, ltb-false}
 use mathlib.Core.List.{List, [], ◌∷◌}
 use lib.ListN.{length, take, drop, length-take}
 use Rattle.std.specs.Prelude.{Result, Ok, Err}
 use Rattle.std.specs.Result.{IsErr, IsErrAnd}
+use Rattle.refusal.proofs.Numbers.{same_cause}
 use Rattle.refusal.specs.declared.Refusal.{Refusal}
 use Rattle.refusal.specs.declared.Refusal.TheVariants.{Word}
 use Rattle.words.proofs.Words.{length-words, drop-word, drop-none}
 use Rattle.heads.specs.Got.{Got, ok, no}
 use Rattle.expr.proofs.Inverse.{never}
-use Rattle.sheet.specs.Read.{accepted, used_up}
+use Rattle.sheet.specs.Read.{accepted, unless, used_up}
+use Rattle.sheet.specs.Answer.{sheet_of, reached}
 use Rattle.sheet.specs.declared.trailer.Places.{Places}
 use Rattle.sheet.proofs.Cutting.{words-front}
 use Rattle.fused.specs.Fused.{Both}
@@ -147,7 +151,7 @@ module _ {c c' : Context} {w : Walk} {carried carried' : List ℕ} {from to : �
 
     module _ {a : Unit {0}} (x : Passes 0 c' w w' G (Ok a)) where
       -- a word is left over
-      pub walks-left : w'.at < to → Walks c to w carried w' carried' W (Err Word)
+      walks-left : w'.at < to → Walks c to w carried w' carried' W (Err Word)
       walks-left h =
           walks x
           (λ id u y.
@@ -155,7 +159,7 @@ module _ {c c' : Context} {w : Walk} {carried carried' : List ℕ} {from to : �
           from-here id u ∙ ap used_up (x.passes.goes id u (cut-holds k y)).same ∙ rw (drop-word (words_in c') w'.at l))
 
       -- the section was walked to its end
-      pub walks-end : {b : Unit {0}} → to ≤ w'.at → Walks c to w carried w' carried' W (Ok b)
+      walks-end : {b : Unit {0}} → to ≤ w'.at → Walks c to w carried w' carried' W (Ok b)
       walks-end h =
           let f : Fit 0 c' w' = x.passes.fit 0 (st.fit c' k) in
           walks x
@@ -166,6 +170,16 @@ module _ {c c' : Context} {w : Walk} {carried carried' : List ℕ} {from to : �
                 let l : length (words_in c') ≤ w'.at = omega (arith, cut-long k long) in
                 record { state = z.state; holds = cut-held k z.holds; same = from-here id u ∙ ap used_up z.same ∙ rw (drop-none (words_in c') w'.at l) };
           })
+
+      -- whether the end is reached is the answer
+      pub walks-to : (r : Result (Unit {0}) Refusal) → sheet_of r ≡ reached w'.at to → Walks c to w carried w' carried' W r
+      walks-to r e = go r (ltb w'.at to) refl e
+        where
+          go : (r : Result (Unit {0}) Refusal) (b : Bool) → ltb w'.at to ≡ b → sheet_of r ≡ unless 5 (not b) (accepted tt) → Walks c to w carried w' carried' W r
+          go (Ok u) true h e = never (cc)
+          go (Ok u) false h e = walks-end (omega (arith, ltb-false w'.at to h))
+          go (Err y) true h e = rw (same_cause y Word (cc)) (walks-left (ltb-true w'.at to h))
+          go (Err y) false h e = never (cc)
 
 -- ---- the sections of a sheet
 module _ {p : Places} {c : Context} (h : Set p c) where

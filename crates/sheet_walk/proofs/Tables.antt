@@ -2,7 +2,7 @@
 -- definition's (`both-read`), for with distinct variables the row that is found is the table's. The walks then go by the World of the names and
 -- the bindings (`world`), their context is in order (`set`), and it has the names' use ids (`uses`): distinct names have `*` and `id` at one
 -- index at most.
-use Rattle.std.specs.Prelude.{Option, Some, Result, Ok, Err}
+use Rattle.std.specs.Prelude.{Option, None, Some, Result, Ok, Err}
 use Rattle.refusal.specs.declared.Refusal.{Refusal}
 use Prim.Native.Nat.{ℕ, zero, suc, ◌+◌, ◌*◌, ◌<◌, ◌≤◌}
 use native.Mathlib.Omega.{arith}

@@ -5,6 +5,7 @@ use mathlib.Core.Bool.{true}
 use mathlib.Core.Path.{◌≡◌}
 use native.Mathlib.Omega.{arith}
 use Rattle.heads.proofs.Chain.{last}
+use Rattle.scope.specs.Kind.{number_of}
 use Rattle.semantics.specs.Resolve.{enter}
 use Rattle.fused.specs.Fused.{Mode}
 use Rattle.steps.specs.Modes.{mode_of}
@@ -24,4 +25,4 @@ opened {c} m a b kind live h x =
 
 pub returns : goal.returns
 returns c =
-    let a = c.args in last_one _ (omega arith) (opened (mode_of a.mode) a.head.start a.head.end a.kind c.requires.0 c.requires.1 c.enter.ensures) (forget _ c.walk_pattern.ensures)
+    let a = c.args in last_one _ (omega arith) (opened (mode_of a.mode) a.head.start a.head.end (number_of a.kind) c.requires.0 c.requires.1 c.enter.ensures) (forget _ c.walk_pattern.ensures)

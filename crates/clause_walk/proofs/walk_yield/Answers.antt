@@ -41,10 +41,10 @@ bind_anew-requires c =
     let a = c.args in
     let o = past (past (past (begun a.head.start a.head.end c.requires) c.in_ok-x.ensures) c.in_ok-next_word.ensures) c.in_ok-v.ensures in
     let g = ready {i = 3} (omega arith) c.requires o in
-    (rw (yields c.in_ok-x.x c.in_ok-next_word.field-0 c.unwrap_or.ensures c.alias_of-alias.ensures) (yield-below _ _ _ _ g.fit.places (in_range c.in_ok-x.ensures).1 (in_range c.in_ok-next_word.ensures).1), g)
+    (rw (yields c.in_ok-x.x c.in_ok-next_word.field-0 c.unwrap_or-name.ensures c.alias_of-alias.ensures) (yield-below _ _ _ _ g.fit.places (in_range c.in_ok-x.ensures).1 (in_range c.in_ok-next_word.ensures).1), g)
 
 pub returns : goal.returns
 returns c =
     let a = c.args in
     let o = past (past (past (begun a.head.start a.head.end c.requires) c.in_ok-x.ensures) c.in_ok-next_word.ensures) c.in_ok-v.ensures in
-    passed (did (λ id u w. last (ok w)) 0 (omega arith) (omega arith) o (rw (yields c.in_ok-x.x c.in_ok-next_word.field-0 c.unwrap_or.ensures c.alias_of-alias.ensures) at c.bind_anew.ensures))
+    passed (did (λ id u w. last (ok w)) 0 (omega arith) (omega arith) o (rw (yields c.in_ok-x.x c.in_ok-next_word.field-0 c.unwrap_or-name.ensures c.alias_of-alias.ensures) at c.bind_anew.ensures))

@@ -7,7 +7,7 @@ use Rattle.sheet_walk.proofs.Rows.{rows-fell, rows-hung}
 use Rattle.sheet_walk.proofs.reading.rows_of.Goals as goal
 
 pub returns-in_err-read_bindings : goal.returns-in_err-read_bindings
-returns-in_err-read_bindings c = ?
+returns-in_err-read_bindings c = rw (handed _ _ c.from_residual.ensures) (rows-fell _ c.in_err-read_bindings.ensures)
 
 pub hang-requires : goal.hang-requires
 hang-requires c =

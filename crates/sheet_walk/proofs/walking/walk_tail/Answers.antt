@@ -1,7 +1,7 @@
 -- The walk over the words up to the section's end, and whether it reached that end, is the section's.
 use native.Mathlib.Omega.{arith}
 use mathlib.Core.Path.{refl}
-use Rattle.sheet_walk.proofs.Section.{trailer-long, arms-are, ready-in, held-in, clear-in, walks-fell, walks-left, walks-end}
+use Rattle.sheet_walk.proofs.Section.{trailer-long, arms-are, ready-in, held-in, clear-in, walks-fell, walks-to}
 use Rattle.sheet_walk.proofs.walking.walk_tail.Goals as goal
 
 pub walk_arms-requires : goal.walk_arms-requires
@@ -16,14 +16,8 @@ returns-in_err-walk_arms-clause-walks c =
     let k = c.cut-section.ensures in
     walks-fell k q.1 (arms-are q.0.set k) c.in_err-walk_arms.ensures.takes (trailer-long q.0.set) _ c.in_err-walk_arms.ensures.passes c.from_residual.ensures
 
-pub returns-then-walk-p-clause-walks : goal.returns-then-walk-p-clause-walks
-returns-then-walk-p-clause-walks c =
-    let q = c.requires in
-    let k = c.cut-section.ensures in
-    walks-left k q.1 (arms-are q.0.set k) c.in_ok-walk_arms.ensures.takes (trailer-long q.0.set) c.in_ok-walk_arms.ensures.passes c.if-walk-p.true
-
 pub returns-clause-walks : goal.returns-clause-walks
 returns-clause-walks c =
     let q = c.requires in
     let k = c.cut-section.ensures in
-    walks-end k q.1 (arms-are q.0.set k) c.in_ok-walk_arms.ensures.takes (trailer-long q.0.set) c.in_ok-walk_arms.ensures.passes c.if-walk-p.false
+    walks-to k q.1 (arms-are q.0.set k) c.in_ok-walk_arms.ensures.takes (trailer-long q.0.set) c.in_ok-walk_arms.ensures.passes _ c.check_end.ensures
