@@ -17,7 +17,7 @@ use refusal::Refusal;
 use words::{count, word};
 
 // A plain head: a use of a variable or of a name, of two words, or parts, with where they begin and how many there are. Any other is rare.
-// What is seen of heads so, by plain_at and quiet_at, is for readers outside: in this repository nothing calls these two.
+// It is what plain_at says of a head; no crate here calls plain_at or quiet_at.
 #[derive(Clone, Copy)]
 pub enum Plain {
     Var(u32),
