@@ -1,5 +1,6 @@
 -- The entries of a list: those in use are arrays of a flat list's words, and a loop comes to them one after another.
-use Rattle.std.proofs.Common.{◌≡◌, ℕ, zero, suc, ◌+◌, ◌<◌, ◌≤◌, List, [], ◌∷◌, length, get_or, take, drop, map, refl, ap, get_or-take, arith}
+use Rattle.std.proofs.Common.{◌≡◌, ℕ, zero, suc, ◌+◌, ◌<◌, ◌≤◌, List, [], ◌∷◌, length, get_or, take, drop, map, refl, ap, ◌∙◌, get_or-take, arith}
+use Rattle.std.proofs.lemmas.List.{length-map}
 use Rattle.std.proofs.Math.ListN.{drop_of_length-le}
 use Rattle.std.proofs.Math.Numerals.{add-one}
 use Rattle.std.proofs.Math.Seq.{drop-cons}
@@ -9,6 +10,9 @@ use Rattle.std.specs.List.{find, list_any}
 use Rattle.std.specs.Option.{option_map}
 use Rattle.scope.specs.Lookup.{bound_in, carries}
 use Rattle.scope.specs.Flat.{entries_of, scope_of, scopes_of, binding_of, bindings_of, carried_of, carrieds_of}
+
+-- there are as many entries as arrays
+pub ruleset counted = (length-map)
 
 module _ {A : Type 0} (one : List ℕ → A) where
   module _ (es : List (List ℕ)) (i : ℕ) where
@@ -51,3 +55,13 @@ pub carries_any : (es : List (List ℕ)) (s x : ℕ) → list_any (λ e. eqb (ge
 unfolding carries
 carries_any [] s x = refl
 carries_any (e ∷ es) s x = ap (◌||◌ (eqb (get_or e 0 0) s && eqb (get_or e 1 0) x)) (carries_any es s x)
+
+-- so where what is found is told
+pub carried_where : (es : List (List ℕ)) (s x : ℕ) {b : Bool} → b ≡ list_any (λ e. eqb (get_or e 0 0) s && eqb (get_or e 1 0) x) es → b ≡ carries (map carried_of es) s x
+carried_where es s x e = e ∙ carries_any es s x
+
+-- the first arrays of all arrays are the first
+pub front : {X : Type 0} (n k m : ℕ) (ws : List X) → k ≤ m → take k (first_chunks n m ws) ≡ first_chunks n k ws
+front n zero m ws h = refl
+front n (suc k) zero ws h = absurd (omega arith)
+front n (suc k) (suc m) ws h = ap (λ t. take n ws ∷ t) (front n k m (drop n ws) (omega arith))

@@ -29,6 +29,7 @@ pub struct Graph<'a> {
 }
 
 // The first entries of a list of flat words; Asked where it has fewer.
+#[tactic(auto, using(crate::proofs::Listed::front))]
 fn in_use<const WIDTH: usize>(words: &[u32], count: usize) -> Result<&[[u32; WIDTH]], Refusal>
     requires { 0 < WIDTH }
     ensures { MatchResult result (λ list. (count ≤ length words.now / WIDTH) × (list.now ≡ first_chunks WIDTH count words.now)) (λ cause. (length words.now / WIDTH < count) × (cause ≡ Asked)) }
@@ -61,6 +62,7 @@ impl Graph<'_> {
     }
 
     // Whether a name may go on from a scope of the kind to its parent: not past a WithBarrier that doesn't carry it.
+    #[tactic(auto, using(crate::proofs::Listed::carried_where))]
     fn passes(&self, kind: u32, scope: u32, name: u32) -> bool
         ensures { result ≡ lets_on kind (carries (carried_in self.now) scope name) }
     {
@@ -91,6 +93,7 @@ impl Graph<'_> {
 
     // The variable that a name has in a scope: the first binding on the way up; a WithBarrier lets through only names that it carries.
     // Asked where there is no such scope, or a parent on the way is not below its child.
+    #[tactic(auto, using(crate::proofs::Listed::counted), unfolding(crate::specs::Lookup::lookup_in))]
     pub fn lookup(&self, scope: u32, name: u32) -> Result<Option<u32>, Refusal>
         ensures { looked_as result ≡ lookup_in (scopes_in self.now) (bindings_in self.now) (carried_in self.now) scope name }
     {
@@ -102,6 +105,7 @@ impl Graph<'_> {
 }
 
 // Lookup on lent lists; Asked also where a count is above its list's entries.
+#[tactic(auto, using(crate::proofs::Listed::scopes_listed, crate::proofs::Listed::bindings_listed, crate::proofs::Listed::carried_listed), unfolding(crate::specs::Lookup::lookup))]
 pub fn lookup(
     scopes: &[u32],
     a: usize,
@@ -123,6 +127,7 @@ pub fn lookup(
 }
 
 // The scope i takes the place of the best so far, a scope's number and the width of its span, where it covers the offset and is no wider.
+#[tactic(auto, unfolding(crate::specs::Offset::better, crate::specs::Offset::covers, crate::specs::Offset::width))]
 fn better(o: u32, i: usize, entry: &[u32; 4], best: Option<(usize, u32)>) -> Option<(usize, u32)>
     ensures { best_as result ≡ better o i (scope_of entry.now) (best_as best) }
 {
@@ -137,6 +142,7 @@ fn better(o: u32, i: usize, entry: &[u32; 4], best: Option<(usize, u32)>) -> Opt
 }
 
 // The scope whose span covers an offset: ends included, empty spans skipped, the narrowest, then the highest number.
+#[tactic(auto, using(crate::proofs::Listed::next_listed, crate::proofs::Listed::none_listed), unfolding(crate::specs::Offset::narrowest, crate::specs::Offset::scope_at_offset))]
 fn narrowest(scopes: &[[u32; 4]], o: u32) -> Option<usize>
     ensures { bound_as result ≡ scope_at_offset (map scope_of scopes.now) o }
 {
@@ -148,6 +154,7 @@ fn narrowest(scopes: &[[u32; 4]], o: u32) -> Option<usize>
 }
 
 // The scope at an offset on a lent list; Asked where the count is above the list's entries.
+#[tactic(auto, using(crate::proofs::Listed::scopes_listed), unfolding(crate::specs::Offset::offset))]
 pub fn scope_at_offset(scopes: &[u32], n: usize, o: u32) -> Result<Option<usize>, Refusal>
     ensures { offset_as result ≡ offset n scopes.now o }
 {

@@ -9,15 +9,6 @@ use Rattle.scope.proofs.Listed.{bound_found}
 use Rattle.scope.proofs.Graph.climb.Goals as goal
 use Rattle.scope.proofs.Graph.climb.Goals.{then-parent-eq0-via-then-parent-eq0, then-parent-eq0-via-else-parent-eq0+then-not-passes}
 
-pub loop-variable-init : goal.loop-variable-init
-loop-variable-init c = (omega arith, refl)
-
-pub bounds-self-scope : goal.bounds-self-scope
-bounds-self-scope c = omega arith
-
-pub bounds-self-scope-in_default : goal.bounds-self-scope-in_default
-bounds-self-scope-in_default c = omega arith
-
 pub returns-in-Some : goal.returns-in-Some
 unfolding answer_at
 returns-in-Some c =
