@@ -1,17 +1,14 @@
 -- What the stamps tell, and bindings that are put one after another.
 --     new-place                 a scope's name that the stamps don't know of is not bound
---     raised, marked            the stamps that come to know of one
 --     none_made, more-made      no binding, and bindings after others; `fits-still`
-use Prim.Native.Nat.{ℕ, zero, suc, ◌+◌, ◌*◌, ◌<◌, ◌≤◌}
-use native.Mathlib.Numerals.{add-one}
+use Prim.Native.Nat.{ℕ, suc, ◌*◌, ◌≤◌}
 use native.Mathlib.Omega.{arith}
-use mathlib.Core.Path.{◌≡◌, refl, sym, ◌∙◌}
+use mathlib.Core.Path.{◌≡◌, refl, ◌∙◌}
 use mathlib.Core.Bool.{Bool, true, false, cond, ◌&&◌}
 use mathlib.Core.List.{List, [], ◌∷◌, ◌++◌}
 use borrow.Author.Tests.{eqb-true}
 use lib.Dec.{eqb}
-use lib.ListN.{length, get_or, set, length-set}
-use lib.Seq.{get_or-set_same}
+use lib.ListN.{length}
 use Rattle.scope.specs.Graph.{Entry, entry}
 use Rattle.semantics.specs.Log.{Bound, bound}
 use Rattle.semantics.specs.Lists.{put, puts}
@@ -50,46 +47,6 @@ module _ (s x v k : ℕ) {stamps new : List ℕ} (h : Marks s x stamps new) wher
   unfolding Stamped put
   stamped-put [] a = (h.here, tt)
   stamped-put (entry t y u j r ∷ es) a = of_two (Stamped new) (eqb s t && eqb x y) (h.here, stamped-still es a.1) (h.there t y a.0, stamped-put es a.1)
-
--- the first stamp is raised to a scope's, and the name's stamp is set
-still-there : (l : List ℕ) (x y v : ℕ) → y < length l → get_or l y 0 ≡ v → get_or (set l x v) y 0 ≡ v
-still-there [] x y v h e = absurd (omega arith)
-still-there (a ∷ l) zero zero v h e = refl
-still-there (a ∷ l) zero (suc y) v h e = e
-still-there (a ∷ l) (suc x) zero v h e = e
-still-there (a ∷ l) (suc x) (suc y) v h e = still-there l x y v (omega arith) e
-
-module _ (s x : ℕ) where
-  pub marked : (stamps : List ℕ) → x + 1 < length stamps → get_or stamps 0 0 ≤ s + 1 → Marks s x stamps (set (set stamps 0 (s + 1)) (x + 1) (s + 1))
-  marked [] h g = absurd (omega arith)
-  marked (a ∷ l) h g =
-      rw (add-one x, add-one s)
-      record {
-        kept = rw (length-set l x (suc s));
-        here = record { under = λ o. omega arith; seen = λ o e w. get_or-set_same l x (suc s) 0 (omega arith) };
-        there = λ t y k. record {
-          under = λ o. omega (arith, k.under o);
-          seen = λ o e w.
-              let high : suc t ≡ a = omega (arith, k.under o) in
-              let long : y < length l = omega (arith, length-set l x (suc s)) in
-              still-there l x y (suc s) long (k.seen o high (omega arith) ∙ sym high ∙ e);
-        };
-      }
-
-  pub raised : (stamps : List ℕ) → 1 ≤ length stamps → length stamps ≤ x + 1 → get_or stamps 0 0 ≤ s + 1 → Marks s x stamps (set stamps 0 (s + 1))
-  raised [] n h g = absurd (omega arith)
-  raised (a ∷ l) n h g =
-      rw (add-one s)
-      record {
-        kept = refl;
-        here = record { under = λ o. omega arith; seen = λ o e w. absurd (omega arith) };
-        there = λ t y k. record {
-          under = λ o. omega (arith, k.under o);
-          seen = λ o e w.
-              let high : suc t ≡ a = omega (arith, k.under o) in
-              k.seen o high w ∙ sym high ∙ e;
-        };
-      }
 
 -- bindings that are put never make a list shorter
 pub put-grows : (b : Bound) (es : List Entry) → length es ≤ length (put b es)

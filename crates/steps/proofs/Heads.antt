@@ -262,7 +262,7 @@ module _ {c : Context} {w w1 : Walk} (x : ℕ) (u : hushed_in c x ≡ false) (s 
 
 -- ---- a head by its act
 -- a type's number and its type
-pub leaf-numbered : (k : ℕ) → type_number (type_at (get_or leaf_types k no_type)) ≡ get_or leaf_types k no_type
+leaf-numbered : (k : ℕ) → type_number (type_at (get_or leaf_types k no_type)) ≡ get_or leaf_types k no_type
 leaf-numbered zero = refl
 leaf-numbered (suc zero) = refl
 leaf-numbered (suc (suc zero)) = refl

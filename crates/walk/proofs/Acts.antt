@@ -20,7 +20,7 @@ use Rattle.steps.specs.declared.Walk.{Walk}
 use Rattle.steps.specs.declared.context.Context.{Context}
 use Rattle.steps.specs.declared.mode.Mode.{Mode}
 use Rattle.steps.specs.declared.mode.Setting.{Setting}
-use Rattle.steps.proofs.Held.{idle-step, as-steps, more-steps, ready-less}
+use Rattle.steps.proofs.Held.{idle-step, as-steps, more-steps}
 use Rattle.steps.proofs.Heads.{some_cost, checked-step, unchecked-step, resolved_step, unresolved-step}
 use Rattle.walk.specs.Plain.{shape, limit, headed, type_by}
 use Rattle.walk.proofs.Plains.{law}
@@ -37,9 +37,6 @@ module _ {c : Context} {w : Walk} (code a : ℕ) where
   pub name-ready : code ≡ 8 → (shape code / 64 % 2 ≡ 1 → a < names_in c) → Ready (cost_of (headed code a)) c w → (a < names_in c) × Ready 2 c w
   unfolding shape_of form_one
   name-ready e n h = let k : shape 8 / 64 % 2 ≡ 1 → a < names_in c = rw e at n in (k refl, rw e at h)
-
-  pub type-ready : Ready (cost_of (headed code a)) c w → Ready 1 c w
-  type-ready h = ready-less (some_cost (headed code a)) h
 
   module _ (mode : Mode) (set : Setting) where
     module _ {w' : Walk} where

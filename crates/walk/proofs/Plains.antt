@@ -19,11 +19,10 @@ use Rattle.heads.specs.declared.Form.{Form}
 use Rattle.semantics.specs.Log.{Finding, e5010, e5011}
 use Rattle.semantics.specs.World.{World}
 use Rattle.semantics.specs.Resolve.{State}
-use Rattle.semantics.specs.Kinds.{no_type, leaf_types, Setting, Pair, general, arithmetic, property, boolean, listed, both, passes, is_arithmetic, settings, type_of, at_type}
+use Rattle.semantics.specs.Kinds.{Setting, Pair, general, arithmetic, property, boolean, listed, both, passes, is_arithmetic, settings, type_of, at_type}
 use Rattle.fused.specs.Fused.{Both, Mode, Go, when, told, step, same, tail_of, head_of, inner_go, rounds, row_go, rest_go, expr_go}
 use Rattle.expr.proofs.Inverse.{never}
 use Rattle.flat.proofs.Codes.{Each, ◌▹◌}
-use Rattle.steps.specs.Types.{type_number, type_at}
 use Rattle.steps.specs.Modes.{setting_of, pair_of}
 use Rattle.steps.specs.Memory.{is_the}
 use Rattle.steps.specs.Hold.{cost_of}
@@ -53,20 +52,6 @@ pair_by t = both (setting_by (t / 256 % 8)) (setting_by (t / 2048 % 8))
 
 pub paired : (p : Settings) (t : ℕ) → number_of p.first ≡ t / 256 % 8 → number_of p.later ≡ t / 2048 % 8 → pair_of p ≡ pair_by t
 paired p t e f = rw (← e, ← f, (numbered p.first).1, (numbered p.later).1)
-
--- ---- types of leaves
-no-leaf : (code : ℕ) → 6 ≤ code → (code ≡ 13 → ⊥) → type_by code ≡ 0
-no-leaf code h n =
-    rw (ne_eqb code 1 (omega arith), ne_eqb code 2 (omega arith), ne_eqb code 3 (omega arith), ne_eqb code 4 (omega arith), ne_eqb code 5 (omega arith), ne_eqb code 13 n)
-
-pub leaf-typed : (code : ℕ) → (code ≡ 13 → ⊥) → type_number (type_at (get_or leaf_types code no_type)) ≡ type_by code
-leaf-typed zero n = refl
-leaf-typed (suc zero) n = refl
-leaf-typed (suc (suc zero)) n = refl
-leaf-typed (suc (suc (suc zero))) n = refl
-leaf-typed (suc (suc (suc (suc zero)))) n = refl
-leaf-typed (suc (suc (suc (suc (suc zero))))) n = refl
-leaf-typed (suc (suc (suc (suc (suc (suc k)))))) n = sym (no-leaf (suc (suc (suc (suc (suc (suc k)))))) (omega arith) n)
 
 -- ---- each code
 -- a head of one word and one of two, whose second word is in range

@@ -1,14 +1,10 @@
 -- The three words that are stored are the carried name's.
-use Rattle.std.proofs.Common.{refl, arith}
+use Rattle.std.proofs.Common.{arith}
 use Rattle.scope.specs.Graph.{carried}
 use Rattle.entries.specs.Filled.{carried_words}
 use Rattle.entries.proofs.Adding.{one-added}
 use Rattle.entries.proofs.Filling.{sized-carried}
 use Rattle.entries.proofs.put_carried.Goals as goal
-
-pub returns-then-out-i : goal.returns-then-out-i
-returns-then-out-i c =
-    record { kept = refl; adds = λ h. absurd (omega arith); full = λ h. refl }
 
 pub returns : goal.returns
 unfolding carried_words

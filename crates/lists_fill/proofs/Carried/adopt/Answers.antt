@@ -1,7 +1,6 @@
 -- The loop's invariant: what the barrier carries up to p is bound.
 use Rattle.std.proofs.Common.{refl, ◌∙◌, arith}
 use Rattle.lists_fill.proofs.Weaving.{adopt-begin, adopt-none, adopt-turn, adopt-stop, adopt-done}
-use Rattle.entries.proofs.Stamping.{fits-still}
 use Rattle.lists_fill.proofs.Carried.adopt.Goals as goal
 
 pub returns-then-root-eq0-clause-adopts : goal.returns-then-root-eq0-clause-adopts
@@ -11,9 +10,6 @@ returns-then-root-eq0-clause-adopts c =
 pub loop-p-init : goal.loop-p-init
 loop-p-init c =
     record { still = record { list = refl; stamps = refl }; adopting = adopt-begin _ _ _ _ c.requires.met c.requires.fits }
-
-pub put-requires : goal.put-requires
-put-requires c = fits-still c.requires.fits c.loop-p.invariant.adopting.makes
 
 pub loop-p-preserved : goal.loop-p-preserved
 loop-p-preserved c =

@@ -10,11 +10,6 @@ loop-i-init c =
       weaving = weave-begin c.requires.ready.fits;
     }
 
-pub weave-c-requires : goal.weave-c-requires
-weave-c-requires c =
-    let w = c.loop-i.invariant.weaving in
-    record { fine = c.requires.ready.fine; met = w.met; fits = w.fits }
-
 pub loop-i-preserved : goal.loop-i-preserved
 loop-i-preserved c =
     let l = c.loop-i.invariant in

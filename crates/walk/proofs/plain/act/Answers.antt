@@ -1,5 +1,5 @@
 -- A variable, a name, or a type, each as `steps` has it (`Acts`).
-use Rattle.walk.proofs.Acts.{var-ready, name-ready, type-ready, var-act, name-act, name-idle, type-act, type-idle}
+use Rattle.walk.proofs.Acts.{var-ready, name-ready, var-act, name-act, name-idle, type-act, type-idle}
 use Rattle.walk.proofs.plain.act.Goals as goal
 
 pub use_var-requires : goal.use_var-requires
@@ -21,10 +21,6 @@ returns-then-mode c =
 pub returns-else-mode : goal.returns-else-mode
 returns-else-mode c =
     let a = c.args in name-idle a.code a.a a.mode a.set c.if-code-eq8.true c.if-mode.false
-
-pub at_type-requires : goal.at_type-requires
-at_type-requires c =
-    type-ready c.args.code c.args.a c.requires.1.1.1
 
 pub returns-then-mode-2 : goal.returns-then-mode-2
 returns-then-mode-2 c =
