@@ -6,11 +6,11 @@ mod lay;
 mod measure;
 mod names;
 
-ghost use Rattle.std.specs.Prelude.{◌<◌, ◌≤◌, length};
+ghost use Rattle.std.specs.Prelude.{◌≤◌, length};
 ghost use mathlib.Core.List.{flat_map};
 ghost use Rattle.sheet.specs.Read.{accepted};
 ghost use Rattle.texts.specs.Laid.{Lays};
-ghost use Rattle.texts.specs.Page.{answered, number, Writes};
+ghost use Rattle.texts.specs.Page.{WritesAsWord};
 ghost use Rattle.lines.specs.Lines.{line};
 ghost use Rattle.lines.specs.Given.{texts_of, first, text_of, Measured};
 
@@ -20,7 +20,7 @@ use measure::{line_len, width_of};
 pub use names::Names;
 use refusal::Refusal;
 
-// The lines of the findings; how long they are.
+// The lines of the findings; how long they are. Findings go by their number: which end of the words one stands at hangs on it.
 fn lay_lines(names: &Names, found: &Found, out: &mut [u8]) -> usize
     requires { length (flat_map (line (texts_of names.now)) (first found.now found.now.count)) ≤ length out.old }
     ensures { Lays (flat_map (line (texts_of names.now)) (first found.now found.now.count)) out.old 0 out.new result }
@@ -63,7 +63,7 @@ fn has_room(names: &Names, found: &Found, room: usize) -> bool
 
 // The listing of the findings, or that the page is too short.
 pub fn write_listing(names: &Names, found: &Found, page: &mut [u8]) -> Result<usize, Refusal>
-    ensures { Writes (accepted (text_of names.now found.now)) page.old page.new result × (number (answered result) < 4294967296) }
+    ensures { WritesAsWord (accepted (text_of names.now found.now)) page.old page.new result }
 {
     if !has_room(names, found, page.len()) {
         return Err(Refusal::Page);

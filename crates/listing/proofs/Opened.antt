@@ -31,7 +31,7 @@ use Rattle.steps.specs.declared.log.Log.{Log}
 use Rattle.sheet_walk.specs.Runs.{id_of, RanTo}
 use Rattle.sheet_walk.specs.declared.Choice.{Choice}
 use Rattle.sheet_walk.specs.declared.Scratch.{Scratch}
-use Rattle.texts.specs.Page.{Writes, answered, number}
+use Rattle.texts.specs.Page.{Writes, WritesAsWord}
 use Rattle.texts.proofs.Giving.{gives-refusal}
 use Rattle.lines.specs.Lines.{listed}
 use Rattle.lines.specs.Given.{findings_in}
@@ -50,11 +50,11 @@ unfolding read_sheet
 unplaced s e = rw e
 
 -- a run that refused
-pub ran-no : (warns : Bool) (page s : List ℕ) (e : Refusal) (r : Result ℕ Refusal) → read_sheet s ≡ refused (number_of e) → IsErr r × IsErrAnd r (λ y. y ≡ e) → Writes (listing warns s) page page r × (number (answered r) < 4294967296)
+pub ran-no : (warns : Bool) (page s : List ℕ) (e : Refusal) (r : Result ℕ Refusal) → read_sheet s ≡ refused (number_of e) → IsErr r × IsErrAnd r (λ y. y ≡ e) → WritesAsWord (listing warns s) page page r
 ran-no warns page s e r x f = rw (handed e r f) (refused-listing warns s page refl x, omega (arith, small e))
 
 -- what a `?` answers where the sections stand nowhere
-pub unplaced-listing : (warns : Bool) (s page : List ℕ) (e : Refusal) (r : Result ℕ Refusal) → sheet_of {A = Places} (Err e) ≡ locate s → IsErr r × IsErrAnd r (λ y. y ≡ e) → Writes (listing warns s) page page r × (number (answered r) < 4294967296)
+pub unplaced-listing : (warns : Bool) (s page : List ℕ) (e : Refusal) (r : Result ℕ Refusal) → sheet_of {A = Places} (Err e) ≡ locate s → IsErr r × IsErrAnd r (λ y. y ≡ e) → WritesAsWord (listing warns s) page page r
 unplaced-listing warns s page e r h f = ran-no warns page s e r (unplaced s (sym h)) f
 
 -- the choice of a listing: findings alone

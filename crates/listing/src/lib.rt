@@ -2,9 +2,9 @@
 // them. The sheet is read and walked once, with scratch that is sized to it.
 #![tactic(auto)]
 
-ghost use Rattle.std.specs.Prelude.{◌≡◌, not, ◌+◌, ◌*◌, ◌<◌, ◌≤◌, eqb, length};
+ghost use Rattle.std.specs.Prelude.{◌≡◌, not, ◌+◌, ◌*◌, ◌^◌, ◌<◌, ◌≤◌, eqb, length};
 ghost use Rattle.words.specs.Words.{words};
-ghost use Rattle.texts.specs.Page.{answered, written_as, page_as, Writes, number};
+ghost use Rattle.texts.specs.Page.{answered, written_as, page_as, WritesAsWord, number};
 ghost use Rattle.sheet_walk.specs.Runs.{Clean};
 ghost use Rattle.listing.specs.Listing.{listing};
 ghost use Rattle.listing.specs.Found.{FoundIn, AllZero};
@@ -49,7 +49,7 @@ fn found_in(words: &[u32], said: u32, told: u32) -> Found<'_>
 // The lines of what a run found in a sheet, or 10.
 fn write(s: &[u8], warns: bool, scratch: &Scratch, page: &mut [u8]) -> Result<usize, Refusal>
     requires { FoundIn warns s.now scratch.now.places.now scratch.now.walk.log }
-    ensures { Writes (listing warns s.now) page.old page.new result × (number (answered result) < 4294967296) }
+    ensures { WritesAsWord (listing warns s.now) page.old page.new result }
 {
     let p = find_places(s)?;
     let names = Names {
@@ -64,7 +64,7 @@ fn write(s: &[u8], warns: bool, scratch: &Scratch, page: &mut [u8]) -> Result<us
 // With scratch for a sheet's words. Bindings and carried names are counted, not stored.
 fn list_in(s: &[u8], warns: bool, scratch: &mut Scratch, page: &mut [u8]) -> Result<usize, Refusal>
     requires { Clean (length (words s.now)) scratch.old }
-    ensures { Writes (listing warns s.now) page.old page.new result × (number (answered result) < 4294967296) }
+    ensures { WritesAsWord (listing warns s.now) page.old page.new result }
 {
     let choice = Choice {
         warns,
@@ -84,7 +84,7 @@ fn list_in(s: &[u8], warns: bool, scratch: &mut Scratch, page: &mut [u8]) -> Res
 // With scratch of sixteen words, all zeros, for each of a sheet's words, and 8 besides.
 fn list(s: &[u8], warns: bool, scratch: &mut [u32], page: &mut [u8]) -> Result<usize, Refusal>
     requires { (length (words s.now) * 16 + 8 ≤ length scratch.old) × AllZero scratch.old }
-    ensures { Writes (listing warns s.now) page.old page.new result × (number (answered result) < 4294967296) }
+    ensures { WritesAsWord (listing warns s.now) page.old page.new result }
 {
     let n = count(s);
     let (places, rest) = scratch.split_at_mut(n);
@@ -107,7 +107,7 @@ fn list(s: &[u8], warns: bool, scratch: &mut [u32], page: &mut [u8]) -> Result<u
 // With scratch of N words.
 fn list_with<const N: usize>(s: &[u8], warns: bool, page: &mut [u8]) -> Result<usize, Refusal>
     requires { (length (words s.now) * 16 + 8 ≤ N) × (N ≤ 65536) }
-    ensures { Writes (listing warns s.now) page.old page.new result × (number (answered result) < 4294967296) }
+    ensures { WritesAsWord (listing warns s.now) page.old page.new result }
 {
     let mut scratch = [0u32; N];
     list(s, warns, &mut scratch, page)
@@ -116,7 +116,7 @@ fn list_with<const N: usize>(s: &[u8], warns: bool, page: &mut [u8]) -> Result<u
 // A sheet of any size, with scratch for 256 words at least. Its frame is that of the largest scratch, and is touched page by page.
 #[inline(never)]
 fn list_large(s: &[u8], warns: bool, page: &mut [u8]) -> Result<usize, Refusal>
-    ensures { Writes (listing warns s.now) page.old page.new result × (number (answered result) < 4294967296) }
+    ensures { WritesAsWord (listing warns s.now) page.old page.new result }
 {
     match s.len() {
         0..=1024 => list_with::<FOR_256>(s, warns, page),
@@ -129,7 +129,7 @@ fn list_large(s: &[u8], warns: bool, page: &mut [u8]) -> Result<usize, Refusal>
 
 // The listing of a sheet, warnings on or off.
 pub fn listing(s: &[u8], warns: bool, page: &mut [u8]) -> Result<usize, Refusal>
-    ensures { Writes (listing warns s.now) page.old page.new result × (number (answered result) < 4294967296) }
+    ensures { WritesAsWord (listing warns s.now) page.old page.new result }
 {
     match s.len() {
         0..=128 => list_with::<FOR_32>(s, warns, page),
@@ -141,7 +141,7 @@ pub fn listing(s: &[u8], warns: bool, page: &mut [u8]) -> Result<usize, Refusal>
 
 // The refusal's number, or 256 and the length.
 fn number(written: Result<usize, Refusal>) -> u32
-    requires { number (answered written) < 4294967296 }
+    requires { number (answered written) < 2 ^ 32 }
     ensures { result ≡ number (answered written) }
 {
     match written {

@@ -1,5 +1,5 @@
 -- A text or a refusal, given to a page: the text at its front where it fits, and else 10; a refusal alters nothing.
-use Rattle.std.specs.Prelude.{ℕ, ◌+◌, ◌≡◌, cond, List, leb, length, Result, Ok, Err}
+use Rattle.std.specs.Prelude.{ℕ, ◌+◌, ◌^◌, ◌<◌, ◌≡◌, cond, List, leb, length, Result, Ok, Err}
 use Rattle.words.specs.Front.{put_front}
 use Rattle.refusal.specs.Number.{number_of}
 use Rattle.refusal.specs.declared.Refusal.{Refusal}
@@ -28,3 +28,7 @@ pub record Writes (x : Sheet (List ℕ)) (old new : List ℕ) (r : Result ℕ Re
 abbrev pub number : Sheet ℕ → ℕ
 number (accepted n) = 256 + n
 number (refused c) = c
+
+-- a call that hosts make: that number is a word
+abbrev pub WritesAsWord : Sheet (List ℕ) → (old new : List ℕ) → Result ℕ Refusal → Type 0
+WritesAsWord x old new r = Writes x old new r × (number (answered r) < 2 ^ 32)

@@ -1,4 +1,4 @@
--- Each text has the digits of its code, by computation.
+-- Each text has the digits of its code, by computation, once the code is put in: what opens `decimal` alone finds none.
 use Rattle.words.specs.Decimal.{low_digits, width_within, width, decimal}
 use Rattle.lines.proofs.lay.known_code.Goals as goal
 
