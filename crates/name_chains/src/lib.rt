@@ -28,6 +28,7 @@ fn fold(a: u32, b: u32) -> u32
 }
 
 // The hash of a text: of its whole words, then of the bytes after them.
+#[tactic(auto, using(crate::proofs::Laws::hashing), unfolding(crate::specs::Slot::hash_from, crate::specs::Slot::hash_of))]
 fn hash(text: &[u8], mult: u32) -> u32
     ensures { result ≡ hash_of mult text.now }
 {
@@ -88,6 +89,7 @@ impl Names<'_> {
     }
 
     // Whether no two of the names are the same, over slots that are all empty.
+    #[tactic(auto, using(crate::proofs::Laws::adding), unfolding(tables::specs::Distinct::distinct, tables::specs::Distinct::fresh_after))]
     fn distinct(&self, slots: Slots, chains: &mut [u32]) -> bool
         requires few { length self.now.places.now < 4294967295 }
         requires room { slots.count + length self.now.places.now ≤ length chains.old }
@@ -151,6 +153,7 @@ pub fn distinct_by_chains(s: &[u8], places: &[u32], chains: &mut [u32]) -> bool
 }
 
 // Whether the bytes of s are n names, no two the same, as sheet::are_names says: tab gets the byte where each stands, ids its use id.
+#[tactic(auto, using(crate::proofs::Laws::tabling))]
 pub fn are_names(s: &[u8], n: u32, tab: &mut [u32], ids: &mut [u32], chains: &mut [u32]) -> bool
     requires { Roomy s.now tab.old ids.old × (length s.now / 4 < length chains.old) }
     ensures { Tabled n s.now tab.new ids.new result }
