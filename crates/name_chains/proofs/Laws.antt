@@ -11,7 +11,9 @@ use Rattle.std.specs.Simd.{first_chunks}
 use Rattle.std.specs.Prelude.{map, ◌/◌, take, drop}
 use Rattle.std.proofs.Common.{add-one}
 use Rattle.std.proofs.lemmas.List.{take_all}
-use Rattle.words.proofs.Words.{drop-word}
+use Rattle.words.proofs.Words.{drop-word, drop-none}
+use Rattle.std.proofs.Math.ListN.{drop_of_length-le}
+use Rattle.std.proofs.Math.Seq.{drop-cons}
 use Rattle.tables.specs.Name.{name_at}
 use Rattle.words.specs.Words.{words, le32}
 use lib.ListN.{length, get_or, set, length-set}
@@ -123,3 +125,12 @@ one_more {slot} {s} {places} w e a = record { below = w.below; chained = a.chain
 pub none-hung : {m : ℕ} {old new : List ℕ} (mult : ℕ) (s places : List ℕ) → 0 < m → m ≤ length old → Cleared m old new → Hung (slot_of mult m) s places m 0 new
 none-hung {m} {old} {new} mult s places p h c =
     record { below = slot-below mult m p; chained = none-chained itself (slot_in (slot_of mult m) s places) m new (omega (arith, c.kept)) c.zeros }
+
+-- one more, four bytes
+pub next-word : (es : List (List ℕ)) (i : ℕ) → i < length es → map word_of (drop i es) ≡ word_of (get_or es i []) ∷ map word_of (drop (i + 1) es)
+next-word es i h = rw (add-one, drop-cons es i [])
+
+-- for the functions, by what they do
+pub ruleset hashing = (words_chunks, next-word, drop-word, drop-none, drop_of_length-le)
+
+pub ruleset adding = (fresh-next, drop-none)

@@ -28,6 +28,7 @@ fn fold(a: u32, b: u32) -> u32
 }
 
 // The hash of a text: of its whole words, then of the bytes after them.
+#[tactic(auto, using(crate::proofs::Laws::hashing), unfolding(crate::specs::Slot::hash_from, crate::specs::Slot::hash_of))]
 fn hash(text: &[u8], mult: u32) -> u32
     ensures { result ≡ hash_of mult text.now }
 {
@@ -88,6 +89,7 @@ impl Names<'_> {
     }
 
     // Whether no two of the names are the same, over slots that are all empty.
+    #[tactic(auto, using(crate::proofs::Laws::adding), unfolding(tables::specs::Distinct::distinct, tables::specs::Distinct::fresh_after))]
     fn distinct(&self, slots: Slots, chains: &mut [u32]) -> bool
         requires few { length self.now.places.now < 4294967295 }
         requires room { slots.count + length self.now.places.now ≤ length chains.old }

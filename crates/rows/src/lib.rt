@@ -186,6 +186,7 @@ impl Rows<'_> {
     }
 
     // "the table's, Value if it has none"
+    #[tactic(auto, unfolding(semantics::specs::World::row_kind))]
     pub fn kind(&self, v: u32) -> u32
         requires { Standing self.now }
         ensures { result ≡ row_kind (row_in self.now v) }

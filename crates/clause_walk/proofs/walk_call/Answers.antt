@@ -44,10 +44,6 @@ pub returns-in_err-n : goal.returns-in_err-n
 returns-in_err-n c =
     let a = c.args in halted _ (walked (mode_of a.mode) a.head.start a.head.end c.requires.0 c.requires.1 c.enter.ensures (rw c.unresolving.ensures at c.in_ok-walk_counted.ensures)) c.in_err-n.ensures c.from_residual-in_err-n.ensures
 
-pub walk_yields-requires : goal.walk_yields-requires
-walk_yields-requires c =
-    let a = c.args in ready (omega arith) c.requires.1 (past (walked (mode_of a.mode) a.head.start a.head.end c.requires.0 c.requires.1 c.enter.ensures (rw c.unresolving.ensures at c.in_ok-walk_counted.ensures)) c.in_ok-n.ensures)
-
 pub returns : goal.returns
 returns c =
     let a = c.args in last_one _ (omega arith) (past (walked (mode_of a.mode) a.head.start a.head.end c.requires.0 c.requires.1 c.enter.ensures (rw c.unresolving.ensures at c.in_ok-walk_counted.ensures)) c.in_ok-n.ensures) c.walk_yields.ensures

@@ -10,11 +10,6 @@ use Rattle.projection_walk.proofs.walk_projections.Goals as goal
 pub loop-init : goal.loop-init
 loop-init c = begun (mode_of c.args.mode)
 
-pub walk_projection-requires : goal.walk_projection-requires
-walk_projection-requires c =
-    let x = c.loop.invariant in
-    (held_on x.held.size c.requires.0, (carried-holding x c.requires.1.0, ready-less (omega arith) (carried-ready x c.requires.1.1)))
-
 pub returns-in_err-walk_projection : goal.returns-in_err-walk_projection
 returns-in_err-walk_projection c =
     fall (mode_of c.args.mode) c.loop.counter c.loop.invariant c.args.n _ c.loop-test.true c.in_err-walk_projection.ensures c.from_residual.ensures
