@@ -10,7 +10,7 @@ use lib.Seq.{sets, sets-eq, drop_at, drop-drop}
 use Rattle.scope.specs.Graph.{Scope, scope, Entry, entry, Carried, carried}
 use Rattle.semantics.specs.Log.{Write, write, found, missing, Finding, finding}
 use Rattle.finding.specs.Flat.{finding_words}
-use Rattle.entries.specs.Filled.{filled, scope_words, binding_words, carried_words, recorded_words, with_scopes, with_bindings, with_carried, with_recorded, with_findings}
+use Rattle.entries.specs.Filled.{filled, scope_words, binding_words, carried_words, recorded_words}
 
 -- words that are filled, and words stored after them
 pub filled-nil : (old : List ℕ) → filled old [] ≡ old
@@ -79,9 +79,6 @@ module _ {A : Type 0} (words : A → List ℕ) (width : ℕ) (sized : (a : A) �
       let room : suc i * width ≤ length (drop (length (words x)) old) = simp length-drop (omega (arith, sized x)) in
       rw (along, filled-append, filled-append, sets-append, sets_over e es i (drop (length (words x)) old) (omega arith))
 
-  pub length-full : (old : List ℕ) (es : List A) → length es * width ≤ length old → length (filled old (flat_map words es)) ≡ length old
-  length-full old es h = length-filled old (flat_map words es) (rw (length-flat es) h)
-
 -- how many words an entry has
 pub sized-scope : (x : Scope) → length (scope_words x) ≡ 4
 unfolding scope_words
@@ -103,25 +100,3 @@ sized-recorded (write i missing) = refl
 
 pub sized-finding : (x : Finding) → length (finding_words x) ≡ 6
 sized-finding (finding c a b x o t) = refl
-
--- each list is as long as it was
-module _ (old : List ℕ) where
-  pub length-scopes : (l : List Scope) → length l * 4 ≤ length old → length (with_scopes old l) ≡ length old
-  unfolding with_scopes
-  length-scopes = length-full scope_words 4 sized-scope old
-
-  pub length-bindings : (l : List Entry) → length l * 6 ≤ length old → length (with_bindings old l) ≡ length old
-  unfolding with_bindings
-  length-bindings = length-full binding_words 6 sized-binding old
-
-  pub length-carried : (l : List Carried) → length l * 3 ≤ length old → length (with_carried old l) ≡ length old
-  unfolding with_carried
-  length-carried = length-full carried_words 3 sized-carried old
-
-  pub length-recorded : (l : List Write) → length l * 5 ≤ length old → length (with_recorded old l) ≡ length old
-  unfolding with_recorded
-  length-recorded = length-full recorded_words 5 sized-recorded old
-
-  pub length-findings : (l : List Finding) → length l * 6 ≤ length old → length (with_findings old l) ≡ length old
-  unfolding with_findings
-  length-findings = length-full finding_words 6 sized-finding old

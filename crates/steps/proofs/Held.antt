@@ -1,6 +1,6 @@
 -- Laws of steps. What was lent stays (`seen-idle`, `log-idle`, `still-idle`, `still-then`), what was visible stays below (`framed`,
 -- `framed-same`, `framed-idle`, `frame-more`, `seens-lower`).
--- Room: `lower`, `weaken`, `ready-less`, `roomy`, `roomy-in`, and `refit` after a change. Steps: nothing done (`idle-step`), one after another
+-- Room: `lower`, `ready-less`, `roomy`, `roomy-in`, and `refit` after a change. Steps: nothing done (`idle-step`), one after another
 -- (`then-steps`), for more words (`more-costs`, `more-steps`), put another way (`as-steps`, `instead`). What is counted: `uncounted`,
 -- `recounted`. What is said and told: `says-costs`, `says-step`, `says_if`, `unsaid-step`, `tells-costs`, `tells-step`, `tells-if`, with `wanted`,
 -- `always` and `unwanted` for what is kept of a log.
@@ -23,7 +23,7 @@ use Rattle.visible.specs.declared.Visible.{Visible}
 use Rattle.steps.specs.Memory.{words_in}
 use Rattle.steps.specs.Said as said
 use Rattle.steps.specs.Said.{kept_one, kept, event_by, finding_by, Roomy, Says, Tells}
-use Rattle.steps.specs.Hold.{Fine, Fits, Fit, Counted, Holds, Frame, Still, Costs, Steps, Ready, SaysIf, TellsIf, on_names, on_kinds, idle, logged}
+use Rattle.steps.specs.Hold.{Fine, Fits, Counted, Holds, Frame, Still, Costs, Steps, Ready, SaysIf, TellsIf, on_names, on_kinds, idle, logged}
 use Rattle.steps.specs.declared.Walk.{Walk}
 use Rattle.steps.specs.declared.context.Context.{Context}
 use Rattle.steps.specs.declared.log.Log.{Log}
@@ -109,9 +109,6 @@ refit f y a b d l n s m z =
 pub lower : {e t i k : ℕ} {c : Context} {w : Walk} → i ≤ e → k ≤ t → Fits e t c w → Fits i k c w
 lower a b f =
     refit f still-idle f.sound f.descends f.cur (omega (arith, f.last)) (omega (arith, f.count)) (omega (arith, f.stack)) (omega (arith, f.needs)) f.within
-
-pub weaken : (j : ℕ) {k : ℕ} {c : Context} {w : Walk} → Fit (j + k) c w → Fit k c w
-weaken j f = lower (omega arith) (omega arith) f
 
 pub ready-less : {j k : ℕ} {c : Context} {w : Walk} → k ≤ j → Ready j c w → Ready k c w
 ready-less h r = record { fine = r.fine; fit = lower h h r.fit }
