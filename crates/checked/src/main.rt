@@ -1,6 +1,6 @@
 // A sheet on standard input, and the check call that fills a list of finding records, warnings on. Of a list of 2,048 marker records
 // the call is lent as many as the sheet has words, and then one fewer. Each time: the records, or the refusal, and how many entries past
-// their count are still the marker.
+// their count are still the marker. No heap: what is read and written goes through arrays of the largest size.
 #![tactic(auto)]
 
 ghost use Rattle.std.specs.Prelude.{◌≡◌, true, ◌≤◌, length};
@@ -51,9 +51,11 @@ fn run(s: &[u8], n: usize, f: Finding, lists: &mut Lists<u32>) -> Result<Counts,
 
 // How many of the entries from a place on are the marker.
 fn markers(flat: &[u32], from: usize) -> usize {
-    flat.chunks_exact(6)
+    let (entries, _) = flat.as_chunks::<6>();
+    entries
+        .iter()
         .skip(from)
-        .filter(|entry| *entry == [MARK; 6].as_slice())
+        .filter(|entry| **entry == [MARK; 6])
         .count()
 }
 

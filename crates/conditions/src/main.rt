@@ -1,4 +1,5 @@
 // A sheet on standard input: its conditions, one a line, or `refused` and the refusal's number. More than 8,192 bytes are refused 1.
+// No heap: what is read and written goes through arrays of the largest size.
 #![tactic(auto)]
 
 use condition_printer::conditions;

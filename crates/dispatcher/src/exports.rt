@@ -8,10 +8,7 @@ use crate::{Served, add, take};
 pub extern "C" fn cenguatu_add(words: &mut [u32; 577], queue: u32, item: u32) -> u32
     ensures { AddsAs queue item words.old words.new result }
 {
-    match add(words, queue, item) {
-        Ok(()) => 0,
-        Err(cause) => u32::from(cause),
-    }
+    add(words, queue, item).err().map_or(0, u32::from)
 }
 
 // 1 where a queue is served, and 0 where none waits; the queue, its item and the steps go into got.

@@ -1,5 +1,6 @@
 // A sheet on standard input: the message or the refusal of every code, name and detail in a range, a line each. After a message stand the
-// answers for a page that it fills and for one a byte shorter: 0, or the refusal's number.
+// answers for a page that it fills and for one a byte shorter: 0, or the refusal's number. No heap: what is read and written goes through
+// arrays of the largest size.
 #![tactic(auto)]
 
 use message::message;
@@ -20,10 +21,9 @@ struct Question {
 impl Question {
     // 0, or the refusal's number.
     fn cause(self, s: &[u8], page: &mut [u8]) -> u32 {
-        match message(s, self.code, self.name, self.one, self.two, page) {
-            Ok(_) => 0,
-            Err(refusal) => u32::from(refusal),
-        }
+        message(s, self.code, self.name, self.one, self.two, page)
+            .err()
+            .map_or(0, u32::from)
     }
 }
 
@@ -35,6 +35,7 @@ fn line<W: Write>(out: &mut W, s: &[u8], a: Question) -> io::Result<()> {
             let text = &mut page[..n];
             out.write_all(text)?;
             let filled = a.cause(s, text);
+            // A match: a closure over a lent pair gets no proof.
             let short = match text.split_last_mut() {
                 Some((_, shorter)) => a.cause(s, shorter),
                 None => 0,

@@ -1,4 +1,5 @@
 // A sheet on standard input: its names by their index, a line each, up to the first index that is refused; then that refusal.
+// No heap: what is read and written goes through arrays of the largest size.
 #![tactic(auto)]
 
 use sheet::{check_name, name_text};

@@ -1,5 +1,6 @@
 // A condition's text on standard input, without a line feed at its end: `entries` and their number, then an entry a line, two numbers; or
-// `unread`. A text of more than 65,536 bytes is refused 12, since the list has so many entries.
+// `unread`. A text of more than 65,536 bytes is refused 12, since the list has so many entries. No heap:
+// what is read and written goes through arrays of the largest size.
 #![tactic(auto)]
 
 use condition_reader::read_condition;
