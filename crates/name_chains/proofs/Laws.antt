@@ -1,12 +1,12 @@
--- Laws of names in chains: whether a text is a name, by the newest that is the same (`named`); one name more is hung up (`one_more`), and
--- none yet (`none-hung`).
+-- Laws of names in chains: whether a text is a name, by the newest that is the same (`named`), and whether each is new (`fresh-next`); one name
+-- more is hung up (`one_more`), none yet (`none-hung`), and those that hang are the first (`first-hung`). The words of a text, four bytes each
+-- (`words_chunks`, `next-word`).
 use Prim.Native.Nat.{ℕ, zero, suc, ◌+◌, ◌<◌, ◌≤◌}
 use native.Mathlib.Omega.{arith}
 use native.Mathlib.Nat.{mod-lt}
 use mathlib.Core.Path.{◌≡◌, refl, ap, sym, ◌∙◌}
 use mathlib.Core.Bool.{Bool, true, false, cond, not, ◌&&◌, ◌||◌}
 use mathlib.Core.List.{List, [], ◌∷◌, ◌++◌, map-append}
-use lib.Dec.{eqb}
 use Rattle.std.specs.Simd.{first_chunks}
 use Rattle.std.specs.Prelude.{map, ◌/◌, take, drop}
 use Rattle.std.proofs.Common.{add-one}
@@ -17,9 +17,7 @@ use Rattle.std.proofs.Math.Seq.{drop-cons}
 use Rattle.tables.specs.Name.{name_at}
 use Rattle.words.specs.Words.{words, le32}
 use lib.ListN.{length, get_or, set, length-set}
-use lib.Seq.{get_or-take, length-take-le, take-suc, get_or-set_same, get_or-set_other}
-use borrow.Author.Tests.{eqb-true, eqb-false}
-use mathlib.Core.Logic.{◌≢◌}
+use lib.Seq.{get_or-take, length-take-le, take-suc}
 use Rattle.tables.specs.Distinct.{same_bytes, name_in, fresh_after}
 use Rattle.std.specs.Prelude.{None, Some, Option, is_some}
 use Rattle.rows.specs.Rows.{newest, seek, number_of, Hangs}
@@ -31,17 +29,6 @@ use Rattle.name_chains.specs.Hung.{text_in, itself, slot_in, Cleared, Hung}
 pub slot-below : (mult m : ℕ) → 0 < m → (x : List ℕ) → slot_of mult m x < m
 unfolding slot_of
 slot-below mult m h x = mod-lt _ h
-
--- one word more is cleared
-pub cleared_more : {i : ℕ} {old new : List ℕ} → Cleared i old new → i < length old → Cleared (i + 1) old (set new i 0)
-cleared_more {i} {old} {new} c h =
-    record { kept = length-set new i 0 ∙ c.kept; zeros = λ b l. go b l (eqb b i) refl }
-  where
-    go : (b : ℕ) → b < i + 1 → (t : Bool) → eqb b i ≡ t → get_or (set new i 0) b 0 ≡ 0
-    go b l true e = rw (eqb-true b i e) (get_or-set_same new i 0 0 (omega (arith, c.kept)))
-    go b l false e =
-        let ne : b ≢ i = eqb-false b i e in
-        get_or-set_other new i b 0 0 ne ∙ c.zeros b (omega arith)
 
 -- whether there is one, by its number + 1
 abbrev pub some : ℕ → Bool

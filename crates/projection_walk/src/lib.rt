@@ -29,7 +29,7 @@ enum Direct {
     Other,
 }
 
-// A Var: used, and carried under its alias, or under the name of its row.
+// A Var: used, and carried under its alias, or under the name of its row. It has six parameters: no two of them stay together elsewhere.
 fn carry_var(
     walk: &mut Walk,
     context: &Context,

@@ -4,7 +4,7 @@
 // own words, which may be any.
 #![tactic(auto)]
 
-ghost use Rattle.std.specs.Prelude.{◌≡◌, suc, ◌/◌, ◌<◌, ◌≤◌, length, map, ◌==◌, ◌&&◌, slice_index, MatchResult};
+ghost use Rattle.std.specs.Prelude.{◌≡◌, suc, ◌/◌, ◌<◌, ◌≤◌, length, map, ◌==◌, ◌&&◌, slice_index, IfOk, IfErr};
 ghost use Rattle.std.specs.List.{find, list_any};
 ghost use Rattle.std.specs.Option.{option_map};
 ghost use Rattle.std.specs.Simd.{first_chunks};
@@ -32,7 +32,8 @@ pub struct Graph<'a> {
 #[tactic(auto, using(crate::proofs::Listed::front))]
 fn in_use<const WIDTH: usize>(words: &[u32], count: usize) -> Result<&[[u32; WIDTH]], Refusal>
     requires { 0 < WIDTH }
-    ensures { MatchResult result (λ list. (count ≤ length words.now / WIDTH) × (list.now ≡ first_chunks WIDTH count words.now)) (λ cause. (length words.now / WIDTH < count) × (cause ≡ Asked)) }
+    ensures ok { IfOk result (λ list. (count ≤ length words.now / WIDTH) × (list.now ≡ first_chunks WIDTH count words.now)) }
+    ensures err { IfErr result (λ cause. (length words.now / WIDTH < count) × (cause ≡ Asked)) }
 {
     let (all, _) = words.as_chunks::<WIDTH>();
     if all.len() < count {
