@@ -16,7 +16,6 @@ use Rattle.std.proofs.lemmas.Bool.{cases_lt}
 use Rattle.std.proofs.lemmas.Bool.Decides.{nat_tests}
 use Rattle.turns.proofs.Strip.{strip_is}
 use Rattle.turns.specs.Command.{bytes, strip, digits_from, zero_alone, number_of, before_blank, adding, pair_of, taking, pair_in, command_of}
-use Rattle.turns.specs.declared.line.Command.TheVariants.{Unread}
 
 -- d is a digit that may stand behind those of v
 abbrev fits : (v d : ℕ) → Bool
@@ -66,11 +65,11 @@ short-number (d ∷ ds) n e = by (eqb d 48) refl e
     by true t f = alone ds f
     by false t f = after (fits 0 d) refl (eqb-false d 48 t) f
 
-short-pair : (s : List ℕ) → (pair_of s ≡ Unread) ⊎ (length s ≤ 21)
+short-pair : (s : List ℕ) → (pair_of s ≡ None) ⊎ (length s ≤ 21)
 unfolding pair_of
 short-pair s = by (number_of (take (before_blank s) s)) (number_of (drop (before_blank s + 1) s)) refl refl
   where
-    by : (q item : Option ℕ) → number_of (take (before_blank s) s) ≡ q → number_of (drop (before_blank s + 1) s) ≡ item → (adding q item ≡ Unread) ⊎ (length s ≤ 21)
+    by : (q item : Option ℕ) → number_of (take (before_blank s) s) ≡ q → number_of (drop (before_blank s + 1) s) ≡ item → (adding q item ≡ None) ⊎ (length s ≤ 21)
     by None item e f = inl refl
     by (Some q) None e f = inl refl
     by (Some q) (Some item) e f =
@@ -87,11 +86,11 @@ strip-size : (text s rest : List ℕ) → strip text s ≡ Some rest → length 
 strip-size text s rest e = rw (strip_is text s rest e) (length-append text rest)
 
 -- a line that asks something
-short-line : (line : List ℕ) → (command_of line ≡ Unread) ⊎ (length line ≤ 25)
+short-line : (line : List ℕ) → (command_of line ≡ None) ⊎ (length line ≤ 25)
 unfolding command_of
 short-line line = by (strip (bytes "take") line) (strip (bytes "add ") line) refl refl
   where
-    by : (t a : Option (List ℕ)) → strip (bytes "take") line ≡ t → strip (bytes "add ") line ≡ a → (taking t (pair_in a) ≡ Unread) ⊎ (length line ≤ 25)
+    by : (t a : Option (List ℕ)) → strip (bytes "take") line ≡ t → strip (bytes "add ") line ≡ a → (taking t (pair_in a) ≡ None) ⊎ (length line ≤ 25)
     by None None e f = inl refl
     by None (Some s) e f = ⊎_elim inl (λ l. inr (omega (arith, strip-size (bytes "add ") line s f))) (short-pair s)
     by (Some []) a e f = inr (omega (arith, strip-size (bytes "take") line [] e))
@@ -101,7 +100,7 @@ short-line line = by (strip (bytes "take") line) (strip (bytes "add ") line) ref
 pub first-32 : (line : List ℕ) → command_of (take 32 line) ≡ command_of line
 first-32 line = by (leb (length line) 32) refl
   where
-    unread : (s : List ℕ) → 25 < length s → command_of s ≡ Unread
+    unread : (s : List ℕ) → 25 < length s → command_of s ≡ None
     unread s h = ⊎_elim (λ e. e) (λ l. absurd (omega arith)) (short-line s)
 
     by : (t : Bool) → leb (length line) 32 ≡ t → command_of (take 32 line) ≡ command_of line

@@ -4,7 +4,7 @@ use Rattle.std.specs.Prelude.{ℕ, suc, ◌+◌, ◌*◌, ◌-◌, ◌^◌, cond
 use Prim.Native.Char.{code}
 use Prim.Native.String.{String, [] as end, ◌∷◌ as ◌▹◌}
 use Rattle.turns.specs.declared.line.Command.{Command}
-use Rattle.turns.specs.declared.line.Command.TheVariants.{Add, Take, Unread}
+use Rattle.turns.specs.declared.line.Command.TheVariants.{Add, Take}
 
 -- a quoted text as bytes
 abbrev pub bytes : String → List ℕ
@@ -37,24 +37,24 @@ unfoldable pub before_blank : List ℕ → ℕ
 before_blank [] = 0
 before_blank (b ∷ s) = cond (eqb b 32) 0 (suc (before_blank s))
 
-abbrev pub adding : Option ℕ → Option ℕ → Command
-adding None item = Unread
-adding (Some q) None = Unread
-adding (Some q) (Some item) = Add q item
+abbrev pub adding : Option ℕ → Option ℕ → Option Command
+adding None item = None
+adding (Some q) None = None
+adding (Some q) (Some item) = Some (Add q item)
 
 -- a queue's number, a blank and an item
-unfoldable pub pair_of : List ℕ → Command
+unfoldable pub pair_of : List ℕ → Option Command
 pair_of s = adding (number_of (take (before_blank s) s)) (number_of (drop (before_blank s + 1) s))
 
 -- what follows `take`, and what follows `add` and a blank
-abbrev pub taking : Option (List ℕ) → Command → Command
+abbrev pub taking : Option (List ℕ) → Option Command → Option Command
 taking None other = other
-taking (Some []) other = Take
-taking (Some (b ∷ s)) other = Unread
+taking (Some []) other = Some Take
+taking (Some (b ∷ s)) other = None
 
-abbrev pub pair_in : Option (List ℕ) → Command
-pair_in None = Unread
+abbrev pub pair_in : Option (List ℕ) → Option Command
+pair_in None = None
 pair_in (Some s) = pair_of s
 
-unfoldable pub command_of : List ℕ → Command
+unfoldable pub command_of : List ℕ → Option Command
 command_of line = taking (strip (bytes "take") line) (pair_in (strip (bytes "add ") line))

@@ -8,7 +8,7 @@ use Rattle.dispatcher.specs.declared.Served.{Served}
 use Rattle.dispatcher.specs.declared.Taken.{Taken}
 use Rattle.turns.specs.Command.{bytes}
 use Rattle.turns.specs.declared.line.Command.{Command}
-use Rattle.turns.specs.declared.line.Command.TheVariants.{Add, Take, Unread}
+use Rattle.turns.specs.declared.line.Command.TheVariants.{Add, Take}
 
 -- a number and the byte after it
 abbrev pub field : ℕ → ℕ → List ℕ
@@ -27,7 +27,7 @@ abbrev pub taken_text : Taken → List ℕ
 taken_text answer = served_text answer.served ++ field answer.steps 10
 
 -- the text, and the state after it
-abbrev pub does : Command → State → List ℕ × State
-does (Add q item) s = let r = dispatcher.add q item s in (added_text r.0, r.1)
-does Take s = let r = dispatcher.take s in (taken_text r.0, r.1)
-does Unread s = (bytes "unread\n", s)
+abbrev pub does : Option Command → State → List ℕ × State
+does (Some (Add q item)) s = let r = dispatcher.add q item s in (added_text r.0, r.1)
+does (Some Take) s = let r = dispatcher.take s in (taken_text r.0, r.1)
+does None s = (bytes "unread\n", s)

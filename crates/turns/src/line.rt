@@ -7,7 +7,6 @@ ghost use Rattle.turns.specs.Command.{digits_from, number_of, pair_of, command_o
 pub enum Command {
     Add(u32, u32),
     Take,
-    Unread,
 }
 
 // The number that digits write.
@@ -45,30 +44,21 @@ fn first_blank(text: &[u8]) -> Option<usize>
 }
 
 // A queue's number, a blank and an item.
-fn pair(text: &[u8]) -> Command
+fn pair(text: &[u8]) -> Option<Command>
     ensures { result ≡ pair_of text.now }
 {
-    let Some(blank) = first_blank(text) else {
-        return Command::Unread;
-    };
-    let Some(queue) = number(&text[..blank]) else {
-        return Command::Unread;
-    };
-    let Some(item) = number(&text[blank + 1..]) else {
-        return Command::Unread;
-    };
-    Command::Add(queue, item)
+    let blank = first_blank(text)?;
+    let queue = number(&text[..blank])?;
+    let item = number(&text[blank + 1..])?;
+    Some(Command::Add(queue, item))
 }
 
-// What a line asks.
-pub fn read(line: &[u8]) -> Command
+// What a line asks; None where it is no command.
+pub fn read(line: &[u8]) -> Option<Command>
     ensures { result ≡ command_of line.now }
 {
     if line == b"take".as_slice() {
-        return Command::Take;
+        return Some(Command::Take);
     }
-    match line.strip_prefix(b"add ") {
-        Some(rest) => pair(rest),
-        None => Command::Unread,
-    }
+    pair(line.strip_prefix(b"add ")?)
 }

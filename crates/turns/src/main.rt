@@ -1,5 +1,6 @@
 // Steps on standard input, a line each: `add QUEUE ITEM` or `take`. A line each on standard output: `ok`, `refused N`, `served QUEUE ITEM
 // STEPS`, `none STEPS`, or `unread` for any other line. The answers to what one read brought are written before the next.
+// No heap: lines and answers go through texts of the largest size.
 #![tactic(auto)]
 
 mod line;

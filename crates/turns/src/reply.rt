@@ -57,8 +57,8 @@ pub fn reply(line: &[u8], words: &mut [u32; 577], page: &mut Text<PAGE>)
     ensures state { state_of words.new ≡ (does (command_of line.now) (state_of words.old)).1 }
 {
     match read(line) {
-        Command::Add(queue, item) => put_added(page, add(words, queue, item)),
-        Command::Take => put_taken(page, take(words)),
-        Command::Unread => page.put(b"unread\n"),
+        Some(Command::Add(queue, item)) => put_added(page, add(words, queue, item)),
+        Some(Command::Take) => put_taken(page, take(words)),
+        None => page.put(b"unread\n"),
     }
 }

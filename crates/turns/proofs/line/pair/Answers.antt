@@ -1,5 +1,5 @@
 -- The numbers are those of the bytes before the blank and after it; where either is none, so is the pair.
-use Rattle.std.proofs.Common.{◌≡◌, ℕ, ◌+◌, ◌-◌, ◌<◌, ◌≤◌, Bool, true, false, cond, eqb, ltb, List, length, take, drop, length-drop, Option, Some, None, refl, ap, arith}
+use Rattle.std.proofs.Common.{◌≡◌, ℕ, ◌+◌, ◌-◌, ◌<◌, ◌≤◌, Bool, true, false, cond, eqb, ltb, List, length, take, drop, length-drop, Option, Some, None, refl, ap, ◌∙◌, arith}
 use borrow.Author.Tests.{ltb-true, ltb-false}
 use Rattle.std.specs.Prelude.{MatchOption}
 use Rattle.std.specs.List.{position, position_or_len}
@@ -7,7 +7,6 @@ use Rattle.std.proofs.lemmas.List.{take_all}
 use Rattle.std.proofs.lemmas.List.Recursion.{is_position_or_len}
 use Rattle.words.proofs.Words.{drop-none}
 use Rattle.turns.specs.Command.{before_blank, number_of, adding, pair_of}
-use Rattle.turns.specs.declared.line.Command.TheVariants.{Unread}
 use Rattle.turns.proofs.line.pair.Goals as goal
 
 blank_is : (s : List ℕ) → before_blank s ≡ position_or_len (λ b. eqb b 32) s
@@ -21,11 +20,11 @@ at_blank s r e = rw (e, blank_is s) (by (ltb (position_or_len (λ b. eqb b 32) s
     by true t = (refl, ltb-true _ _ t)
     by false t = ltb-false _ _ t
 
-short : (s : List ℕ) → length s ≤ before_blank s → Unread ≡ pair_of s
+short : (s : List ℕ) → length s ≤ before_blank s → None ≡ pair_of s
 unfolding pair_of number_of
 short s h = rw (drop-none s (before_blank s + 1) (omega arith)) (by (number_of (take (before_blank s) s)))
   where
-    by : (q : Option ℕ) → Unread ≡ adding q None
+    by : (q : Option ℕ) → None ≡ adding q None
     by None = refl
     by (Some q) = refl
 
@@ -35,20 +34,20 @@ parts s k q item e f g =
     let rest = take_all (length s - (k + 1)) (drop (k + 1) s) (simp length-drop (omega arith)) in
     rw (f, g, rest, e)
 
-pub returns-in_default : goal.returns-in_default
-returns-in_default c = short _ (at_blank c.args.text.now None c.in_default.ensures)
+pub returns-in_err-blank : goal.returns-in_err-blank
+returns-in_err-blank c = c.from_residual.ensures ∙ short _ (at_blank c.args.text.now None c.in_err-blank.ensures)
 
-pub returns-in_default-number : goal.returns-in_default-number
-returns-in_default-number c =
-    let k = at_blank c.args.text.now (Some c.in-Some.blank) c.in-Some.ensures in
-    parts _ _ _ _ k.0 c.in_default-number.ensures refl
+pub returns-in_err-queue : goal.returns-in_err-queue
+returns-in_err-queue c =
+    let k = at_blank c.args.text.now (Some c.in_ok-blank.blank) c.in_ok-blank.ensures in
+    c.from_residual-in_err-queue.ensures ∙ parts _ _ _ _ k.0 c.in_err-queue.ensures refl
 
-pub returns-in_default-number-2 : goal.returns-in_default-number-2
-returns-in_default-number-2 c =
-    let k = at_blank c.args.text.now (Some c.in-Some.blank) c.in-Some.ensures in
-    parts _ _ _ _ k.0 c.in-Some-number.ensures c.in_default-number-2.ensures
+pub returns-in_err-item : goal.returns-in_err-item
+returns-in_err-item c =
+    let k = at_blank c.args.text.now (Some c.in_ok-blank.blank) c.in_ok-blank.ensures in
+    c.from_residual-in_err-item.ensures ∙ parts _ _ _ _ k.0 c.in_ok-queue.ensures c.in_err-item.ensures
 
 pub returns : goal.returns
 returns c =
-    let k = at_blank c.args.text.now (Some c.in-Some.blank) c.in-Some.ensures in
-    parts _ _ _ _ k.0 c.in-Some-number.ensures c.in-Some-number-2.ensures
+    let k = at_blank c.args.text.now (Some c.in_ok-blank.blank) c.in_ok-blank.ensures in
+    parts _ _ _ _ k.0 c.in_ok-queue.ensures c.in_ok-item.ensures
