@@ -15,4 +15,4 @@ check_sized-requires-in-4097-to-8192-clause-few c =
 
 pub returns-in_default-clause-answers : goal.returns-in_default-clause-answers
 returns-in_default-clause-answers c =
-    long-answer c.args.warns c.args.s.now (lent c.args.lists.now) c.args.room (omega (arith, c.in_default.not))
+    long-answer c.args.warns c.args.s.now (lent c.args.lists.now) c.args.room (omega arith)
