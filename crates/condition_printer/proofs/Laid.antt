@@ -8,7 +8,8 @@ use Rattle.std.specs.Prelude.{None}
 use Rattle.words.specs.Words.{words}
 use Rattle.words.proofs.Words.{length-words}
 use Rattle.heads.specs.Got.{Got, ok, no, is_ok, many}
-use Rattle.heads.specs.Answer.{tables, known_at}
+use Rattle.heads.specs.Answer.{tables, known_at, words_of, tables_of}
+use Rattle.heads.specs.declared.Section.{Section}
 use Rattle.expr.proofs.Inverse.{never}
 use Rattle.clauses.specs.Tree.{Clause, Arm}
 use Rattle.clauses.specs.Read.{read_clause, read_arm}
@@ -16,10 +17,10 @@ use Rattle.clauses.specs.Write.{write_clause, write_arm}
 use Rattle.tables.specs.Row.{Row}
 use Rattle.sheet.specs.Trailer.{places_of, section}
 use Rattle.sheet.specs.Read.{Sheet, accepted, refused, then', used_up, any_binder, read_names, read_rows, locate}
-use Rattle.sheet.specs.Answer.{InPlaces}
+use Rattle.sheet.specs.Answer.{InPlaces, Part}
 use Rattle.sheet.specs.declared.trailer.Places.{Places}
 use Rattle.sheet.proofs.Placing.{places-of, in-places}
-use Rattle.sheet.proofs.Cutting.{words-front}
+use Rattle.sheet.proofs.Cutting.{part-words, holds}
 use Rattle.condition.specs.Cond.{Cond}
 use Rattle.condition_text.specs.Write.{Wrote, Ready, Put}
 use Rattle.condition_text.proofs.Stages.{keeps, then-wrote}
@@ -68,40 +69,43 @@ module _ (s : List ℕ) where
           go-tables p l _ refl _ refl (rw l) f
       go (refused c) e = never (let z : accepted p ≡ refused c = rw e at f in cc)
 
--- the words of a sheet up to a word
-abbrev part : List ℕ → ℕ → List ℕ
-part s to = words (take (to * 4) s)
+module _ {s : List ℕ} {p : Places} (l : Laid s p) {x y : Section} (hx : Part s p p.tail None x) (hy : Part s p p.trailer None y) where
+  head-long : length (words_of x) ≡ p.tail
+  head-long =
+      let i = l.places in
+      omega (arith, ap length (part-words hx), length-take p.tail (words s), length-words s, i.tail, i.trailer)
 
-part_length : (s : List ℕ) (to : ℕ) → to * 4 ≤ length s → length (part s to) ≡ to
-part_length s to h = omega (arith, ap length (words-front to s), length-take to (words s), length-words s)
+  arms-long : length (words_of y) ≡ p.trailer
+  arms-long =
+      let i = l.places in
+      omega (arith, ap length (part-words hy), length-take p.trailer (words s), length-words s, i.trailer)
 
-module _ {s : List ℕ} {p : Places} (l : Laid s p) where
-  head-reads : many (read_clause (tables (part s p.tail) p.names p.rows None)) p.clauses (drop p.head (part s p.tail)) ≡ ok l.head []
+  head-reads : many (read_clause (tables_of x)) p.clauses (drop p.head (words_of x)) ≡ ok l.head []
   unfolding known_at
-  head-reads = ap (λ (ws : List ℕ). many (read_clause (tables ws p.names p.rows None)) p.clauses (drop p.head ws)) (words-front p.tail s) ∙ l.head_read
+  head-reads = holds hx (λ ws names rows b. many (read_clause (tables ws names rows b)) p.clauses (drop p.head ws) ≡ ok l.head []) l.head_read
 
-  arms-reads : many (read_arm (tables (part s p.trailer) p.names p.rows None)) p.arms (drop p.tail (part s p.trailer)) ≡ ok l.arms []
+  arms-reads : many (read_arm (tables_of y)) p.arms (drop p.tail (words_of y)) ≡ ok l.arms []
   unfolding known_at
-  arms-reads = ap (λ (ws : List ℕ). many (read_arm (tables ws p.names p.rows None)) p.arms (drop p.tail ws)) (words-front p.trailer s) ∙ l.arms_read
+  arms-reads = holds hy (λ ws names rows b. many (read_arm (tables ws names rows b)) p.arms (drop p.tail ws) ≡ ok l.arms []) l.arms_read
 
-  pub head-ready : (k size : ℕ) → k ≡ 0 → 30720 ≤ size → Ready (many (read_clause (tables (part s p.tail) p.names p.rows None)) p.clauses (drop p.head (part s p.tail))) (part s p.tail) p.head k size
+  pub head-ready : (k size : ℕ) → k ≡ 0 → 30720 ≤ size → Ready (many (read_clause (tables_of x)) p.clauses (drop p.head (words_of x))) (words_of x) p.head k size
   head-ready k size z h =
       let i = l.places in
-      let n = part_length s p.tail (omega (arith, i.tail, i.trailer)) in
+      let n = head-long in
       record { fine = ap is_ok head-reads; inside = omega (arith, n, i.head); few = omega (arith, n, i.tail, i.trailer, i.short); room = omega (arith, n, i.tail, i.trailer, i.short) }
 
   -- the head was put
-  module _ {old mid : List ℕ} {k next j : ℕ} (z : k ≡ 0) (u : Put (many (read_clause (tables (part s p.tail) p.names p.rows None)) p.clauses (drop p.head (part s p.tail))) (row_words write_clause) (text_of (in_row write_clause of_clause) p.head) (part s p.tail) p.head k old mid next j) where
+  module _ {old mid : List ℕ} {k next j : ℕ} (z : k ≡ 0) (u : Put (many (read_clause (tables_of x)) p.clauses (drop p.head (words_of x))) (row_words write_clause) (text_of (in_row write_clause of_clause) p.head) (words_of x) p.head k old mid next j) where
     head-wrote : Wrote (page_of (in_row write_clause of_clause l.head p.head)) k old mid j
     head-wrote = (u.is l.head [] head-reads).1.1
 
-    pub arms-ready : 30720 ≤ length old → Ready (many (read_arm (tables (part s p.trailer) p.names p.rows None)) p.arms (drop p.tail (part s p.trailer))) (part s p.trailer) p.tail j (length mid)
+    pub arms-ready : 30720 ≤ length old → Ready (many (read_arm (tables_of y)) p.arms (drop p.tail (words_of y))) (words_of y) p.tail j (length mid)
     arms-ready h =
         let i = l.places in
-        let n = part_length s p.trailer (omega (arith, i.trailer)) in
-        let m = part_length s p.tail (omega (arith, i.tail, i.trailer)) in
+        let n = arms-long in
+        let m = head-long in
         let k = keeps head-wrote in
         record { fine = ap is_ok arms-reads; inside = omega (arith, n, i.tail); few = omega (arith, n, i.trailer, i.short); room = omega (arith, n, m, k, u.short, u.within, i.trailer, i.tail, i.head, i.short) }
 
-    pub all-put : {new : List ℕ} {last end : ℕ} → Put (many (read_arm (tables (part s p.trailer) p.names p.rows None)) p.arms (drop p.tail (part s p.trailer))) (row_words write_arm) (text_of (in_row write_arm of_arm) p.tail) (part s p.trailer) p.tail j mid new last end → Wrote (page_of (conds_in (read_conditions s))) k old new end
+    pub all-put : {new : List ℕ} {last end : ℕ} → Put (many (read_arm (tables_of y)) p.arms (drop p.tail (words_of y))) (row_words write_arm) (text_of (in_row write_arm of_arm) p.tail) (words_of y) p.tail j mid new last end → Wrote (page_of (conds_in (read_conditions s))) k old new end
     all-put v = rw (l.conds, page-append (in_row write_clause of_clause l.head p.head) (in_row write_arm of_arm l.arms p.tail)) (then-wrote head-wrote (v.is l.arms [] arms-reads).1.1)

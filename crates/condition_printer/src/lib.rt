@@ -11,7 +11,6 @@ ghost use Rattle.condition_printer.specs.Conditions.{read_conditions};
 ghost use Rattle.condition_printer.specs.Page.{page_of, conditions_as, page_as, conds_in, opened_for};
 
 use condition_text::Page;
-use heads::Section;
 use lines::{print_arms, print_clauses};
 use refusal::Refusal;
 use sheet::{Places, check_both, find_places, open};
@@ -41,16 +40,8 @@ fn print_all(s: &[u8], p: Places, page: &mut Page<'_>)
     requires { (accepted p ≡ opened_for (read_conditions s.now) s.now) × ((page.old.end ≡ 0) × (30720 ≤ length page.old.bytes.now)) }
     ensures { Adds (page_of (conds_in (read_conditions s.now))) page.old page.new }
 {
-    let head = Section {
-        bytes: &s[..p.tail * 4],
-        names: p.names,
-        rows: p.rows,
-        bound: None,
-    };
-    let arms = Section {
-        bytes: &s[..p.trailer * 4],
-        ..head
-    };
+    let head = p.section(s, p.tail, None);
+    let arms = p.section(s, p.trailer, None);
     print_clauses(&head, p.head, p.clauses, page);
     print_arms(&arms, p.tail, p.arms, page);
 }

@@ -1,5 +1,5 @@
 // The message call: the text of a finding at the front of lent bytes, or a refusal (1 to 3, 9, 10), which alters none of them. A host may ask
-// with any numbers, each of which C hands over for itself.
+// with any numbers.
 #![tactic(auto)]
 
 mod pushes;
@@ -31,6 +31,7 @@ fn find_text(s: &[u8], name: u32) -> Result<Option<&[u8]>, Refusal>
 {
     match name.checked_sub(1) {
         Some(i) => text_at(s, i).map(Some).map_err(cited),
+        // Two matches: a nested pattern `Err(Refusal::Word)` tells the next arm nothing.
         None => match text_at(s, 0) {
             Ok(_) => Ok(None),
             Err(refusal) => match refusal {
@@ -48,43 +49,39 @@ fn is_starred(code: u32, x: &[u8]) -> bool
     (code == 1001) & (x == b"*".as_slice())
 }
 
+// What a message is asked for: a finding's code, its name's index + 1 or 0, and its two details.
+#[derive(Clone, Copy, Debug, PartialEq, Eq)]
+pub struct Question {
+    pub code: u32,
+    pub name: u32,
+    pub one: u32,
+    pub two: u32,
+}
+
 // The text of a finding, and of a name if one is cited, into the page.
-fn say(
-    code: u32,
-    name: Option<&[u8]>,
-    one: u32,
-    two: u32,
-    page: &mut [u8],
-) -> Result<usize, Refusal>
-    ensures { Writes (text_if (text_for code one) (is_cited name.entry) code (text_in name.entry) two) page.old page.new result }
+fn say(a: Question, name: Option<&[u8]>, page: &mut [u8]) -> Result<usize, Refusal>
+    ensures { Writes (text_if (text_for a.code a.one) (is_cited name.entry) a.code (text_in name.entry) a.two) page.old page.new result }
 {
-    let Some(text) = text_for(code, one) else {
+    let Some(text) = text_for(a.code, a.one) else {
         return Err(Refusal::Asked);
     };
-    if !push_of(text).allows(name.is_some(), two) {
+    if !push_of(text).allows(name.is_some(), a.two) {
         return Err(Refusal::Asked);
     }
     let x = name.unwrap_or_default();
-    if is_starred(code, x) {
+    if is_starred(a.code, x) {
         return Err(Refusal::Asked);
     }
-    if page.len() < text_len(text, x, two) {
+    if page.len() < text_len(text, x, a.two) {
         return Err(Refusal::Page);
     }
-    Ok(write_text(text, x, two, page))
+    Ok(write_text(text, x, a.two, page))
 }
 
-// The message of a finding: its code, its name's index + 1 or 0, and its details.
-pub fn message(
-    s: &[u8],
-    code: u32,
-    name: u32,
-    one: u32,
-    two: u32,
-    page: &mut [u8],
-) -> Result<usize, Refusal>
-    ensures { Writes (message s.now code name one two) page.old page.new result }
+// The message of a finding.
+pub fn message(s: &[u8], a: Question, page: &mut [u8]) -> Result<usize, Refusal>
+    ensures { Writes (message s.now a.code a.name a.one a.two) page.old page.new result }
 {
-    let text = find_text(s, name)?;
-    say(code, text, one, two, page)
+    let text = find_text(s, a.name)?;
+    say(a, text, page)
 }

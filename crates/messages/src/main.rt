@@ -3,41 +3,28 @@
 // arrays of the largest size.
 #![tactic(auto)]
 
-use message::message;
+use message::{Question, message};
 use std::io;
 use std::io::Write;
 
 const CODES: [u32; 9] = [1000, 1001, 1002, 2007, 2008, 2011, 5010, 5011, 5012];
 
-// What a message is asked for.
-#[derive(Clone, Copy)]
-struct Question {
-    code: u32,
-    name: u32,
-    one: u32,
-    two: u32,
-}
-
-impl Question {
-    // 0, or the refusal's number.
-    fn cause(self, s: &[u8], page: &mut [u8]) -> u32 {
-        message(s, self.code, self.name, self.one, self.two, page)
-            .err()
-            .map_or(0, u32::from)
-    }
+// 0, or the refusal's number.
+fn cause(s: &[u8], a: Question, page: &mut [u8]) -> u32 {
+    message(s, a, page).err().map_or(0, u32::from)
 }
 
 fn line<W: Write>(out: &mut W, s: &[u8], a: Question) -> io::Result<()> {
     let mut page = [0u8; 512];
     write!(out, "{} {} {} {} ", a.code, a.name, a.one, a.two)?;
-    match message(s, a.code, a.name, a.one, a.two, &mut page) {
+    match message(s, a, &mut page) {
         Ok(n) => {
             let text = &mut page[..n];
             out.write_all(text)?;
-            let filled = a.cause(s, text);
+            let filled = cause(s, a, text);
             // A match: a closure over a lent pair gets no proof.
             let short = match text.split_last_mut() {
-                Some((_, shorter)) => a.cause(s, shorter),
+                Some((_, shorter)) => cause(s, a, shorter),
                 None => 0,
             };
             writeln!(out, " {filled} {short}")

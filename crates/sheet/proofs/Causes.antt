@@ -12,7 +12,8 @@ use Rattle.words.specs.Words.{words}
 use Rattle.words.proofs.Words.{length-words, drop-word, drop-none}
 use Rattle.heads.specs.Got.{Got, ok, no, bare, many}
 use Rattle.heads.specs.Head.{Tables}
-use Rattle.heads.specs.Answer.{Ans, tables, known_at, row_ids, is_in}
+use Rattle.heads.specs.Answer.{Ans, words_of, tables_of, tables, known_at, row_ids, is_in}
+use Rattle.heads.specs.declared.Section.{Section}
 use Rattle.std.specs.Prelude.{Option, None, Some, Result, Ok, Err, not}
 use Rattle.std.specs.Result.{IsErr, IsErrAnd}
 use Rattle.refusal.specs.Number.{number_of}
@@ -29,9 +30,9 @@ use Rattle.clauses.specs.Binders.{binders_c, binders_a}
 use Rattle.clauses.proofs.StrictClause.{strict-many, strict-clause, strict-arm}
 use Rattle.sheet.specs.Read.{Sheet, accepted, then', unless, used_up, read_clauses}
 use Rattle.sheet.specs.Read as sheets
-use Rattle.sheet.specs.Answer.{InPlaces, sheet_of, judged, reached, tables_to, section_of, sections_of}
+use Rattle.sheet.specs.Answer.{InPlaces, sheet_of, judged, reached, tables_to, section_of, sections_of, Part}
 use Rattle.sheet.specs.declared.trailer.Places.{Places}
-use Rattle.sheet.proofs.Cutting.{words-front, ids-take}
+use Rattle.sheet.proofs.Cutting.{part-words, held, ids-take}
 
 -- ---- a section
 by_shape : {A : Type 0} (g : Got A) → judged (used_up g) ≡ judged (used_up (bare g))
@@ -47,21 +48,23 @@ ends p ws false e = rw (drop-none ws p (ltb-false p (length ws) e))
 pub refusal_told : {A : Type 0} (e : Refusal) (r : Result A Refusal) → IsErr r × IsErrAnd r (λ y. y ≡ e) → sheet_of r ≡ sheets.refused (number_of e)
 refusal_told e r f = rw (handed e r f)
 
--- a section of the sheet, read in the bytes up to where it ends
-module _ {A : Type 0} (one : Tables → List ℕ → Got A) (s : List ℕ) (p : Places) (bound : Option ℕ) (n from to : ℕ) where
-  abbrev section_got : List ℕ → Got (List A)
-  section_got ws = many (one (tables ws p.names p.rows bound)) n (drop from ws)
+-- a section of the sheet, read in the words up to where it ends
+module _ {A : Type 0} (one : Tables → List ℕ → Got A) (s : List ℕ) (p : Places) (bound : Option ℕ) (n from to : ℕ) {x : Section} (h : Part s p to bound x) where
+  abbrev section_got : List ℕ → ℕ → ℕ → Option ℕ → Got (List A)
+  section_got ws names rows b = many (one (tables ws names rows b)) n (drop from ws)
 
-  of_words : (x : Sheet (Unit {0})) → x ≡ judged (used_up (section_got (words (take (to * 4) s)))) → x ≡ judged (section_of one s p bound n from to)
-  of_words x e = e ∙ ap (λ (l : List ℕ). judged (used_up (section_got l))) (words-front to s)
+  abbrev got_here : Got (List A)
+  got_here = section_got (take to (words s)) p.names p.rows bound
 
-  pub part_refused : {q : ℕ} (e : Refusal) (r : Result (Unit {0}) Refusal) → Ans (words (take (to * 4) s)) from (bare (section_got (words (take (to * 4) s)))) (no (number_of e)) q → IsErr r × IsErrAnd r (λ y. y ≡ e) → sheet_of r ≡ judged (section_of one s p bound n from to)
-  part_refused e r x f = of_words _ (refusal_told e r f ∙ sym (by_shape (section_got (words (take (to * 4) s))) ∙ rw x.same))
+  pub part_refused : {q : ℕ} (e : Refusal) (r : Result (Unit {0}) Refusal) → Ans (words_of x) from (bare (many (one (tables_of x)) n (drop from (words_of x)))) (no (number_of e)) q → IsErr r × IsErrAnd r (λ y. y ≡ e) → sheet_of r ≡ judged (section_of one s p bound n from to)
+  part_refused {q} e r a f =
+      let b = held h (λ ws names rows b. Ans ws from (bare (section_got ws names rows b)) (no (number_of e)) q) a in
+      refusal_told e r f ∙ sym (by_shape got_here ∙ rw b.same)
 
-  pub part_read : {q end : ℕ} (r : Result (Unit {0}) Refusal) → Ans (words (take (to * 4) s)) from (bare (section_got (words (take (to * 4) s)))) (ok tt (drop q (words (take (to * 4) s)))) q → end ≡ length (words (take (to * 4) s)) → sheet_of r ≡ reached q end → sheet_of r ≡ judged (section_of one s p bound n from to)
-  part_read {q} r x e f =
-      of_words _
-      (f ∙ ap (reached q) e ∙ ends q (words (take (to * 4) s)) _ refl ∙ sym (by_shape (section_got (words (take (to * 4) s))) ∙ rw x.same))
+  pub part_read : {q end : ℕ} (r : Result (Unit {0}) Refusal) → Ans (words_of x) from (bare (many (one (tables_of x)) n (drop from (words_of x)))) (ok tt (drop q (words_of x))) q → end ≡ length (words_of x) → sheet_of r ≡ reached q end → sheet_of r ≡ judged (section_of one s p bound n from to)
+  part_read {q} r a e f =
+      let b = held h (λ ws names rows b. Ans ws from (bare (section_got ws names rows b)) (ok tt (drop q ws)) q) a in
+      f ∙ ap (reached q) (e ∙ ap length (part-words h)) ∙ ends q (take to (words s)) _ refl ∙ sym (by_shape got_here ∙ rw b.same)
 
 -- ---- one after the other
 module _ {A B : Type 0} (y : Sheet B) where

@@ -6,6 +6,7 @@ use Rattle.words.specs.Fnv.{use_id}
 use Rattle.heads.specs.Got.{Got, many}
 use Rattle.heads.specs.Head.{Tables}
 use Rattle.heads.specs.Answer.{tables}
+use Rattle.heads.specs.declared.Section.{Section}
 use Rattle.clauses.specs.Tree.{Arm}
 use Rattle.clauses.specs.Read.{read_clause, read_arm}
 use Rattle.tables.specs.Answer.{names_in}
@@ -100,6 +101,13 @@ reached at end = unless 5 (not (ltb at end)) (accepted tt)
 -- the tables of a section that ends at the word `to`: binders are sought among so many bindings, or not at all
 abbrev pub tables_to : List ℕ → Places → Option ℕ → ℕ → Tables
 tables_to s p bound to = tables (take to (words s)) p.names p.rows bound
+
+-- a section that has the words of a sheet before `to`, with those tables
+pub record Part (s : List ℕ) (p : Places) (to : ℕ) (bound : Option ℕ) (x : Section) : Type 0 where
+  pub bytes : x.bytes.now ≡ take (to * 4) s
+  pub names : x.names ≡ p.names
+  pub rows : x.rows ≡ p.rows
+  pub among : x.bound ≡ bound
 
 -- n of a kind in the section between two words
 abbrev pub section_of : {A : Type 0} → (Tables → List ℕ → Got A) → List ℕ → Places → Option ℕ → ℕ → ℕ → ℕ → Sheet (List A)

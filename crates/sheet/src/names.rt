@@ -8,7 +8,8 @@ use crate::trailer::find_places;
 use refusal::Refusal;
 use tables::{are_read, distinct_names, name_at};
 
-// Whether the bytes of s are n names, no two the same: tab gets the byte where each stands, ids its use id.
+// Whether the bytes of s are n names, no two the same: tab gets the byte where each stands, ids its use id. Names are compared one with another:
+// `open` lends no words for chains, as the check call and the listing do.
 pub fn are_names(s: &[u8], n: u32, tab: &mut [u32], ids: &mut [u32]) -> bool
     requires { Roomy s.now tab.old ids.old }
     ensures { Tabled n s.now tab.new ids.new result }
@@ -17,7 +18,7 @@ pub fn are_names(s: &[u8], n: u32, tab: &mut [u32], ids: &mut [u32]) -> bool
 }
 
 // The name with the index i, of n names in the bytes of their section, with tables of N places: the byte where its length stands, and the
-// end of the section.
+// end of the section. No heap: two tables of the largest size.
 fn find_sized<const N: usize>(s: &[u8], n: u32, i: u32) -> Result<(u32, usize), Refusal>
     requires { (length s.now ≤ 8192) × ((length s.now / 4 ≤ N) × (N ≤ 2048)) }
     ensures { FindsIn n i s.now result }
@@ -61,14 +62,14 @@ pub fn text_at(s: &[u8], i: u32) -> Result<&[u8], Refusal>
     Ok(name_at(&s[..e], p as usize))
 }
 
-// Whether the name with the index i has a text, or its refusal.
+// Whether the name with the index i has a text, or its refusal. Document 01 has a name's text and its refusal as two calls.
 pub fn check_name(s: &[u8], i: u32) -> Result<(), Refusal>
     ensures { sheet_of result ≡ judged (read_text s.now i) }
 {
     text_at(s, i).map(|_| ())
 }
 
-// The text of the name with the index i; empty where check_name refuses.
+// The text of the name with the index i; empty where check_name refuses. The other of document 01's two calls.
 pub fn name_text(s: &[u8], i: u32) -> &[u8]
     ensures { result.now ≡ text_of (read_text s.now i) }
 {

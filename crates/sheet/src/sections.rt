@@ -9,7 +9,7 @@ ghost use Rattle.sheet.specs.Answer.{InPlaces, sheet_of, judged, bindings_of, ro
 use crate::names::are_names;
 use crate::trailer::Places;
 use clauses::{Arm, Clause};
-use heads::{Item, Section, read_many};
+use heads::{Item, read_many};
 use refusal::Refusal;
 use tables::{Row, distinct_ids};
 use words::count;
@@ -19,12 +19,7 @@ pub fn read_bindings(s: &[u8], p: Places) -> Result<(), Refusal>
     requires { InPlaces s.now p }
     ensures { sheet_of result ≡ judged (bindings_of s.now p) }
 {
-    let section = Section {
-        bytes: &s[..p.head * 4],
-        names: p.names,
-        rows: p.rows,
-        bound: None,
-    };
+    let section = p.section(s, p.head, None);
     if read_many::<Row>(&section, p.rows, p.bindings) == Ok(p.head) {
         return Ok(());
     }
@@ -37,12 +32,7 @@ fn check_rows(s: &[u8], p: Places) -> Result<(), Refusal>
     ensures { sheet_of result ≡ judged (rows_of s.now p) }
 {
     read_bindings(s, p)?;
-    let section = Section {
-        bytes: s,
-        names: p.names,
-        rows: p.rows,
-        bound: None,
-    };
+    let section = p.section(s, p.head, None);
     if distinct_ids(&section, p.bindings as usize) {
         return Ok(());
     }
@@ -82,12 +72,7 @@ fn check_section<I: Item>(
     requires { (from ≤ to) × (to * 4 ≤ length s.now) }
     ensures { sheet_of result ≡ judged (section_of I.one s.now p bound n from to) }
 {
-    let section = Section {
-        bytes: &s[..to * 4],
-        names: p.names,
-        rows: p.rows,
-        bound,
-    };
+    let section = p.section(s, to, bound);
     let at = read_many::<I>(&section, from, n)?;
     check_end(at, count(section.bytes))
 }

@@ -1,15 +1,17 @@
 // The trailer: where the sections of a sheet stand. Causes 1 and 2.
-ghost use Rattle.std.specs.Prelude.{◌≡◌, Bool, true, ℕ, ◌+◌, length};
+ghost use Rattle.std.specs.Prelude.{◌≡◌, Bool, true, ℕ, ◌+◌, ◌*◌, ◌≤◌, length};
 ghost use Rattle.words.specs.Words.{words};
 ghost use Rattle.sheet.specs.Trailer.{sized, in_place, places_of};
 ghost use Rattle.sheet.specs.Read.{locate};
-ghost use Rattle.sheet.specs.Answer.{sheet_of};
+ghost use Rattle.sheet.specs.Answer.{sheet_of, Part};
 
+use heads::Section;
 use refusal::Refusal;
 use words::{count, word};
 
 // Where the sections of a sheet stand: how many names, bindings, clauses and arms there are; the first word of the bindings, the head,
-// the arms and the trailer; the statement's span.
+// the arms and the trailer; the statement's span. No struct of a sheet's bytes and its places: the walks go by the places alone, and calls
+// take them after the bytes.
 #[derive(Clone, Copy)]
 pub struct Places {
     pub names: u32,
@@ -22,6 +24,21 @@ pub struct Places {
     pub trailer: usize,
     pub start: u32,
     pub end: u32,
+}
+
+impl Places {
+    // The words of a sheet before `to`, where binders are sought among so many bindings, or not at all.
+    pub fn section<'a>(self, s: &'a [u8], to: usize, bound: Option<usize>) -> Section<'a>
+        requires { to * 4 ≤ length s.now }
+        ensures { Part s.now self to bound result }
+    {
+        Section {
+            bytes: &s[..to * 4],
+            names: self.names,
+            rows: self.rows,
+            bound,
+        }
+    }
 }
 
 const MIN_BYTES: usize = 40;

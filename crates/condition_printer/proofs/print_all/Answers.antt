@@ -1,37 +1,28 @@
 -- The head's lines, and the arms' after them, each within its part of the sheet; 15 bytes a word are room enough (`Laid`).
 use Rattle.std.proofs.Common.{◌∙◌, arith}
 use Prim.Native.Nat.{◌*◌}
-use lib.ListN.{length-take}
 use Rattle.condition_printer.proofs.Laid.{laid, head-ready, arms-ready, all-put}
 use Rattle.condition_printer.proofs.print_all.Goals as goal
 
-pub overflow_mul-head : goal.overflow_mul-head
-overflow_mul-head c =
-    let i = (laid c.args.s.now c.args.p c.requires.0).places in omega (arith, i.tail, i.trailer, i.short)
+pub section-head-requires : goal.section-head-requires
+section-head-requires c =
+    let i = (laid c.args.s.now c.args.p c.requires.0).places in omega (arith, i.tail, i.trailer)
 
-pub slice_bounds-head-end : goal.slice_bounds-head-end
-slice_bounds-head-end c =
-    let i = (laid c.args.s.now c.args.p c.requires.0).places in omega (arith, i.tail, i.trailer, length-take (c.args.p.tail * 4) c.args.s.now)
-
-pub overflow_mul-arms : goal.overflow_mul-arms
-overflow_mul-arms c =
-    let i = (laid c.args.s.now c.args.p c.requires.0).places in omega (arith, i.trailer, i.short)
-
-pub slice_bounds-arms-end : goal.slice_bounds-arms-end
-slice_bounds-arms-end c =
-    let i = (laid c.args.s.now c.args.p c.requires.0).places in omega (arith, i.trailer, length-take (c.args.p.trailer * 4) c.args.s.now)
+pub section-arms-requires : goal.section-arms-requires
+section-arms-requires c =
+    let i = (laid c.args.s.now c.args.p c.requires.0).places in omega (arith, i.trailer)
 
 pub print_clauses-requires : goal.print_clauses-requires
 print_clauses-requires c =
-    head-ready (laid c.args.s.now c.args.p c.requires.0) _ _ c.requires.1.0 c.requires.1.1
+    head-ready (laid c.args.s.now c.args.p c.requires.0) c.section-head.ensures c.section-arms.ensures _ _ c.requires.1.0 c.requires.1.1
 
 pub print_arms-requires : goal.print_arms-requires
 print_arms-requires c =
-    arms-ready (laid c.args.s.now c.args.p c.requires.0) c.requires.1.0 c.print_clauses.ensures.put c.requires.1.1
+    arms-ready (laid c.args.s.now c.args.p c.requires.0) c.section-head.ensures c.section-arms.ensures c.requires.1.0 c.print_clauses.ensures.put c.requires.1.1
 
 pub returns : goal.returns
 returns c =
     record {
-      wrote = all-put (laid c.args.s.now c.args.p c.requires.0) c.requires.1.0 c.print_clauses.ensures.put c.print_arms.ensures.put;
+      wrote = all-put (laid c.args.s.now c.args.p c.requires.0) c.section-head.ensures c.section-arms.ensures c.requires.1.0 c.print_clauses.ensures.put c.print_arms.ensures.put;
       lent = c.print_arms.ensures.lent ∙ c.print_clauses.ensures.lent;
     }
