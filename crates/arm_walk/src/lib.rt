@@ -12,7 +12,7 @@ ghost use Rattle.clause_walk.specs.Clauses.{names_alone};
 ghost use Rattle.arm_walk.specs.Clauses.{both_walks, clauses_at, arm_at, arms_at};
 ghost use Rattle.arm_walk.specs.Taking.{Stores, Takes};
 
-use clause_parts::next_word;
+use clause_parts::{next_any, next_word};
 use clause_walk::walk_clause;
 use entries::put_carried;
 use refusal::Refusal;
@@ -82,9 +82,9 @@ fn walk_arm(
     ensures takes { Takes context.now walk.old carried.old carried.new (arm_at context.now both_walks) }
     ensures passes { Passes 0 context.now walk.old walk.new (arm_at context.now both_walks) result }
 {
-    let start = next_word(walk, context, 0, 4294967296)?;
+    let start = next_any(walk, context)?;
     next_word(walk, context, start, 4294967296)?;
-    let n = next_word(walk, context, 0, 4294967296)?;
+    let n = next_any(walk, context)?;
     walk.leave(0, 0);
     let mode = Mode {
         resolves: true,

@@ -1,6 +1,6 @@
 -- How far clauses have come (walk's Stage, of which nothing is said of what stays below). A walk of expressions passes (`forget`); a walk within
 -- goes on (`went`), is refused at its `?` (`fell`) or is the last one (`last_one`); a word is passed (`past`, `in_range`) or refused at its `?`
--- (`stopped`, `halted`; `no_word` in a walk that keeps what was visible); at the end stands the answer (`passed`, `refused`). In a loop one round
+-- (`stopped`, `halted`; `no_word` in a walk that keeps what was visible), and an alias is the one that its word tells (`alias-read`); at the end stands the answer (`passed`, `refused`). In a loop one round
 -- more was walked (`turn`), one was refused at its `?` (`fall`), or none is left (`over`); Stage's `begun` begins it. Other pairs may be held,
 -- with as much room (`held_on`).
 use Rattle.std.specs.Prelude.{Option, None, Some, Result, Ok, Err}
@@ -13,6 +13,8 @@ use lib.ListN.{length, drop}
 use Rattle.refusal.specs.declared.Refusal.{Refusal}
 use Rattle.heads.specs.Got.{Got, ok, no, bind, word_in}
 use Rattle.heads.proofs.Chain.{Chain, step, last}
+use Rattle.clauses.specs.Read.{alias_of}
+use Rattle.clauses.specs.Write.{alias_word}
 use Rattle.expr.proofs.Inverse.{word-gives}
 use Rattle.fused.specs.Fused.{Both, rounds}
 use Rattle.fused.specs.Fused as fused
@@ -83,6 +85,11 @@ module _ {keep : Option ℕ} {j : ℕ} {c : Context} {w₀ : Walk} {G : Goer} {f
 
   pub stopped : {e : Refusal} → Next c lo hi w w' (Err e) → Refuses c w₀ G e
   stopped n = stop o n.got
+
+-- the alias that was read
+pub alias-read : (a : Option ℕ) → alias_of (alias_word a) ≡ a
+alias-read None = refl
+alias-read (Some x) = refl
 
 -- its `?`, and in a walk that keeps what was visible
 module _ {c : Context} {w₀ : Walk} {G : Goer} {free : ℕ} {w : Walk} {lo hi : ℕ} {K : (ℕ → ℕ) → ℕ → Both → Both → Chain Both} {w' : Walk} {e : Refusal} (r : Result (Unit {0}) Refusal) where

@@ -1,9 +1,10 @@
 -- What a walk over parts of clauses asks and leaves. A WITH replaces what is visible, so nothing is said of what stays below.
-use Rattle.std.specs.Prelude.{ℕ, ◌+◌, ◌*◌, ◌≤◌, ◌≡◌, true, false, List, length, get_or, drop, Result, Ok, Err}
+use Rattle.std.specs.Prelude.{ℕ, ◌+◌, ◌*◌, ◌≤◌, ◌≡◌, true, false, List, length, get_or, drop, Option, Result, Ok, Err}
 use Rattle.refusal.specs.Number.{number_of}
 use Rattle.refusal.specs.declared.Refusal.{Refusal}
 use Rattle.heads.specs.Got.{Got, ok, no, word_in}
 use Rattle.heads.specs.Answer.{Ans}
+use Rattle.clauses.specs.Write.{alias_word}
 use Rattle.fused.specs.Fused.{Both, Mode}
 use Rattle.fused.specs.Clauses.{counted_row}
 use Rattle.steps.specs.Memory.{words_in, names_in, tables_in, hushed_in, world_at}
@@ -59,6 +60,11 @@ moved w (Err e) = w
 pub record Next (c : Context) (lo hi : ℕ) (w w' : Walk) (r : Result ℕ Refusal) : Type 0 where
   pub got : Ans (words_in c) w.at (word_in lo hi (rest_in c w)) (word_got (words_in c) w.at r) (word_end (words_in c) w.at r)
   pub now : w' ≡ moved w r
+
+-- the word of an alias that was read
+abbrev pub alias_told : Result (Option ℕ) Refusal → Result ℕ Refusal
+alias_told (Ok a) = Ok (alias_word a)
+alias_told (Err e) = Err e
 
 -- a count and as many expressions, in a mode
 module _ (c : Context) (mode : Mode) where

@@ -13,6 +13,7 @@ use Rattle.heads.specs.Got.{Got, ok, no, bind, word_in, any_word}
 use Rattle.heads.specs.Head.{Tables}
 use Rattle.clauses.specs.Read.{alias_of, read_yield}
 use Rattle.clauses.specs.Tree.{Yield, yield}
+use Rattle.clauses.specs.Write.{alias_word}
 use Rattle.tables.specs.Row.{value_kind}
 use Rattle.semantics.specs.World.{World, yield_name, name_of, row_name}
 use Rattle.semantics.specs.Resolve.{enter, bind_name, bind_anew}
@@ -85,13 +86,10 @@ unwound {c} {v = v} {x} shows q y n b =
 
 -- ---- a yield
 -- the name that is bound, as the code chooses it
-pub yields : (x y : ℕ) {r : ℕ} {a : Option ℕ} → r ≡ unwrap_or a x → a ≡ alias_of y → r ≡ yield_name x (alias_of y)
+pub yields : (x : ℕ) (a : Option ℕ) {r : ℕ} → r ≡ unwrap_or a x → r ≡ yield_name x (alias_of (alias_word a))
 unfolding yield_name
-yields x y p q = p ∙ rw q (go x (alias_of y))
-  where
-    go : (x : ℕ) (o : Option ℕ) → unwrap_or o x ≡ yield_name x o
-    go x None = refl
-    go x (Some z) = refl
+yields x None p = p
+yields x (Some y) p = p
 
 -- the name that is bound is in range
 pub yield-below : (x y n names : ℕ) → n ≤ names → x < n → y < n + 1 → yield_name x (alias_of y) < names

@@ -14,7 +14,7 @@ ghost use Rattle.steps.specs.Hold.{Ready, Steps};
 ghost use Rattle.clause_parts.specs.Passes.{Held, Clear, Passes};
 ghost use Rattle.clause_walk.specs.Clauses.{marked_at, scope_at, match_at, yield_at, unwind_at, unwound_at, yields_at, call_at, body_at, clause_at};
 
-use clause_parts::{Head, alias_of, next_word, walk_counted};
+use clause_parts::{Head, next_alias, next_any, next_flag, next_word, walk_counted};
 use clauses::{ClauseKind, MAX_DEPTH};
 use heads::MarkKind;
 use refusal::Refusal;
@@ -35,7 +35,7 @@ fn walk_marked(
     requires { Ready 0 context.now walk.old }
     ensures { Passes 0 context.now walk.old walk.new (marked_at context.now (mode_of mode) 0 0 (kind_of kind)) result }
 {
-    let n = next_word(walk, context, 0, 4294967296)?;
+    let n = next_any(walk, context)?;
     walk_marks(walk, context, MAX_DEPTH, kind, n, mode)
 }
 
@@ -69,7 +69,7 @@ fn walk_unwind(walk: &mut Walk, context: &Context, head: Head, mode: Mode) -> Re
     requires { ((mode_of mode).resolves ≡ true) × Ready 3 context.now walk.old }
     ensures { Passes 3 context.now walk.old walk.new (unwind_at context.now (mode_of mode) head.start head.end) result }
 {
-    let v = next_word(walk, context, 0, 4294967296)?;
+    let v = next_any(walk, context)?;
     bind_unwind(walk, context, head, v);
     walk_expr(
         walk,
@@ -85,10 +85,9 @@ fn walk_yield(walk: &mut Walk, context: &Context, head: Head) -> Result<(), Refu
     requires { Ready 0 context.now walk.old }
     ensures { Passes 0 context.now walk.old walk.new (yield_at context.now head.start head.end) result }
 {
-    let names = context.section.names as u64;
-    let x = next_word(walk, context, 0, names)?;
-    let alias = alias_of(next_word(walk, context, 0, names + 1)?);
-    let v = next_word(walk, context, 0, 4294967296)?;
+    let x = next_word(walk, context, 0, context.section.names as u64)?;
+    let alias = next_alias(walk, context)?;
+    let v = next_any(walk, context)?;
     let name = alias.unwrap_or(x);
     let kind = VarKind::Value as u32;
     walk.bind_anew(context, head.start, head.end, name, v, kind);
@@ -113,7 +112,7 @@ fn walk_call(walk: &mut Walk, context: &Context, head: Head, mode: Mode) -> Resu
 {
     walk.enter(context, ScopeKind::Call, head.start, head.end);
     walk_counted(walk, context, mode.unresolving())?;
-    let n = next_word(walk, context, 0, 4294967296)?;
+    let n = next_any(walk, context)?;
     walk_yields(walk, context, head, n)
 }
 
@@ -122,7 +121,7 @@ fn walk_match(walk: &mut Walk, context: &Context, head: Head, mode: Mode) -> Res
     requires { ((mode_of mode).resolves ≡ true) × Ready 3 context.now walk.old }
     ensures { Passes 3 context.now walk.old walk.new (match_at context.now (mode_of mode) head.start head.end) result }
 {
-    next_word(walk, context, 0, 2)?;
+    next_flag(walk, context)?;
     walk_opening(walk, context, head, ScopeKind::Match, mode)
 }
 
@@ -178,8 +177,8 @@ pub fn walk_clause(
     ensures kept { length held.new ≡ length held.old }
     ensures passes { Passes 0 context.now walk.old walk.new (clause_at context.now (mode_of mode)) result }
 {
-    let code = next_word(walk, context, 0, 4294967296)?;
-    let start = next_word(walk, context, 0, 4294967296)?;
+    let code = next_any(walk, context)?;
+    let start = next_any(walk, context)?;
     let end = next_word(walk, context, start, 4294967296)?;
     let kind = ClauseKind::try_from(code)?;
     let head = Head { kind, start, end };

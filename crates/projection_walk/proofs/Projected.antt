@@ -1,6 +1,6 @@
 -- Projections of a WITH, on the way to what it takes. A Var or a name is its use (`var-within`, `name-within`, paid by two words: `var-paid`,
 -- `name-paid`) and what it adds (`form-ready`, `form-holding`, `direct-passes`), any other expression is walked, and its alias is held
--- (`other-passes`), no head is refused (`form-refused`). The alias comes first (`first-as`, an Option: `alias-within`). A loop of them has
+-- (`other-passes`), no head is refused (`form-refused`). The alias comes first (`first-as`, a name: `alias-within`). A loop of them has
 -- carried the first ones: none (`begun`), one more (`turn`), or is refused at its `?` (`fall`), since all are the first ones and then the
 -- others (`split`).
 use Rattle.std.specs.Prelude.{Option, None, Some, Result, Ok, Err}
@@ -21,6 +21,7 @@ use Rattle.heads.specs.Form.{read_form}
 use Rattle.heads.specs.declared.Form.{Form}
 use Rattle.heads.specs.declared.Form.TheVariants.{Var, Unresolved}
 use Rattle.clauses.specs.Read.{alias_of}
+use Rattle.clauses.specs.Write.{alias_word}
 use Rattle.semantics.specs.World.{World, Direct, other}
 use Rattle.semantics.specs.Resolve.{carries, is_all, use_var}
 use Rattle.semantics.specs.Kinds.{general, at_row}
@@ -152,9 +153,9 @@ pub first-as : (w : World) (t : Tables) (m : Mode) (q : Taken) (s : Both) (r : L
 unfolding projections_go
 first-as w t m q s r = rw (add-one t.names)
 
-pub alias-within : (names a : ℕ) → a < names + 1 → Within names (alias_of a)
-alias-within names zero h = tt
-alias-within names (suc x) h = omega arith
+pub alias-within : (names : ℕ) (a : Option ℕ) → alias_word a < names + 1 → Within names a
+alias-within names None h = tt
+alias-within names (Some x) h = omega arith
 
 -- ---- a loop
 -- n projections are a, and then b

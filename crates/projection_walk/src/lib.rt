@@ -13,7 +13,7 @@ ghost use Rattle.clause_parts.specs.Passes.{Held};
 ghost use Rattle.projection_walk.specs.Pairs.{kept_of, KeptOther, KeepsOther};
 ghost use Rattle.projection_walk.specs.Carries.{Within, NoStar, Holding, Carries, Adds, DirectAs, var_use, carried_at, projections_at, filtered_at};
 
-use clause_parts::{alias_of, next_word};
+use clause_parts::{next_alias, next_any, next_flag};
 use clauses::MAX_DEPTH;
 use heads::Form;
 pub use pairs::Pairs;
@@ -138,8 +138,8 @@ fn walk_projection(
     requires { Held context.now pairs.old.words.now (mode_of mode) × (Holding 0 context.now walk.old pairs.old × Ready 0 context.now walk.old) }
     ensures { Carries 0 context.now walk.old pairs.old walk.new pairs.new (projections_at context.now (mode_of mode) 1) result }
 {
-    let word = next_word(walk, context, 0, context.section.names as u64 + 1)?;
-    walk_carried(walk, context, pairs, alias_of(word), mode)
+    let alias = next_alias(walk, context)?;
+    walk_carried(walk, context, pairs, alias, mode)
 }
 
 // n projections. A loop of its own: one over a closure would need a contract over every state that it leaves.
@@ -169,9 +169,9 @@ pub fn walk_filtered(
     requires { Held context.now pairs.old.words.now (mode_of mode) × (Holding 0 context.now walk.old pairs.old × Ready (kept_of pairs.old) context.now walk.old) }
     ensures { Carries 0 context.now walk.old pairs.old walk.new pairs.new (filtered_at context.now (mode_of mode)) result }
 {
-    let n = next_word(walk, context, 0, 4294967296)?;
+    let n = next_any(walk, context)?;
     walk_projections(walk, context, pairs, n, mode)?;
-    let filters = next_word(walk, context, 0, 2)?;
+    let filters = next_flag(walk, context)?;
     walk_row(
         walk,
         context,

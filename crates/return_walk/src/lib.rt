@@ -16,7 +16,7 @@ ghost use Rattle.return_walk.specs.Aliases.{aliases_of, InRange};
 mod aliases;
 
 use aliases::Aliases;
-use clause_parts::{Head, alias_of, next_word, walk_counted};
+use clause_parts::{Head, next_alias, next_any, walk_counted};
 use clauses::{ClauseKind, MAX_DEPTH};
 use refusal::Refusal;
 use scope::ScopeKind;
@@ -28,7 +28,7 @@ fn walk_output(walk: &mut Walk, context: &Context, mode: Mode) -> Result<(), Ref
     requires { Ready 0 context.now walk.old }
     ensures { Walked 48 context.now walk.old walk.new (output_at context.now (mode_of mode)) result }
 {
-    next_word(walk, context, 0, context.section.names as u64 + 1)?;
+    next_alias(walk, context)?;
     walk_expr(walk, context, MAX_DEPTH, mode, Setting::General)
 }
 
@@ -48,7 +48,7 @@ fn walk_returned(walk: &mut Walk, context: &Context, mode: Mode) -> Result<(), R
     requires { Ready 0 context.now walk.old }
     ensures { Walked 48 context.now walk.old walk.new (returned_at context.now (mode_of mode)) result }
 {
-    let n = next_word(walk, context, 0, 4294967296)?;
+    let n = next_any(walk, context)?;
     walk_outputs(walk, context, n, mode)
 }
 
@@ -87,14 +87,14 @@ fn walk_sorted(
     ensures kept { length held.new ≡ length held.old }
     ensures walked { Walked 48 context.now walk.old walk.new (sorted_at context.now (mode_of mode)) result }
 {
-    let n = next_word(walk, context, 0, 4294967296)?;
+    let n = next_any(walk, context)?;
     let mut aliases = Aliases {
         words: held,
         count: 0,
     };
     for _ in 0..n {
-        let word = next_word(walk, context, 0, context.section.names as u64 + 1)?;
-        aliases.hold(alias_of(word));
+        let alias = next_alias(walk, context)?;
+        aliases.hold(alias);
         walk_expr(walk, context, MAX_DEPTH, mode, Setting::General)?;
     }
     walk_hushed(walk, context, &aliases, marks, mode)

@@ -20,4 +20,4 @@ begun m a b h = start _ h (λ id s r. refl)
 
 pub returns : goal.returns
 returns c =
-    let a = c.args in last_one _ (omega arith) (past (begun (mode_of a.mode) a.head.start a.head.end c.requires.1) c.in_ok-next_word.ensures) c.walk_opening.ensures
+    let a = c.args in last_one _ (omega arith) (past (begun (mode_of a.mode) a.head.start a.head.end c.requires.1) c.in_ok-next_flag.ensures) c.walk_opening.ensures

@@ -26,25 +26,25 @@ pub returns-in_err-x : goal.returns-in_err-x
 returns-in_err-x c =
     let a = c.args in halted _ (begun a.head.start a.head.end c.requires) c.in_err-x.ensures c.from_residual.ensures
 
-pub returns-in_err-next_word : goal.returns-in_err-next_word
-returns-in_err-next_word c =
+pub returns-in_err-alias : goal.returns-in_err-alias
+returns-in_err-alias c =
     let a = c.args in
-    halted _ (past (begun a.head.start a.head.end c.requires) c.in_ok-x.ensures) c.in_err-next_word.ensures c.from_residual-in_err-next_word.ensures
+    halted _ (past (begun a.head.start a.head.end c.requires) c.in_ok-x.ensures) c.in_err-alias.ensures c.from_residual-in_err-alias.ensures
 
 pub returns-in_err-v : goal.returns-in_err-v
 returns-in_err-v c =
     let a = c.args in
-    halted _ (past (past (begun a.head.start a.head.end c.requires) c.in_ok-x.ensures) c.in_ok-next_word.ensures) c.in_err-v.ensures c.from_residual-in_err-v.ensures
+    halted _ (past (past (begun a.head.start a.head.end c.requires) c.in_ok-x.ensures) c.in_ok-alias.ensures) c.in_err-v.ensures c.from_residual-in_err-v.ensures
 
 pub bind_anew-requires : goal.bind_anew-requires
 bind_anew-requires c =
     let a = c.args in
-    let o = past (past (past (begun a.head.start a.head.end c.requires) c.in_ok-x.ensures) c.in_ok-next_word.ensures) c.in_ok-v.ensures in
+    let o = past (past (past (begun a.head.start a.head.end c.requires) c.in_ok-x.ensures) c.in_ok-alias.ensures) c.in_ok-v.ensures in
     let g = ready {i = 3} (omega arith) c.requires o in
-    (rw (yields c.in_ok-x.x c.in_ok-next_word.field-0 c.unwrap_or-name.ensures c.alias_of-alias.ensures) (yield-below _ _ _ _ g.fit.places (in_range c.in_ok-x.ensures).1 (in_range c.in_ok-next_word.ensures).1), g)
+    (rw (yields c.in_ok-x.x c.in_ok-alias.alias c.unwrap_or-name.ensures) (yield-below _ _ _ _ g.fit.places (in_range c.in_ok-x.ensures).1 (in_range c.in_ok-alias.ensures).1), g)
 
 pub returns : goal.returns
 returns c =
     let a = c.args in
-    let o = past (past (past (begun a.head.start a.head.end c.requires) c.in_ok-x.ensures) c.in_ok-next_word.ensures) c.in_ok-v.ensures in
-    passed (did (λ id u w. last (ok w)) 0 (omega arith) (omega arith) o (rw (yields c.in_ok-x.x c.in_ok-next_word.field-0 c.unwrap_or-name.ensures c.alias_of-alias.ensures) at c.bind_anew.ensures))
+    let o = past (past (past (begun a.head.start a.head.end c.requires) c.in_ok-x.ensures) c.in_ok-alias.ensures) c.in_ok-v.ensures in
+    passed (did (λ id u w. last (ok w)) 0 (omega arith) (omega arith) o (rw (yields c.in_ok-x.x c.in_ok-alias.alias c.unwrap_or-name.ensures) at c.bind_anew.ensures))

@@ -23,4 +23,4 @@ begun {c} m h = start _ h (λ id s r. rw (add-one (names_in c)))
 
 pub returns : goal.returns
 returns c =
-    tail _ (omega arith) (past (begun (mode_of c.args.mode) c.requires) c.in_ok-next_word.ensures) c.walk_expr.ensures
+    tail _ (omega arith) (past (begun (mode_of c.args.mode) c.requires) c.in_ok-next_alias.ensures) c.walk_expr.ensures

@@ -12,7 +12,7 @@ use Rattle.steps.specs.declared.Walk.{Walk}
 use Rattle.steps.specs.declared.context.Context.{Context}
 use Rattle.walk.proofs.Stage.{Stage, tail, start, ready}
 use Rattle.clause_parts.specs.Passes.{Next}
-use Rattle.clause_parts.proofs.Passing.{past}
+use Rattle.clause_parts.proofs.Passing.{past, alias-read}
 use Rattle.return_walk.specs.Returns.{keyed_at, sorted_at}
 use Rattle.return_walk.proofs.Sorted.{none_held, ended, no-alias, expr-ready, fell-expr, turned}
 use Rattle.return_walk.proofs.walk_sorted.Goals as goal
@@ -28,22 +28,22 @@ pub loop-init : goal.loop-init
 loop-init c =
     record { lent = refl; sorting = none_held (counted (mode_of c.args.mode) c.requires.1 c.in_ok-n.ensures) }
 
-pub returns-in_err-word-clause-walked : goal.returns-in_err-word-clause-walked
-returns-in_err-word-clause-walked c =
-    tail _ (omega arith) (past (begun (mode_of c.args.mode) c.requires.1) c.in_ok-n.ensures) (no-alias c.loop.invariant.sorting (omega arith) _ c.in_err-word.ensures c.from_residual-in_err-word.ensures)
+pub returns-in_err-alias-clause-walked : goal.returns-in_err-alias-clause-walked
+returns-in_err-alias-clause-walked c =
+    tail _ (omega arith) (past (begun (mode_of c.args.mode) c.requires.1) c.in_ok-n.ensures) (no-alias c.loop.invariant.sorting (omega arith) _ c.in_err-alias.ensures c.from_residual-in_err-alias.ensures)
 
 pub walk_expr-requires : goal.walk_expr-requires
 walk_expr-requires c =
-    (omega arith, expr-ready c.loop.invariant.sorting (omega arith) c.in_ok-word.ensures (counted (mode_of c.args.mode) c.requires.1 c.in_ok-n.ensures))
+    (omega arith, expr-ready c.loop.invariant.sorting (omega arith) c.in_ok-alias.ensures (counted (mode_of c.args.mode) c.requires.1 c.in_ok-n.ensures))
 
 pub returns-in_err-walk_expr-clause-walked : goal.returns-in_err-walk_expr-clause-walked
 returns-in_err-walk_expr-clause-walked c =
-    tail _ (omega arith) (past (begun (mode_of c.args.mode) c.requires.1) c.in_ok-n.ensures) (fell-expr c.loop.invariant.sorting (omega arith) c.in_ok-word.ensures _ c.in_err-walk_expr.ensures c.from_residual-in_err-walk_expr.ensures)
+    tail _ (omega arith) (past (begun (mode_of c.args.mode) c.requires.1) c.in_ok-n.ensures) (fell-expr c.loop.invariant.sorting (omega arith) c.in_ok-alias.ensures _ c.in_err-walk_expr.ensures c.from_residual-in_err-walk_expr.ensures)
 
 pub loop-preserved : goal.loop-preserved
 loop-preserved c = record {
   lent = c.hold.ensures.lent ∙ c.loop.invariant.lent;
-  sorting = turned c.loop.invariant.sorting (omega arith) c.in_ok-word.ensures (rw (← c.alias_of.ensures) c.hold.ensures.held) c.in_ok-walk_expr.ensures;
+  sorting = turned c.loop.invariant.sorting (omega arith) c.in_ok-alias.ensures (rw (alias-read c.in_ok-alias.alias) c.hold.ensures.held) c.in_ok-walk_expr.ensures;
 }
 
 pub returns-clause-walked : goal.returns-clause-walked
