@@ -65,10 +65,8 @@ impl Walk<'_> {
         requires { Binding self.now }
         ensures { result ≡ binds self.now.cur x (entries self.now.visible) }
     {
-        match self.visible.find(x) {
-            Some((_, scope)) => scope == self.cur,
-            None => false,
-        }
+        let cur = self.cur;
+        self.visible.find(x).is_some_and(|(_, scope)| scope == cur)
     }
 
     // A binding in the current scope is said, and counted unless it replaces another.

@@ -40,8 +40,7 @@ impl Context<'_> {
     pub fn is_hushed(&self, x: u32) -> bool
         ensures { result ≡ hushed_in self.now x }
     {
-        let i = x as usize;
-        i < self.hushed.len() && self.hushed[i] == 1
+        self.hushed.get(x as usize).is_some_and(|mark| *mark == 1)
     }
 
     // Whether nothing is written of a variable, whatever its row: its use is not wanted, and no kind is minded.
@@ -63,25 +62,25 @@ impl Context<'_> {
         ensures { pair_of result ≡ settings (λ x. is_the x self.now.ident) f (setting_of set) }
     {
         match f {
-            Form::Leaf(_) => Settings::all(Setting::General),
-            Form::Var(_) => Settings::all(Setting::General),
-            Form::Unresolved(_) => Settings::all(Setting::General),
             Form::Prop(x) => of_property(self.ident, x),
             Form::Two(k) => of_two(k),
             Form::Slice(_) => Settings::first(Setting::Sliced),
-            Form::Many(_, _) => Settings::all(Setting::General),
             Form::BinOp(o) => of_operator(o),
             Form::UnaryOp(_) => Settings::first(set.passed()),
-            Form::Case(_, _) => Settings::all(Setting::General),
-            Form::IsNull => Settings::all(Setting::General),
-            Form::PatternPredicate => Settings::all(Setting::General),
             Form::ListComprehension(_) => Settings::first(Setting::Iterated),
-            Form::PatternComprehension(_, _, _) => Settings::all(Setting::General),
             Form::ListPredicate(_) => Settings {
                 first: Setting::Quantified,
                 later: Setting::Boolean,
             },
             Form::MapProjection(_) => Settings::first(Setting::Property),
+            Form::Leaf(_)
+            | Form::Var(_)
+            | Form::Unresolved(_)
+            | Form::Many(_, _)
+            | Form::Case(_, _)
+            | Form::IsNull
+            | Form::PatternPredicate
+            | Form::PatternComprehension(_, _, _) => Settings::all(Setting::General),
         }
     }
 }
