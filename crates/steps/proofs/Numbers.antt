@@ -1,5 +1,5 @@
--- A kind and a type as a number of the code are the definition's numbers (`kind-number`, `type-number`), and a type's is not 0 (`some-type`). In a
--- setting that wants no list, a type and a kind may be minded by none (`minds-no-type`, `minds-no-kind`).
+-- A kind and a type as a number of the code are the definition's numbers (`kind-number`, `row-number`, `type-number`), and a type's is not 0
+-- (`some-type`). What a setting that wants no list minds of a type and of a kind (`minds-no-type`, `minds-no-kind`).
 use Rattle.std.specs.Prelude.{None, Some}
 use Prim.Native.Nat.{ℕ, ◌+◌}
 use borrow.Author.Tests.{ne_eqb}
@@ -9,7 +9,11 @@ use mathlib.Core.List.{[]}
 use lib.Dec.{eqb}
 use denote.Enum.Bare.{sameb}
 use denote.Enum.Declared.{tag_of}
+use Rattle.tables.specs.Kind as kinds
 use Rattle.tables.specs.Row.{row}
+use Rattle.tables.specs.contracts.kind.VarKind as kind
+use Rattle.tables.specs.declared.kind.VarKind.{VarKind}
+use Rattle.tables.specs.declared.kind.VarKind.TheVariants.{Node, Relationship, Path, Value}
 use Rattle.semantics.specs.Kinds.{at_type, at_row}
 use Rattle.steps.specs.Modes.{setting_of, list_code}
 use Rattle.steps.specs.contracts.mode.Setting.{the_type}
@@ -58,6 +62,12 @@ minds-no-kind Indexed i x k a b q v p = absurd (cc)
 minds-no-kind Sliced i x k a b q v p = absurd (cc)
 minds-no-kind Iterated i x k a b q v p = absurd (cc)
 minds-no-kind Quantified i x k a b q v p = absurd (cc)
+
+pub row-number : (k : VarKind) → kinds.number_of k ≡ tag_of kind.the_type k + 1
+row-number Node = refl
+row-number Relationship = refl
+row-number Path = refl
+row-number Value = refl
 
 pub type-number : (t : «Type») → types.number_of t ≡ tag_of type.the_type t + 1
 type-number Bool = refl
