@@ -15,7 +15,7 @@ ghost use Rattle.std.specs.Prelude.{◌≡◌};
 ghost use Rattle.steps.specs.Hold.{restarted};
 
 pub use bound::name_in;
-pub use context::Context;
+pub use context::{Context, operator_settings, property_settings};
 pub use head::leaf_type;
 pub use log::{Log, Sort};
 pub use mode::{Mode, Setting, Settings};
