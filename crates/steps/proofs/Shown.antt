@@ -2,7 +2,7 @@
 -- sought is visible (`unseen`, `once-seen`) and is not `*` (`spared`), and E2008 by it is
 -- the definition's (`misplaced-as`).
 use Rattle.std.specs.Prelude.{Option, None, Some, is_some}
-use Rattle.std.specs.Option.{option_eq}
+use Rattle.std.specs.Option.{option_eq, MatchOption}
 use borrow.Author.Tests.{eqb-true, eqb-false}
 use Rattle.steps.specs.Memory.{is_the}
 use Prim.Native.Nat.{ℕ, suc, ◌<◌, ◌≤◌}
@@ -17,7 +17,7 @@ use Rattle.semantics.specs.World.{row_name}
 use Rattle.semantics.specs.Kinds.{misplaced}
 use Rattle.fused.specs.Fused.{told, when}
 use Rattle.fused.specs.Fused.{is_some as has}
-use Rattle.visible.specs.Visible.{answer}
+use Rattle.visible.specs.Visible.{answer, is_of}
 use Rattle.rows.specs.Rows.{shown}
 use Rattle.steps.specs.Hold.{Ready, InRange, ShownTo, name_in, kind_in, misplaced_in}
 use Rattle.steps.specs.declared.Walk.{Walk}
@@ -35,6 +35,11 @@ unseen (Some v) p q e = let z : true ≡ false = rw q at e in cc
 pub once-seen : (o : Option ℕ) (p : ℕ) {r : Option (ℕ × ℕ)} → r ≡ answer o p → is_some r ≡ true → o ≡ None → ⊥
 once-seen None p q e n = let z : false ≡ true = rw q at e in absurd (cc)
 once-seen (Some v) p q e n = absurd (cc)
+
+-- whether a name that is visible is of that scope
+pub found-of : (o : Option ℕ) (p c : ℕ) {r : Bool} (P : ℕ × ℕ → Type 0) → ((v : ℕ) → P (v, p) → r ≡ eqb p c) → MatchOption (answer o p) (r ≡ false) P → r ≡ is_of c (answer o p)
+found-of None p c P f h = h
+found-of (Some v) p c P f h = f v h
 
 -- the test against the name `*`
 pub spared : (x : ℕ) (o : Option ℕ) {t : Bool} → t ≡ not (option_eq eqb o (Some x)) → is_the x o ≡ not t

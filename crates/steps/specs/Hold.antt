@@ -74,6 +74,20 @@ pub record Holds (id : ℕ → ℕ) (c : Context) (w : Walk) (s : Both) : Type 0
   pub counts : Counted w s.names.log
   pub uses : (x : ℕ) → x < names_in c → use_in c x ≡ id x
 
+-- a walk that begins anew at a word, with so many names
+abbrev pub restarted : (at names : ℕ) → Walk → Walk
+restarted at names w =
+    record w {
+      at = at;
+      visible = record w.visible { names = names; top = 0 };
+      cur = 0;
+      last = 0;
+      log = record w.log { said = 0; told = 0 };
+      known = true;
+      made = 0;
+      taken = 0;
+    }
+
 -- what waits at a level
 abbrev pub idle : Level
 idle = record { left = 0; later = General }

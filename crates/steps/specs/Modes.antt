@@ -1,5 +1,5 @@
 -- Modes and settings of the code in the definition's words.
-use Rattle.std.specs.Prelude.{Bool, true, false, cond, ◌&&◌}
+use Rattle.std.specs.Prelude.{ℕ, Bool, true, false, cond, ◌&&◌, Option, None, Some}
 use Rattle.semantics.specs.Log.{e5010, e5011}
 use Rattle.semantics.specs.Kinds as kinds
 use Rattle.semantics.specs.Kinds.{general, arithmetic, property, boolean, listed, both}
@@ -21,6 +21,17 @@ setting_of Indexed = listed e5010 1
 setting_of Sliced = listed e5010 2
 setting_of Iterated = listed e5010 3
 setting_of Quantified = listed e5011 0
+
+-- the code and the detail of the finding where a list is wanted
+abbrev pub list_code : Setting → Option (ℕ × ℕ)
+list_code General = None
+list_code Arithmetic = None
+list_code Property = None
+list_code Boolean = None
+list_code Indexed = Some (e5010, 1)
+list_code Sliced = Some (e5010, 2)
+list_code Iterated = Some (e5010, 3)
+list_code Quantified = Some (e5011, 0)
 
 abbrev pub pair_of : Settings → kinds.Pair
 pair_of s = both (setting_of s.first) (setting_of s.later)

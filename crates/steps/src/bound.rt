@@ -1,7 +1,8 @@
-// What is said, scopes that are opened and left, names that are bound. The kind of a binding is a number: an element's is one of the tree, which
-// may be any. A finding's code is a number, since that is its name in document 01.
+// What is said, scopes that are opened and left, names that are bound. The kind of a binding is a number where an element's may be meant: that is
+// one of the tree, which may be any. A finding's code is a number, since that is its name in document 01.
 ghost use Rattle.std.specs.Prelude.{◌≡◌, [], ◌∷◌, suc, ◌<◌, ◌≤◌, Some};
 ghost use Rattle.scope.specs.Kind.{number_of};
+ghost use Rattle.tables.specs.Kind as kinds;
 ghost use Rattle.tables.specs.Row.{path_kind};
 ghost use Rattle.semantics.specs.Resolve.{lookup, enter, bind_anew, bind_new, binds};
 ghost use Rattle.fused.specs.Fused.{noting, elem_step, when};
@@ -65,10 +66,8 @@ impl Walk<'_> {
         requires { Binding self.now }
         ensures { result ≡ binds self.now.cur x (entries self.now.visible) }
     {
-        match self.visible.find(x) {
-            Some((_, scope)) => scope == self.cur,
-            None => false,
-        }
+        let cur = self.cur;
+        self.visible.find(x).is_some_and(|(_, scope)| scope == cur)
     }
 
     // A binding in the current scope is said, and counted unless it replaces another.
@@ -86,11 +85,19 @@ impl Walk<'_> {
     }
 
     // A name is bound, with E1002 where its scope binds it already.
-    pub fn bind_anew(&mut self, context: &Context, start: u32, end: u32, x: u32, v: u32, kind: u32)
+    pub fn bind_anew(
+        &mut self,
+        context: &Context,
+        start: u32,
+        end: u32,
+        x: u32,
+        v: u32,
+        kind: VarKind,
+    )
         requires { (x < self.old.visible.names) × Ready 3 context.now self.old }
-        ensures { Costs 2 3 context.now self.old self.new (λ id. on_names (bind_anew (world_at context.now id) start end x v kind)) }
+        ensures { Costs 2 3 context.now self.old self.new (λ id. on_names (bind_anew (world_at context.now id) start end x v (kinds.number_of kind))) }
     {
-        let again = self.bind_name(context, x, v, kind);
+        let again = self.bind_name(context, x, v, kind as u32);
         if again && context.warns {
             self.log.say([1002, start, end, x + 1, 0, 0]);
         }
@@ -109,7 +116,8 @@ impl Walk<'_> {
         r
     }
 
-    // E2008, where kinds are checked, for a binder whose row has another kind than its place wants.
+    // E2008, where kinds are checked, for a binder whose row has another kind than its place wants. The detail one doesn't follow from the kind that
+    // is wanted: an element's may be any, also a path's.
     fn misplace(
         &mut self,
         mode: Mode,
@@ -135,7 +143,7 @@ impl Walk<'_> {
         ensures { Costs 2 3 context.now self.old self.new (λ id. on_names (when (mode_of mode).resolves (bind_anew (world_at context.now id) 0 0 x v path_kind))) }
     {
         if mode.resolves {
-            self.bind_anew(context, 0, 0, x, v, VarKind::Path as u32);
+            self.bind_anew(context, 0, 0, x, v, VarKind::Path);
         }
     }
 

@@ -40,8 +40,7 @@ impl Context<'_> {
     pub fn is_hushed(&self, x: u32) -> bool
         ensures { result ≡ hushed_in self.now x }
     {
-        let i = x as usize;
-        i < self.hushed.len() && self.hushed[i] == 1
+        self.hushed.get(x as usize).is_some_and(|mark| *mark == 1)
     }
 
     // Whether nothing is written of a variable, whatever its row: its use is not wanted, and no kind is minded.
@@ -63,31 +62,31 @@ impl Context<'_> {
         ensures { pair_of result ≡ settings (λ x. is_the x self.now.ident) f (setting_of set) }
     {
         match f {
-            Form::Leaf(_) => Settings::all(Setting::General),
-            Form::Var(_) => Settings::all(Setting::General),
-            Form::Unresolved(_) => Settings::all(Setting::General),
-            Form::Prop(x) => of_property(self.ident, x),
-            Form::Two(k) => of_two(k),
+            Form::Prop(x) => property_settings(self.ident, x),
+            Form::Two(k) => two_settings(k),
             Form::Slice(_) => Settings::first(Setting::Sliced),
-            Form::Many(_, _) => Settings::all(Setting::General),
-            Form::BinOp(o) => of_operator(o),
+            Form::BinOp(o) => operator_settings(o),
             Form::UnaryOp(_) => Settings::first(set.passed()),
-            Form::Case(_, _) => Settings::all(Setting::General),
-            Form::IsNull => Settings::all(Setting::General),
-            Form::PatternPredicate => Settings::all(Setting::General),
             Form::ListComprehension(_) => Settings::first(Setting::Iterated),
-            Form::PatternComprehension(_, _, _) => Settings::all(Setting::General),
             Form::ListPredicate(_) => Settings {
                 first: Setting::Quantified,
                 later: Setting::Boolean,
             },
             Form::MapProjection(_) => Settings::first(Setting::Property),
+            Form::Leaf(_)
+            | Form::Var(_)
+            | Form::Unresolved(_)
+            | Form::Many(_, _)
+            | Form::Case(_, _)
+            | Form::IsNull
+            | Form::PatternPredicate
+            | Form::PatternComprehension(_, _, _) => Settings::all(Setting::General),
         }
     }
 }
 
 // "Prop other than `id`"
-fn of_property(ident: Option<u32>, x: u32) -> Settings
+pub fn property_settings(ident: Option<u32>, x: u32) -> Settings
     ensures { pair_of result ≡ both (cond (is_the x ident) general property) general }
 {
     if ident == Some(x) {
@@ -97,7 +96,7 @@ fn of_property(ident: Option<u32>, x: u32) -> Settings
 }
 
 // An Index wants a list, an InList nothing.
-fn of_two(k: u32) -> Settings
+fn two_settings(k: u32) -> Settings
     ensures { pair_of result ≡ both (cond (eqb k 10) (listed e5010 1) general) general }
 {
     if k == 10 {
@@ -108,13 +107,11 @@ fn of_two(k: u32) -> Settings
 
 // "Operators 0 to 5 and 8 to 11 set arithmetic"
 #[tactic(auto, using(std::proofs::lemmas::Bool::Decides::nat_tests), unfolding(semantics::specs::Kinds::is_arithmetic))]
-fn of_operator(o: u32) -> Settings
+pub fn operator_settings(o: u32) -> Settings
     ensures { pair_of result ≡ both (cond (is_arithmetic o) arithmetic general) (cond (is_arithmetic o) arithmetic general) }
 {
     match o {
-        0..6 => Settings::all(Setting::Arithmetic),
-        6..8 => Settings::all(Setting::General),
-        8..12 => Settings::all(Setting::Arithmetic),
+        0..6 | 8..12 => Settings::all(Setting::Arithmetic),
         _ => Settings::all(Setting::General),
     }
 }

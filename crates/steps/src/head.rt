@@ -46,23 +46,10 @@ fn act_of(f: Form) -> Act
         Form::Leaf(k) => Act::Shows(leaf_type(k)),
         Form::Var(v) => Act::Uses(v),
         Form::Unresolved(x) => Act::Names(x),
-        Form::Prop(_) => Act::Shows(None),
-        Form::Two(_) => Act::Shows(None),
-        Form::Slice(_) => Act::Shows(None),
-        Form::Many(k, _) => if k == 13 {
-            Act::Shows(Some(Type::Map))
-        } else {
-            Act::Shows(None)
-        },
-        Form::BinOp(_) => Act::Shows(None),
-        Form::UnaryOp(_) => Act::Shows(None),
-        Form::Case(_, _) => Act::Shows(None),
-        Form::IsNull => Act::Shows(None),
+        Form::Many(13, _) => Act::Shows(Some(Type::Map)),
         Form::PatternPredicate => Act::Shows(Some(Type::Pattern)),
-        Form::ListComprehension(_) => Act::Shows(None),
         Form::PatternComprehension(a, b, _) => Act::Opens(a, b),
-        Form::ListPredicate(_) => Act::Shows(None),
-        Form::MapProjection(_) => Act::Shows(None),
+        _ => Act::Shows(None),
     }
 }
 
@@ -160,14 +147,8 @@ impl Walk<'_> {
         ensures { Closed self.old self.new top cur (mode_of mode) f }
     {
         match act_of(f) {
-            Act::Shows(_) => {}
-            Act::Uses(_) => {}
-            Act::Names(_) => {}
-            Act::Opens(_, _) => {
-                if mode.resolves {
-                    self.leave(top, cur);
-                }
-            }
+            Act::Opens(_, _) if mode.resolves => self.leave(top, cur),
+            _ => {}
         }
     }
 }

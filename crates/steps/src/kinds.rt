@@ -28,15 +28,10 @@ impl Walk<'_> {
         requires { Ready 1 context.now self.old }
         ensures { Steps 1 context.now self.old self.new (λ id. on_kinds (at_type (setting_of set) (type_number t))) }
     {
-        match set {
-            Setting::General => {}
-            Setting::Arithmetic => {}
-            Setting::Property => {}
-            Setting::Boolean => self.want_bool(context, t),
-            Setting::Indexed => self.want_list(context, 5010, 1, t),
-            Setting::Sliced => self.want_list(context, 5010, 2, t),
-            Setting::Iterated => self.want_list(context, 5010, 3, t),
-            Setting::Quantified => self.want_list(context, 5011, 0, t),
+        if let Some((code, one)) = set.list_code() {
+            self.want_list(context, code, one, t);
+        } else if set == Setting::Boolean {
+            self.want_bool(context, t);
         }
     }
 
@@ -76,23 +71,12 @@ impl Walk<'_> {
         requires { (x < 4294967295) × ((k ≤ 4) × Ready 1 context.now self.old) }
         ensures { AtRow context.now self.old self.new set x k }
     {
-        match set {
-            Setting::General => {}
-            Setting::Arithmetic => {
-                if k != VarKind::Value as u32 {
-                    self.mistype(context, x, 1, k);
-                }
-            }
-            Setting::Property => {
-                if k == VarKind::Path as u32 {
-                    self.mistype(context, x, 2, k);
-                }
-            }
-            Setting::Boolean => {}
-            Setting::Indexed => self.want_kind(context, 5010, 1, k),
-            Setting::Sliced => self.want_kind(context, 5010, 2, k),
-            Setting::Iterated => self.want_kind(context, 5010, 3, k),
-            Setting::Quantified => self.want_kind(context, 5011, 0, k),
+        if let Some((code, one)) = set.list_code() {
+            self.want_kind(context, code, one, k);
+        } else if set == Setting::Arithmetic && k != VarKind::Value as u32 {
+            self.mistype(context, x, 1, k);
+        } else if set == Setting::Property && k == VarKind::Path as u32 {
+            self.mistype(context, x, 2, k);
         }
     }
 

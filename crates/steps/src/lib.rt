@@ -1,5 +1,7 @@
 // The steps of both walks: what is said and told, what is opened, bound and left, and what the head of an expression does before its parts.
-// They go by a context, and the walk has where it stands. Room is paid for by the words that were read (specs/Hold).
+// They go by a context, and the walk has where it stands: two structs, since one walk goes by several contexts. Room is paid for by the words that
+// were read (specs/Hold): it is a fact between the two and falls with each word that is said, so it is no ghost field of either, and each contract
+// asks for it (Ready, Roomy). A span is two parameters, its start and its end: two words that are read, compared and said each for itself.
 #![tactic(auto)]
 
 mod bound;
@@ -10,9 +12,10 @@ mod log;
 mod mode;
 
 ghost use Rattle.std.specs.Prelude.{◌≡◌};
+ghost use Rattle.steps.specs.Hold.{restarted};
 
 pub use bound::name_in;
-pub use context::Context;
+pub use context::{Context, operator_settings, property_settings};
 pub use head::leaf_type;
 pub use log::{Log, Sort};
 pub use mode::{Mode, Setting, Settings};
@@ -68,5 +71,23 @@ impl<'a> Walk<'a> {
                 later: Setting::General,
             }; 49],
         }
+    }
+}
+
+impl Walk<'_> {
+    // The walk begins anew at a word, with so many names: all its numbers are as `new` has them, but what waits at the levels.
+    pub fn restart(&mut self, at: usize, names: u32)
+        ensures { self.new ≡ restarted at names self.old }
+    {
+        self.at = at;
+        self.visible.names = names;
+        self.visible.top = 0;
+        self.cur = 0;
+        self.last = 0;
+        self.log.said = 0;
+        self.log.told = 0;
+        self.known = true;
+        self.made = 0;
+        self.taken = 0;
     }
 }

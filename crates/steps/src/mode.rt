@@ -1,7 +1,7 @@
 // Which of the walks look at a place, and what is wanted of an expression there.
 ghost use Rattle.std.specs.Prelude.{◌≡◌};
 ghost use Rattle.semantics.specs.Kinds.{general, passes, both};
-ghost use Rattle.steps.specs.Modes.{mode_of, setting_of, pair_of};
+ghost use Rattle.steps.specs.Modes.{mode_of, setting_of, pair_of, list_code};
 ghost use Rattle.fused.specs.Fused.{unresolving};
 
 // Names are resolved, kinds are checked.
@@ -60,14 +60,21 @@ impl Setting {
         ensures { setting_of result ≡ passes (setting_of self) }
     {
         match self {
-            Setting::General => Setting::General,
-            Setting::Arithmetic => Setting::Arithmetic,
-            Setting::Property => Setting::Property,
-            Setting::Boolean => Setting::General,
-            Setting::Indexed => Setting::General,
-            Setting::Sliced => Setting::General,
-            Setting::Iterated => Setting::General,
-            Setting::Quantified => Setting::General,
+            Setting::Arithmetic | Setting::Property => self,
+            _ => Setting::General,
+        }
+    }
+
+    // The code and the detail of the finding where a list is wanted, in the settings that want one.
+    pub fn list_code(self) -> Option<(u32, u32)>
+        ensures { result ≡ list_code self }
+    {
+        match self {
+            Setting::Indexed => Some((5010, 1)),
+            Setting::Sliced => Some((5010, 2)),
+            Setting::Iterated => Some((5010, 3)),
+            Setting::Quantified => Some((5011, 0)),
+            _ => None,
         }
     }
 }

@@ -1,20 +1,9 @@
--- Three settings mind no type.
-use mathlib.Core.Path.{refl}
-use Rattle.semantics.specs.Kinds.{at_type}
+-- Where nothing is minded, nothing is told (`minds-no-type`).
+use mathlib.Core.Path.{sym, ◌∙◌}
 use Rattle.steps.proofs.Heads.{none_told}
+use Rattle.steps.proofs.Numbers.{minds-no-type}
 use Rattle.steps.proofs.Walk.at_type.Goals as goal
 
-pub returns-in-General : goal.returns-in-General
-unfolding at_type
-returns-in-General c =
-    rw c.in-General.is (none_told refl)
-
-pub returns-in-Arithmetic : goal.returns-in-Arithmetic
-unfolding at_type
-returns-in-Arithmetic c =
-    rw c.in-Arithmetic.is (none_told refl)
-
-pub returns-in-Property : goal.returns-in-Property
-unfolding at_type
-returns-in-Property c =
-    rw c.in-Property.is (none_told refl)
+pub returns-else-eq : goal.returns-else-eq
+returns-else-eq c =
+    none_told (minds-no-type c.args.set _ (sym c.list_code.ensures ∙ c.in_default.is) (sym c.eq.ensures ∙ c.if-eq.false))

@@ -1,5 +1,6 @@
 -- The name is bound, and E1002 follows where the scope binds it already and warnings are on (`anew`, `anew-not`, `anew-no`).
 use native.Mathlib.Omega.{arith}
+use Rattle.steps.proofs.Numbers.{row-number}
 use Rattle.steps.proofs.Placed.{anew, anew-not, anew-no}
 use Rattle.steps.proofs.Held.{more-costs, roomy-in}
 use Rattle.steps.proofs.Walk.bind_anew.Goals.{else-again-via-then-again+else-context, else-again-via-else-again}
@@ -11,10 +12,11 @@ say-requires c =
 
 pub returns-then-context : goal.returns-then-context
 returns-then-context c =
-    anew _ _ c.bind_name-again.ensures c.if-again.true c.if-context.true c.say.ensures
+    rw (row-number c.args.kind) (anew _ _ c.bind_name-again.ensures c.if-again.true c.if-context.true c.say.ensures)
 
 pub returns-else-again : goal.returns-else-again
 returns-else-again c =
     let y = c.bind_name-again.ensures in
-    more-costs (omega arith) (omega arith)
-    (elim c.else-again.branch [ else-again-via-then-again+else-context w ↦ anew-not _ _ y (rw w.if-context.false) | else-again-via-else-again w ↦ anew-no _ _ y w.if-again.false ])
+    rw (row-number c.args.kind)
+    (more-costs (omega arith) (omega arith)
+    (elim c.else-again.branch [ else-again-via-then-again+else-context w ↦ anew-not _ _ y (rw w.if-context.false) | else-again-via-else-again w ↦ anew-no _ _ y w.if-again.false ]))
