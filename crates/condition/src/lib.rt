@@ -21,40 +21,124 @@ pub const NOT_LEVEL: usize = 3;
 
 pub const COMPARISON: usize = 4;
 
-// By operator, its level. These are tables, and no enum's methods: an operator goes by its number. Past the last one a level is 0 and a sign
-// empty.
-const LEVELS: [usize; 20] = [6, 6, 7, 7, 7, 8, 4, 4, 4, 4, 4, 4, 2, 0, 1, 5, 5, 5, 5, 6];
+// What there is to say of a binary operator: its level, the least level of a bare left operand, and its sign with its blanks.
+#[derive(Clone, Copy)]
+struct Operator {
+    level: usize,
+    left: usize,
+    sign: &'static [u8],
+}
 
-const LEFT_LEVELS: [usize; 20] = [6, 6, 7, 7, 7, 8, 5, 5, 5, 5, 5, 5, 2, 0, 1, 5, 5, 5, 5, 6];
-
-const SIGNS: [&[u8]; 20] = [
-    b" + ",
-    b" - ",
-    b" * ",
-    b" / ",
-    b" % ",
-    b" ^ ",
-    b" = ",
-    b" <> ",
-    b" < ",
-    b" <= ",
-    b" > ",
-    b" >= ",
-    b" AND ",
-    b" OR ",
-    b" XOR ",
-    b" STARTS WITH ",
-    b" ENDS WITH ",
-    b" CONTAINS ",
-    b" =~ ",
-    b" || ",
+// By its number. This is a table, and no enum: an operator goes by its number in a sheet's words and in a reader's list. Past the last one a
+// level is 0 and a sign empty.
+const OPERATORS: [Operator; 20] = [
+    Operator {
+        level: 6,
+        left: 6,
+        sign: b" + ",
+    },
+    Operator {
+        level: 6,
+        left: 6,
+        sign: b" - ",
+    },
+    Operator {
+        level: 7,
+        left: 7,
+        sign: b" * ",
+    },
+    Operator {
+        level: 7,
+        left: 7,
+        sign: b" / ",
+    },
+    Operator {
+        level: 7,
+        left: 7,
+        sign: b" % ",
+    },
+    Operator {
+        level: 8,
+        left: 8,
+        sign: b" ^ ",
+    },
+    Operator {
+        level: 4,
+        left: 5,
+        sign: b" = ",
+    },
+    Operator {
+        level: 4,
+        left: 5,
+        sign: b" <> ",
+    },
+    Operator {
+        level: 4,
+        left: 5,
+        sign: b" < ",
+    },
+    Operator {
+        level: 4,
+        left: 5,
+        sign: b" <= ",
+    },
+    Operator {
+        level: 4,
+        left: 5,
+        sign: b" > ",
+    },
+    Operator {
+        level: 4,
+        left: 5,
+        sign: b" >= ",
+    },
+    Operator {
+        level: 2,
+        left: 2,
+        sign: b" AND ",
+    },
+    Operator {
+        level: 0,
+        left: 0,
+        sign: b" OR ",
+    },
+    Operator {
+        level: 1,
+        left: 1,
+        sign: b" XOR ",
+    },
+    Operator {
+        level: 5,
+        left: 5,
+        sign: b" STARTS WITH ",
+    },
+    Operator {
+        level: 5,
+        left: 5,
+        sign: b" ENDS WITH ",
+    },
+    Operator {
+        level: 5,
+        left: 5,
+        sign: b" CONTAINS ",
+    },
+    Operator {
+        level: 5,
+        left: 5,
+        sign: b" =~ ",
+    },
+    Operator {
+        level: 6,
+        left: 6,
+        sign: b" || ",
+    },
 ];
 
 // The level of a binary operator, and of a unary one.
 pub fn binary_level(operator: usize) -> usize
     ensures { result ≡ binary_level operator }
 {
-    LEVELS.get(operator).copied().unwrap_or(0)
+    OPERATORS.get(operator).map_or(0, |o| o.level)
 }
 
 pub fn unary_level(operator: usize) -> usize
@@ -71,14 +155,14 @@ pub fn unary_level(operator: usize) -> usize
 pub fn left_level(operator: usize) -> usize
     ensures { result ≡ left_level operator }
 {
-    LEFT_LEVELS.get(operator).copied().unwrap_or(0)
+    OPERATORS.get(operator).map_or(0, |o| o.left)
 }
 
 // The sign of a binary operator with its blanks, and of a unary one.
 pub fn binary_sign(operator: usize) -> &'static [u8]
     ensures { result.now ≡ binary_sign operator }
 {
-    SIGNS.get(operator).copied().unwrap_or(b"")
+    OPERATORS.get(operator).map_or(b"", |o| o.sign)
 }
 
 pub fn unary_sign(operator: usize) -> &'static [u8]

@@ -21,9 +21,11 @@ begins-at : (w : ℕ) → begins (last_of w) ≡ w % 32
 begins-at zero = refl
 begins-at (suc w) = omega arith
 
-pub starts : (ws : List ℕ) → Round ws ws (get_or ws 576 0 % 32) 0
+pub starts : (ws : List ℕ) → Round ws ws ((get_or ws 576 0 % 32 + 0) % 32) 0
 unfolding take
-starts ws = record { kept = refl; below = omega arith; most = omega arith; same = rw (begins-at (get_or ws 576 0)) refl }
+starts ws =
+    let same : (get_or ws 576 0 % 32 + 0) % 32 ≡ get_or ws 576 0 % 32 = omega arith in
+    record { kept = refl; below = omega arith; most = omega arith; same = rw (begins-at (get_or ws 576 0), same) refl }
 
 module _ (ws us : List ℕ) (q steps : ℕ) (r : Round ws us q steps) where
   -- the queue q is looked at
@@ -33,13 +35,13 @@ module _ (ws us : List ℕ) (q steps : ℕ) (r : Round ws us q steps) where
       let n : 32 - steps ≡ suc (32 - (steps + 1)) = omega arith in
       r.same ∙ rw (n, queue-at ws q r.below, add-one steps) refl
 
-  pub passes : steps < 32 → get_or us (544 + q) 0 ≡ 0 → Round ws us ((q + 1) % 32) (steps + 1)
+  pub passes : (next : ℕ) → next ≡ (q + 1) % 32 → steps < 32 → get_or us (544 + q) 0 ≡ 0 → Round ws us next (steps + 1)
   unfolding items_from
-  passes l e = record {
+  passes next n l e = record {
     kept = r.kept;
     below = omega arith;
     most = omega arith;
-    same = looked l ∙ rw (rw r.kept at e) refl;
+    same = looked l ∙ rw (rw r.kept at e, n) refl;
   }
 
   pub stops : (after : List ℕ) (item : ℕ) → steps < 32 → Serves q us after item → Takes ws after (taken_one q item (steps + 1))

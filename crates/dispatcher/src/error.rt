@@ -5,21 +5,18 @@ ghost use Rattle.dispatcher.specs.ErrorNumber.{number_of};
 use std::error::Error;
 use std::fmt;
 
-// There is no such queue, or it is full.
+// There is no such queue, or it is full: each by its number.
 #[derive(Clone, Copy, Debug, PartialEq, Eq)]
 pub enum AddError {
-    NoQueue,
-    Full,
+    NoQueue = 13,
+    Full = 14,
 }
 
 impl From<AddError> for u32 {
     ghost from_gives = { λ cause n. n ≡ number_of cause };
 
     fn from(cause: AddError) -> u32 {
-        match cause {
-            AddError::NoQueue => 13,
-            AddError::Full => 14,
-        }
+        cause as u32
     }
 }
 

@@ -70,8 +70,9 @@ fn serve(words: &mut [u32; 577], q: usize) -> u32
 pub fn take(words: &mut [u32; 577]) -> Taken
     ensures { Takes words.old words.new result }
 {
-    let mut queue = words[LAST] % 32;
+    let first = words[LAST] % 32;
     for passed in 0..32 {
+        let queue = (first + passed) % 32;
         if 0 < words[COUNTS + queue as usize] {
             let item = serve(words, queue as usize);
             return Taken {
@@ -79,7 +80,6 @@ pub fn take(words: &mut [u32; 577]) -> Taken
                 steps: passed + 1,
             };
         }
-        queue = (queue + 1) % 32;
     }
     Taken {
         served: None,

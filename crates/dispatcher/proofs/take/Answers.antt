@@ -12,7 +12,7 @@ returns-then-words-queue-gt0 c =
 
 pub loop-passed-preserved : goal.loop-passed-preserved
 loop-passed-preserved c =
-    passes _ _ _ _ c.loop-passed.invariant (omega arith) (omega arith)
+    passes _ _ _ _ c.loop-passed.invariant _ (omega arith) (omega arith) (omega arith)
 
 pub returns : goal.returns
 returns c =
