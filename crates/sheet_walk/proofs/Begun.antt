@@ -1,5 +1,5 @@
--- Where both walks begin, whatever they held before: they stand at the head with nothing visible and nothing said (`stood`), and the Root is
--- said where it is wanted (`begins`).
+-- Where both walks begin, whatever they held before: they stand at the head with nothing visible and nothing said, and the Root is said
+-- where it is wanted (`begins`).
 use Prim.Native.Nat.{ℕ, ◌+◌, ◌<◌, ◌≤◌}
 use native.Mathlib.Omega.{arith}
 use mathlib.Core.Path.{◌≡◌, refl, sym}
@@ -13,7 +13,7 @@ use Rattle.fused.specs.Fused.{Both}
 use Rattle.visible.specs.Visible.{Descends}
 use Rattle.visible.proofs.Names.{empty, seens-none}
 use Rattle.steps.specs.Said.{events, findings, kept, Roomy}
-use Rattle.steps.specs.Hold.{Fits, Holds, SaysIf}
+use Rattle.steps.specs.Hold.{Fits, Holds, SaysIf, restarted}
 use Rattle.steps.specs.declared.Walk.{Walk}
 use Rattle.steps.specs.declared.context.Context.{Context}
 use Rattle.steps.proofs.Held.{no-count, says_if}
@@ -29,26 +29,12 @@ unfolding kept written
 kept-none true = refl
 kept-none false = refl
 
--- at the head, with a place for so many names
-abbrev pub stood : Places → ℕ → Walk → Walk
-stood p slots w =
-    record w {
-      at = p.head;
-      visible = record w.visible { names = slots; top = 0 };
-      cur = 0;
-      last = 0;
-      log = record w.log { said = 0; told = 0 };
-      known = true;
-      made = 0;
-      taken = 0;
-    }
-
 module _ {p : Places} {c : Context} {w : Walk} (b : Beginning p c w) where
-  pub begin-roomy : (slots : ℕ) → Roomy (stood p slots w).log
+  pub begin-roomy : (slots : ℕ) → Roomy (restarted p.head slots w).log
   begin-roomy slots = record { small = omega arith; room = omega (arith, b.room, b.set.places.trailer, length-words c.section.bytes.now) }
 
   module _ {slots : ℕ} (some : 0 < slots) (places : p.names ≤ slots) (few : slots ≤ p.names + 1) where
-    fits : (c' : Context) → CutTo p.tail c c' → Fits 1 0 c' (stood p slots w)
+    fits : (c' : Context) → CutTo p.tail c c' → Fits 1 0 c' (restarted p.head slots w)
     unfolding Descends
     fits c' k =
         let l = cut-long k (tail-long b.set) in
@@ -70,7 +56,7 @@ module _ {p : Places} {c : Context} {w : Walk} (b : Beginning p c w) where
           room = omega (arith, b.room, l, h.tail, h.trailer, length-words c.section.bytes.now);
         }
 
-    holds : (id : ℕ → ℕ) → Uses c id → Holds id c (stood p slots w) nothing
+    holds : (id : ℕ → ℕ) → Uses c id → Holds id c (restarted p.head slots w) nothing
     unfolding events findings made carried_in
     holds id uses =
         record {
@@ -84,7 +70,7 @@ module _ {p : Places} {c : Context} {w : Walk} (b : Beginning p c w) where
           uses = uses;
         }
 
-    pub begins : {w' : Walk} → SaysIf c.wants (1 ∷ 1 ∷ 0 ∷ p.start ∷ p.end ∷ 0 ∷ []) (stood p slots w) w' → Begins p c w w'
+    pub begins : {w' : Walk} → SaysIf c.wants (1 ∷ 1 ∷ 0 ∷ p.start ∷ p.end ∷ 0 ∷ []) (restarted p.head slots w) w' → Begins p c w w'
     begins {w'} x =
         let here = says_if {c = c} x (λ id l. refl) (λ id l. refl) (λ id. no-count (λ n. refl) (λ n. refl)) in
         record {
@@ -92,7 +78,7 @@ module _ {p : Places} {c : Context} {w : Walk} (b : Beginning p c w) where
           stands = record {
             at = here.at;
             fit = λ c' k.
-                let y : SaysIf c'.wants (1 ∷ 1 ∷ 0 ∷ p.start ∷ p.end ∷ 0 ∷ []) (stood p slots w) w' = rw k.wants x in
+                let y : SaysIf c'.wants (1 ∷ 1 ∷ 0 ∷ p.start ∷ p.end ∷ 0 ∷ []) (restarted p.head slots w) w' = rw k.wants x in
                 (says_if {c = c'} y (λ id l. refl) (λ id l. refl) (λ id. no-count (λ n. refl) (λ n. refl))).fit 0 0 (fits c' k);
           };
           holds = λ id u. here.goes id nothing (holds id u);

@@ -48,10 +48,7 @@ fn hang(s: &[u8], chains: &mut [u32], rows: usize, n: u32) -> Option<Index>
         mult: multiplier(n, |row| word(s, rows + row as usize * 5)),
         shift: shift_for(n),
     };
-    if index.hang_rows(s, chains) {
-        return Some(index);
-    }
-    None
+    index.hang_rows(s, chains).then_some(index)
 }
 
 // The bindings: read, and hung up.

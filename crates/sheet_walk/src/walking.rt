@@ -29,16 +29,7 @@ fn begin(walk: &mut Walk, context: &Context, p: Places)
     requires { Beginning p context.now walk.old }
     ensures { Begins p context.now walk.old walk.new }
 {
-    walk.at = p.head;
-    walk.visible.names = p.names.max(1);
-    walk.visible.top = 0;
-    walk.cur = 0;
-    walk.last = 0;
-    walk.log.said = 0;
-    walk.log.told = 0;
-    walk.known = true;
-    walk.made = 0;
-    walk.taken = 0;
+    walk.restart(p.head, p.names.max(1));
     let root = [
         Sort::Scope as u32,
         ScopeKind::Root as u32,
