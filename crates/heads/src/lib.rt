@@ -47,7 +47,7 @@ pub struct Part {
 }
 
 // An element of a pattern: 1 Node or 2 Rel, its span, its variable, and 1 where a property expression follows. Kind and property stay
-// numbers, since they are those of the definition's tree, in which any number may stand.
+// numbers: contracts use it as the definition's tree itself, in which any number may stand.
 #[derive(Clone, Copy)]
 pub struct Elem {
     pub kind: u32,
@@ -67,7 +67,8 @@ pub struct Section<'a> {
     pub bound: Option<usize>,
 }
 
-// By code: 1 where no word follows, 2 where one does, 3 Case, 4 PatternComprehension, 0 no code.
+// By code: 1 where no word follows, 2 where one does, 3 Case, 4 PatternComprehension, 0 no code. They are numbers, as the definition's table has
+// them.
 const SHAPE: [u8; 26] = [
     0, 1, 1, 1, 1, 1, 1, 2, 2, 2, 1, 2, 2, 2, 2, 2, 2, 3, 1, 1, 1, 2, 4, 2, 2, 1,
 ];
@@ -82,7 +83,7 @@ const LIMIT: [u64; 26] = [
 pub fn shape_of(code: u32) -> u8
     ensures { result ≡ shape_of code }
 {
-    if code < 26 { SHAPE[code as usize] } else { 0 }
+    SHAPE.get(code as usize).copied().unwrap_or(0)
 }
 
 #[tactic(auto, using(crate::proofs::Reading::tests), unfolding(crate::specs::Form::limit_of))]
@@ -95,7 +96,7 @@ pub fn limit_of(code: u32, names: u32) -> u64
     if code == 9 {
         return names as u64;
     }
-    if code < 26 { LIMIT[code as usize] } else { 0 }
+    LIMIT.get(code as usize).copied().unwrap_or(0)
 }
 
 // The head with the code and no word after it.
@@ -258,8 +259,8 @@ impl Section<'_> {
         Ok((elem, at))
     }
 
-    // Whether one of the first n bindings has the variable v. A loop, since the rows end where the words do, and the library has no laws of
-    // `step_by`.
+    // Whether one of the first n bindings has the variable v. A loop, since it ends where the words do: the last row may be cut short, where
+    // `step_by` goes on.
     pub fn has_row(&self, n: usize, v: u32) -> bool
         ensures { result ≡ is_in v (row_ids n (drop self.now.rows (words_of self.now))) }
     {
@@ -276,7 +277,7 @@ impl Section<'_> {
         false
     }
 
-    // Whether a variable may be bound.
+    // Whether a variable may be bound. A match, here and below: of a closure that calls a method on `self` no answer is known.
     #[tactic(auto, unfolding(crate::specs::Answer::known_at))]
     pub fn knows(&self, v: u32) -> bool
         ensures { result ≡ (tables_of self.now).known v }
@@ -341,10 +342,10 @@ impl Form {
     pub fn has_pattern(self) -> bool
         ensures { result ≡ has_pattern self }
     {
-        match self {
-            Form::PatternPredicate | Form::PatternComprehension(_, _, _) => true,
-            _ => false,
-        }
+        matches!(
+            self,
+            Form::PatternPredicate | Form::PatternComprehension(_, _, _)
+        )
     }
 }
 

@@ -70,18 +70,14 @@ pub fn read_name(s: &[u8], at: usize) -> Result<usize, Refusal>
 pub fn name_at(s: &[u8], p: usize) -> &[u8]
     ensures { result.now ≡ name_at s.now p }
 {
-    if s.len() < 4 {
-        return &s[0..0];
-    }
-    if s.len() - 4 < p {
-        return &s[0..0];
-    }
-    let n = length_at(s, p) as usize;
-    let from = p + 4;
-    if s.len() - from < n {
-        return &s[0..0];
-    }
-    &s[from..from + n]
+    let Some(from) = s.get(p..) else {
+        return &[];
+    };
+    let Some((length, rest)) = from.split_first_chunk::<4>() else {
+        return &[];
+    };
+    rest.get(..u32::from_le_bytes(*length) as usize)
+        .unwrap_or_default()
 }
 
 // Reads n names from the front of s: tab gets the byte where each stands, ids its use id.
@@ -119,7 +115,8 @@ pub fn index_of(s: &[u8], places: &[u32], x: &[u8]) -> Option<u32>
     Some(i as u32)
 }
 
-// Whether no two of the names with these places and use ids are the same: equal names have equal ids, so most are told apart by these.
+// Whether no two of the names with these places and use ids are the same: equal names have equal ids, so most are told apart by these. Two lists,
+// since a search among ids looks at these alone.
 pub fn distinct_names(s: &[u8], places: &[u32], ids: &[u32]) -> bool
     requires { ids.now ≡ map use_id (names_at s.now places.now) }
     ensures { result ≡ distinct name_in (names_at s.now places.now) }
