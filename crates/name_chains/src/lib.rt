@@ -113,19 +113,6 @@ impl Names<'_> {
     }
 }
 
-// How many slots there are, in so much room: the next power of two from n on, or the largest that there is room for.
-fn slots_in(room: usize, n: usize) -> usize
-    requires { 0 < room }
-    ensures { (0 < result) × (result ≤ room) }
-{
-    let mut m = 1;
-    // A `while`: it counts no index.
-    while m < n && m <= room / 2 {
-        m *= 2;
-    }
-    m
-}
-
 // The first m words are cleared.
 fn clear(chains: &mut [u32], m: usize)
     requires { m ≤ length chains.old }
@@ -149,7 +136,8 @@ pub fn distinct_by_chains(s: &[u8], places: &[u32], chains: &mut [u32]) -> bool
     };
     let slots = Slots {
         mult: multiplier(words, |i| word(s, i as usize)),
-        count: slots_in(chains.len() - n, n),
+        // One for each name, or as many as there is room for: the remainder of a hash spreads over any number of slots.
+        count: n.clamp(1, chains.len() - n),
     };
     clear(chains, slots.count);
     let names = Names { bytes: s, places };

@@ -1,5 +1,5 @@
 -- Projections of a WITH, on the way to what it takes. A Var or a name is its use (`var-within`, `name-within`, paid by two words: `var-paid`,
--- `name-paid`) and what it adds (`form-ready`, `form-holding`, `direct-passes`), any other expression is walked, and its alias is held
+-- `name-paid`) and what it adds (`form-ready`, `form-holding`, `direct-passes`), any other expression (`other-form`) is walked, and its alias is held
 -- (`other-passes`), no head is refused (`form-refused`). The alias comes first (`first-as`, a name: `alias-within`). A loop of them has
 -- carried the first ones: none (`begun`), one more (`turn`), or is refused at its `?` (`fall`), since all are the first ones and then the
 -- others (`split`).
@@ -19,7 +19,7 @@ use Rattle.heads.specs.Head.{Tables}
 use Rattle.heads.specs.Answer.{Ans}
 use Rattle.heads.specs.Form.{read_form}
 use Rattle.heads.specs.declared.Form.{Form}
-use Rattle.heads.specs.declared.Form.TheVariants.{Var, Unresolved}
+use Rattle.heads.specs.declared.Form.TheVariants.{Var, Unresolved, Leaf, Prop, Two, Slice, Many, BinOp, UnaryOp, Case, IsNull, PatternPredicate, ListComprehension, PatternComprehension, ListPredicate, MapProjection}
 use Rattle.clauses.specs.Read.{alias_of}
 use Rattle.clauses.specs.Write.{alias_word}
 use Rattle.semantics.specs.World.{World, Direct, other}
@@ -108,6 +108,24 @@ form-refused {c} {w} e alias m (Err y) a q =
 form-refused e alias m (Ok u) a q = absurd q.1
 
 -- any other expression, and its alias
+pub other-form : (f : Form) → ((v : ℕ) → f ≡ Var v → ⊥) → ((x : ℕ) → f ≡ Unresolved x → ⊥) → direct_form f ≡ other
+other-form (Var v) p q = absurd (p v refl)
+other-form (Unresolved x) p q = absurd (q x refl)
+other-form (Leaf k) p q = refl
+other-form (Prop x) p q = refl
+other-form (Two k) p q = refl
+other-form (Slice b) p q = refl
+other-form (Many k n) p q = refl
+other-form (BinOp o) p q = refl
+other-form (UnaryOp o) p q = refl
+other-form (Case b n) p q = refl
+other-form IsNull p q = refl
+other-form PatternPredicate p q = refl
+other-form (ListComprehension g) p q = refl
+other-form (PatternComprehension a b g) p q = refl
+other-form (ListPredicate g) p q = refl
+other-form (MapProjection n) p q = refl
+
 module _ {c : Context} {w w' : Walk} {p : Pairs} {u v : Unit {0}} (m : Mode) (x : Walked 48 c w w' (expr_at c 48 m general) (Ok u)) where
   pub other-passes : {p' : Pairs} (alias : Option ℕ) → Within (names_in c) alias → Ready 1 c w → KeptOther c alias p p' → direct_of (read_form (names_in c) (rest_in c w)) ≡ other → Carries 1 c w p w' p' (carried_at c m alias) (Ok v)
   unfolding carries is_all

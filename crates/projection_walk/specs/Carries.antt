@@ -4,13 +4,11 @@ use Rattle.refusal.specs.Number.{number_of}
 use Rattle.refusal.specs.declared.Refusal.{Refusal}
 use Rattle.heads.specs.Got.{Got, ok, no, bind, any_word, flag}
 use Rattle.heads.specs.Form.{read_form}
-use Rattle.heads.specs.declared.Form.{Form}
-use Rattle.heads.specs.declared.Form.TheVariants.{Var, Unresolved}
-use Rattle.semantics.specs.World.{Direct, other}
+use Rattle.semantics.specs.World.{Direct}
 use Rattle.semantics.specs.Resolve.{use_var}
 use Rattle.semantics.specs.Kinds.{general, plain, at_row}
 use Rattle.fused.specs.Fused.{Both, Mode, step, row_go}
-use Rattle.fused.specs.Clauses.{within, direct_form, direct_of, Taken, takes, projections_go}
+use Rattle.fused.specs.Clauses.{within, direct_of, Taken, takes, projections_go}
 use Rattle.rows.specs.Table.{row_in}
 use Rattle.visible.specs.Visible.{seens}
 use Rattle.visible.specs.Stack.{entries}
@@ -23,8 +21,6 @@ use Rattle.projection_walk.specs.Pairs.{pairs_of, taken_by, kept_of, Still, InNa
 use Rattle.steps.specs.declared.Walk.{Walk}
 use Rattle.steps.specs.declared.context.Context.{Context}
 use Rattle.projection_walk.specs.declared.pairs.Pairs.{Pairs}
-use Rattle.projection_walk.specs.declared.Direct.{Direct as Direct'}
-use Rattle.projection_walk.specs.declared.Direct.TheVariants as direct'
 
 -- Projections of a WITH: the pairs that they carry are held behind those there are.
 pub record ComesHolding (id : ℕ → ℕ) (c : Context) (w : Walk) (p : Pairs) (g : Got (Both × Taken)) : Type 0 where
@@ -86,12 +82,6 @@ Within names (Some x) = x < names
 -- a projection that is no star
 abbrev pub NoStar : Context → Option ℕ → ℕ → Type 0
 NoStar c alias x = alias ≡ None → is_the x c.star ≡ true → ⊥
-
--- which of the two forms a head is
-abbrev pub DirectAs : Form → Direct' → Type 0
-DirectAs f (direct'.Var v) = f ≡ Var v
-DirectAs f (direct'.Name x) = f ≡ Unresolved x
-DirectAs f direct'.Other = direct_form f ≡ other
 
 -- What is walked, in a mode.
 module _ (c : Context) (mode : Mode) where

@@ -1,4 +1,6 @@
 // The projections and the filter of a WITH are walked; what they carry is held, and that one of them is a star is kept in mind.
+// Held, Holding and Within stand in several contracts: they are of lent words beside a context, and a ghost field would have to hold while these are
+// written.
 #![tactic(auto)]
 
 mod pairs;
@@ -11,7 +13,7 @@ ghost use Rattle.steps.specs.Memory.{names_in, world_at};
 ghost use Rattle.steps.specs.Hold.{Ready, on_names};
 ghost use Rattle.clause_parts.specs.Passes.{Held};
 ghost use Rattle.projection_walk.specs.Pairs.{kept_of, KeptOther, KeepsOther};
-ghost use Rattle.projection_walk.specs.Carries.{Within, NoStar, Holding, Carries, Adds, DirectAs, var_use, carried_at, projections_at, filtered_at};
+ghost use Rattle.projection_walk.specs.Carries.{Within, NoStar, Holding, Carries, Adds, var_use, carried_at, projections_at, filtered_at};
 
 use clause_parts::{next_alias, next_any, next_flag};
 use clauses::MAX_DEPTH;
@@ -21,15 +23,8 @@ use refusal::Refusal;
 use steps::{Context, Mode, Setting, Settings, Walk};
 use walk::{walk_expr, walk_row};
 
-// A Var and a name are the two forms of a projection that a WITH carries without an alias too; any other is carried under its alias alone.
-#[derive(Clone, Copy)]
-enum Direct {
-    Var(u32),
-    Name(u32),
-    Other,
-}
-
-// A Var: used, and carried under its alias, or under the name of its row. It has six parameters: no two of them stay together elsewhere.
+// A Var: used, and carried under its alias, or under the name of its row. A walk, a context and what belongs to this one projection: six parameters.
+// A nested match: of what a closure under `or_else` returned a proof knows nothing here.
 fn carry_var(
     walk: &mut Walk,
     context: &Context,
@@ -88,18 +83,8 @@ fn carry_other(context: &Context, pairs: &mut Pairs, alias: Option<u32>)
     }
 }
 
-// Which of the two forms a head is, if it is one.
-fn direct_of(f: Form) -> Direct
-    ensures { DirectAs f result }
-{
-    match f {
-        Form::Var(v) => Direct::Var(v),
-        Form::Unresolved(x) => Direct::Name(x),
-        _ => Direct::Other,
-    }
-}
-
-// The expression of a projection.
+// The expression of a projection: a Var and a name are the two forms that a WITH carries without an alias too; any other is carried under its alias
+// alone.
 fn walk_carried(
     walk: &mut Walk,
     context: &Context,
@@ -111,16 +96,16 @@ fn walk_carried(
     ensures { Carries 1 context.now walk.old pairs.old walk.new pairs.new (carried_at context.now (mode_of mode) alias) result }
 {
     let (f, at) = context.section.read_form(walk.at)?;
-    match direct_of(f) {
-        Direct::Var(v) => {
+    match f {
+        Form::Var(v) => {
             walk.at = at;
             carry_var(walk, context, pairs, alias, v, mode);
         }
-        Direct::Name(x) => {
+        Form::Unresolved(x) => {
             walk.at = at;
             carry_name(walk, context, pairs, alias, x);
         }
-        Direct::Other => {
+        _ => {
             walk_expr(walk, context, MAX_DEPTH, mode, Setting::General)?;
             carry_other(context, pairs, alias);
         }

@@ -1,4 +1,5 @@
-// What a WITH takes of its projections.
+// What a WITH takes of its projections. Lent words with how many are held, since there is no heap; one type for these and the aliases of a RETURN would
+// be no plainer: two words each and a star beside them, against one.
 ghost use Rattle.std.specs.Prelude.{◌≡◌, ◌+◌, ◌*◌, ◌<◌, ◌≤◌, length};
 ghost use Rattle.projection_walk.specs.Pairs.{Kept, pair_at};
 

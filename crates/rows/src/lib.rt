@@ -42,7 +42,8 @@ impl Slots {
     }
 }
 
-// The key n is hung up in its slot, one of m, after the n before it.
+// The key n is hung up in its slot, one of m, after the n before it. The words and m stand beside each other, here and below: hanging up needs the
+// words `&mut`, seeking `&`.
 pub fn hang(chains: &mut [u32], m: usize, slot: usize, n: u32)
     requires { (slot < m) × ((m + n < length chains.old) × (n < 4294967295)) }
     ensures { Hangs m slot n chains.old chains.new }
@@ -122,26 +123,42 @@ pub struct Index {
 }
 
 impl Index {
+    // How the rows spread over slots.
+    fn slots(self) -> Slots
+        requires { (21 ≤ self.shift) × (self.shift ≤ 31) }
+        ensures mult { result.mult ≡ self.mult }
+        ensures shift { result.shift ≡ self.shift }
+    {
+        Slots {
+            mult: self.mult,
+            shift: self.shift,
+        }
+    }
+
+    // The first so many of the rows.
+    fn run(self, bytes: &[u8], count: u32) -> Run
+        requires { self.first + count * 5 ≤ length (words bytes.now) }
+        ensures bytes { result.bytes.now ≡ bytes.now }
+        ensures first { result.first ≡ self.first }
+        ensures count { result.count ≡ count }
+    {
+        Run {
+            bytes,
+            first: self.first,
+            count,
+        }
+    }
+
     // Hangs up all the rows, where no two have the same variable; whether that is so.
     pub fn hang_rows(&self, bytes: &[u8], chains: &mut [u32]) -> bool
         requires { (self.now.first + self.now.count * 5 ≤ length (words bytes.now)) × Empty self.now.shift self.now.count chains.old }
         ensures { Indexed self.now (words bytes.now) chains.old chains.new result }
     {
-        let slots = Slots {
-            mult: self.mult,
-            shift: self.shift,
-        };
-        let all = Run {
-            bytes,
-            first: self.first,
-            count: self.count,
-        };
+        let slots = self.slots();
+        let all = self.run(bytes, self.count);
+        // By index: each row is sought among the i before it.
         for i in 0..self.count {
-            let before = Run {
-                bytes,
-                first: self.first,
-                count: i,
-            };
+            let before = self.run(bytes, i);
             let variable = all.variable(i);
             if before.find(slots, chains, variable).is_some() {
                 return false;
@@ -167,22 +184,10 @@ impl Rows<'_> {
         requires { Standing self.now }
         ensures { result ≡ shown (row_in self.now v) }
     {
-        let run = Run {
-            bytes: self.bytes,
-            first: self.index.first,
-            count: self.index.count,
-        };
-        let slots = Slots {
-            mult: self.index.mult,
-            shift: self.index.shift,
-        };
-        match run.find(slots, self.chains, v) {
-            Some(i) => {
-                let p = self.index.first + i as usize * 5;
-                Some((word(self.bytes, p + 1), word(self.bytes, p + 2)))
-            }
-            None => None,
-        }
+        let run = self.index.run(self.bytes, self.index.count);
+        let i = run.find(self.index.slots(), self.chains, v)?;
+        let p = self.index.first + i as usize * 5;
+        Some((word(self.bytes, p + 1), word(self.bytes, p + 2)))
     }
 
     // "the table's, Value if it has none"
@@ -191,9 +196,6 @@ impl Rows<'_> {
         requires { Standing self.now }
         ensures { result ≡ row_kind (row_in self.now v) }
     {
-        match self.row(v) {
-            Some((_, kind)) => kind,
-            None => VarKind::Value as u32,
-        }
+        self.row(v).map_or(VarKind::Value as u32, |(_, kind)| kind)
     }
 }

@@ -1,6 +1,9 @@
 // The visible names in lent words: for each name where its newest entry stands (its number + 1, or 0), then a stack of entries of four
 // words: name, variable, scope, and where the name's newest entry stood before. Finding and binding take constant time, and so does each
 // entry that is undone.
+// One run of lent words for both: how many names there are is known only once the sheet is read. Entries are gone over by index: each turn writes
+// where other entries and the names' places stand. That the words are `Sound` and a name is below `names` is asked by contracts: a ghost field would
+// have to hold between the writes of `bind` and `cut`.
 #![tactic(auto)]
 
 ghost use Rattle.std.specs.Prelude.{◌≡◌, ◌+◌, ◌*◌, ◌<◌, ◌≤◌, length};

@@ -19,13 +19,14 @@ loop-i-init c =
 
 pub returns-then-is_some : goal.returns-then-is_some
 returns-then-is_some c =
-    let repeated = rw (← c.is_some.ensures, c.if-is_some.true) at (turn _ _ _ _ _ _ c.requires.0 c.loop-i-test.true c.variable-variable.ensures c.find.ensures) in
+    let repeated = rw (← c.is_some.ensures, c.if-is_some.true) at (turn _ _ _ _ _ _ c.requires.0 c.loop-i-test.true (rw (c.run-all.ensures.bytes, c.run-all.ensures.first) at c.variable-variable.ensures) (rw (c.run-before.ensures.bytes, c.run-before.ensures.first, c.run-before.ensures.count) at c.find.ensures)) in
     record { same = sym (c.loop-i.invariant.same ∙ repeated); kept = c.loop-i.auto.chains; hung = λ q. absurd (false≢true q) }
 
 pub loop-i-preserved : goal.loop-i-preserved
 loop-i-preserved c =
-    let new = rw (← c.is_some.ensures, c.if-is_some.false) at (turn _ _ _ _ _ _ c.requires.0 c.loop-i-test.true c.variable-variable.ensures c.find.ensures) in
-    record { hung = rw add-one (added c.count.ensures c.of.ensures.slot c.variable-variable.ensures c.hang.ensures c.loop-i.invariant.hung); same = c.loop-i.invariant.same ∙ new }
+    let variable = rw (c.run-all.ensures.bytes, c.run-all.ensures.first) at c.variable-variable.ensures in
+    let new = rw (← c.is_some.ensures, c.if-is_some.false) at (turn _ _ _ _ _ _ c.requires.0 c.loop-i-test.true variable (rw (c.run-before.ensures.bytes, c.run-before.ensures.first, c.run-before.ensures.count) at c.find.ensures)) in
+    record { hung = rw add-one (added (rw c.slots-slots.ensures.shift at c.count.ensures) (rw (c.slots-slots.ensures.mult, c.slots-slots.ensures.shift) at c.of.ensures.slot) variable c.hang.ensures c.loop-i.invariant.hung); same = c.loop-i.invariant.same ∙ new }
 
 pub returns : goal.returns
 returns c =
