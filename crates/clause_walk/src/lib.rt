@@ -90,7 +90,7 @@ fn walk_yield(walk: &mut Walk, context: &Context, head: Head) -> Result<(), Refu
     let alias = alias_of(next_word(walk, context, 0, names + 1)?);
     let v = next_word(walk, context, 0, 4294967296)?;
     let name = alias.unwrap_or(x);
-    let kind = VarKind::Value as u32;
+    let kind = VarKind::Value;
     walk.bind_anew(context, head.start, head.end, name, v, kind);
     Ok(())
 }
