@@ -31,7 +31,8 @@ pub struct Counts {
     pub findings: usize,
 }
 
-// The five lent lists; findings are flat words, or finding records.
+// The five lent lists; findings are flat words, or finding records. Each function that fills them says anew that they are the lent ones still
+// (IsStill), since a callee may exchange a field that is a `&mut`.
 #[derive(Drop)]
 pub struct Lists<'a, F> {
     pub scopes: &'a mut [u32],
@@ -42,13 +43,11 @@ pub struct Lists<'a, F> {
 }
 
 // Whether a list of so many flat words has room for n entries of a width; cause 8 where one has not.
+#[tactic(auto, unfolding(crate::specs::Room::enough))]
 pub fn has_room(n: usize, len: usize, width: usize) -> bool
     ensures { result ≡ enough n len width }
 {
-    if width == 0 {
-        return false;
-    }
-    n <= len / width
+    len.checked_div(width).is_some_and(|room| n <= room)
 }
 
 // The first n words of a list, copied to the front of another: of a slice of a struct's list alone it is not known what was copied.
@@ -59,7 +58,8 @@ fn copy(from: &[u32], n: usize, to: &mut [u32])
     to[..n].copy_from_slice(&from[..n]);
 }
 
-// The bindings of a log and a carried list. They are apart here, since the language has one lifetime for all that a struct lends.
+// The bindings of a log and a carried list. The rows and the list come apart, since the language has one lifetime for all that a struct lends: tried
+// with a Carried that the caller makes, and it is refused.
 fn bind(
     rows: Rows,
     list: &[u32],
@@ -139,10 +139,7 @@ impl Lists<'_, u32> {
 pub fn findings_in(answer: Result<Counts, Refusal>) -> usize
     ensures { result ≡ findings_in (answered answer) }
 {
-    match answer {
-        Ok(counts) => counts.findings,
-        Err(_) => 0,
-    }
+    answer.map_or(0, |counts| counts.findings)
 }
 
 // What both walks say of a sheet, every event, and what they carry into a list.
@@ -206,7 +203,8 @@ fn check_in(
     Ok(lists.fill(s, index, scratch))
 }
 
-// With scratch for sheets of up to N words: V, F and H are the lengths that follow from N, which the language doesn't compute of it.
+// With scratch for sheets of up to N words: V, F and H are the lengths that follow from N, which the language doesn't compute of it. One array, cut
+// as crate listing cuts its own, would need one length, but laws of the zeros in each part, which are those of listing once more.
 fn check_sized<const N: usize, const V: usize, const F: usize, const H: usize>(
     s: &[u8],
     warns: bool,

@@ -89,7 +89,7 @@ fn walk_yield(walk: &mut Walk, context: &Context, head: Head) -> Result<(), Refu
     let alias = next_alias(walk, context)?;
     let v = next_any(walk, context)?;
     let name = alias.unwrap_or(x);
-    let kind = VarKind::Value as u32;
+    let kind = VarKind::Value;
     walk.bind_anew(context, head.start, head.end, name, v, kind);
     Ok(())
 }

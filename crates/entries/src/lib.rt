@@ -37,7 +37,8 @@ pub struct Bindings<'a> {
     pub stamps: &'a mut [u32],
 }
 
-// An entry's words as the entry numbered i.
+// An entry's words as the entry numbered i. Crates finding and steps store six words by themselves: neither names this crate, the one stands below
+// it and the other beside it.
 pub fn set_entry<const W: usize>(out: &mut [u32], i: usize, entry: [u32; W])
     requires { (i + 1) * W ≤ length out.old }
     ensures { out.new ≡ sets out.old (i * W) entry.entry }

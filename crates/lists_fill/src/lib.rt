@@ -1,7 +1,8 @@
 // Four of the five lists, filled from the log that both walks left and from the carried list: scopes and findings as they come, bindings and
 // recorded uses with the first making giving the place and the last one the value. Each list has a loop and an adder of its own, as it has a
 // definition and a law of its own; kinds are numbers, as the lists have them. Loops go by index and not over chunks: tried, and it cost a law and
-// an answer file more.
+// an answer file more. A list and its number of entries are two parameters: of a struct with both, each adder, each loop and each filler would have
+// to say besides that the list is the lent one still, as those of Bindings do.
 #![tactic(auto)]
 
 ghost use Rattle.std.specs.Prelude.{◌≡◌, [], ◌++◌, ℕ, ◌+◌, ◌*◌, ◌≤◌, length};

@@ -1,16 +1,14 @@
 -- What a plain head is by its code (`laws`, one line for each code): how it is read, its parts, their settings, and what it does itself.
 -- `plain-read`: it is read there. `plain-expr`: an expression with such a head is what the head does, and then its parts in a row, a level
 -- lower. `plain-calm`: where the shape has no bit for a setting, the head does nothing there.
-use Rattle.std.specs.Prelude.{Option, None, Some}
-use Rattle.std.specs.Option.{option_eq}
 use Prim.Native.Nat.{ℕ, zero, suc, ◌+◌, ◌/◌, ◌%◌, ◌^◌, ◌≤◌, ◌<◌}
 use native.Mathlib.Omega.{arith}
-use mathlib.Core.Path.{◌≡◌, refl, ap, sym, ◌∙◌}
+use mathlib.Core.Path.{◌≡◌, refl, ap, ◌∙◌}
 use mathlib.Core.Bool.{Bool, true, false, cond, ◌&&◌}
 use mathlib.Core.List.{List, [], ◌∷◌}
 use lib.Dec.{eqb}
 use lib.ListN.{length, get_or, drop}
-use borrow.Author.Tests.{lt-ltb, le-leb, eqb-true, eqb-false, ne_eqb}
+use borrow.Author.Tests.{lt-ltb, le-leb, eqb-true, eqb-false}
 use Rattle.words.proofs.Words.{drop-word}
 use Rattle.heads.specs.Got.{Got, ok, no, bind, word_in}
 use Rattle.heads.specs.Form.{shape_of, limit_of, form_none, form_one, rest_of, read_form, kids_of, items_of}
@@ -24,7 +22,6 @@ use Rattle.fused.specs.Fused.{Both, Mode, Go, when, told, step, same, tail_of, h
 use Rattle.expr.proofs.Inverse.{never}
 use Rattle.flat.proofs.Codes.{Each, ◌▹◌}
 use Rattle.steps.specs.Modes.{setting_of, pair_of}
-use Rattle.steps.specs.Memory.{is_the}
 use Rattle.steps.specs.Hold.{cost_of}
 use Rattle.steps.specs.declared.mode.Setting.{Setting as Setting'}
 use Rattle.steps.specs.declared.mode.Setting.TheVariants.{General, Arithmetic, Property, Boolean, Indexed, Sliced, Iterated, Quantified}
@@ -216,31 +213,14 @@ plain-calm code a set h l z w m s =
     (law code a h l).type seven eight w m (setting_of set) s ∙ still m _ s (rw (none, n.1) at (below_at 8 (calm code) (number_of set) (calms.at code h) n.0))
 
 -- ---- the settings that go by the word or by the head's own setting
-agree : (b : Bool) (x : ℕ) → cond b (eqb x 1) (eqb x 0) ≡ true → eqb x 1 ≡ b
-agree true x e = e
-agree false x e = rw (eqb-true x 0 e)
-
-arith-ops : (code a : ℕ) → code ≡ 15 → a ≤ limit code → eqb (3903 / 2 ^ (a % 32) % 2) 1 ≡ is_arithmetic a
-unfolding is_arithmetic
-arith-ops code a e l = let h : a ≤ 19 = rw e at l in agree _ _ (below_at 20 (λ a. cond (is_arithmetic a) (eqb (3903 / 2 ^ (a % 32) % 2) 1) (eqb (3903 / 2 ^ (a % 32) % 2) 0)) a refl (omega arith))
-
--- whether the name is `id`
-pub the-same : (a : ℕ) (o : Option ℕ) → is_the a o ≡ option_eq eqb o (Some a)
-the-same a None = refl
-the-same a (Some y) = go (eqb y a) refl
-  where
-    go : (b : Bool) → eqb y a ≡ b → eqb a y ≡ eqb y a
-    go true q = rw (eqb-true y a q)
-    go false q = rw q (ne_eqb a y (λ e. eqb-false y a q (sym e)))
-
 module _ (i : ℕ → Bool) (code a : ℕ) (c : Setting) where
-  pub prop-pair : {b : Bool} → code ≡ 9 → i a ≡ b → both (cond b general property) general ≡ settings i (headed code a) c
+  pub prop-pair : code ≡ 9 → both (cond (i a) general property) general ≡ settings i (headed code a) c
   unfolding shape_of form_one settings
-  prop-pair e q = rw (e, ← q)
+  prop-pair e = rw e
 
-  pub binary-pair : {b : Bool} → code ≡ 15 → a ≤ limit code → eqb (3903 / 2 ^ (a % 32) % 2) 1 ≡ b → both (cond b arithmetic general) (cond b arithmetic general) ≡ settings i (headed code a) c
+  pub binary-pair : code ≡ 15 → both (cond (is_arithmetic a) arithmetic general) (cond (is_arithmetic a) arithmetic general) ≡ settings i (headed code a) c
   unfolding shape_of form_one settings
-  binary-pair e l q = rw (e, ← q, arith-ops code a e l)
+  binary-pair e = rw e
 
   pub unary-pair : code ≡ 16 → both (passes c) general ≡ settings i (headed code a) c
   unfolding shape_of form_one settings

@@ -80,20 +80,7 @@ fn walk_inner(
     match f {
         Form::PatternPredicate => walk_pattern(walk, context, room, mode.unresolving()),
         Form::PatternComprehension(_, _, _) => walk_pattern(walk, context, room, mode),
-        Form::Leaf(_) => Ok(()),
-        Form::Var(_) => Ok(()),
-        Form::Unresolved(_) => Ok(()),
-        Form::Prop(_) => Ok(()),
-        Form::Two(_) => Ok(()),
-        Form::Slice(_) => Ok(()),
-        Form::Many(_, _) => Ok(()),
-        Form::BinOp(_) => Ok(()),
-        Form::UnaryOp(_) => Ok(()),
-        Form::Case(_, _) => Ok(()),
-        Form::IsNull => Ok(()),
-        Form::ListComprehension(_) => Ok(()),
-        Form::ListPredicate(_) => Ok(()),
-        Form::MapProjection(_) => Ok(()),
+        _ => Ok(()),
     }
 }
 

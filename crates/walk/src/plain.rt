@@ -11,7 +11,9 @@ ghost use Rattle.steps.specs.Hold.{Ready, Steps, cost_of};
 ghost use Rattle.walk.specs.Plain.{shape, limit, headed, parts_of, type_by, number_of, Plainly};
 
 use expr::Type;
-use steps::{Context, Mode, Setting, Settings, Walk, leaf_type};
+use steps::{
+    Context, Mode, Setting, Settings, Walk, leaf_type, operator_settings, property_settings,
+};
 use words::{count, word};
 
 // The most parts that a row of the loop counts.
@@ -127,24 +129,14 @@ pub fn pair(t: u32, code: u32, a: u32, set: Setting, ident: Option<u32>) -> Sett
     requires { (t ≡ shape code) × ((0 < t) × (a ≤ limit code)) }
     ensures { pair_of result ≡ settings (λ x. is_the x ident) (headed code a) (setting_of set) }
 {
-    if code == 9 {
-        if ident == Some(a) {
-            return Settings::all(Setting::General);
-        }
-        return Settings::first(Setting::Property);
-    }
-    if code == 15 {
-        if (3903u32 >> (a % 32)) % 2 == 1 {
-            return Settings::all(Setting::Arithmetic);
-        }
-        return Settings::all(Setting::General);
-    }
-    if code == 16 {
-        return Settings::first(set.passed());
-    }
-    Settings {
-        first: setting_at(t / 256 % 8),
-        later: setting_at(t / 2048 % 8),
+    match code {
+        9 => property_settings(ident, a),
+        15 => operator_settings(a),
+        16 => Settings::first(set.passed()),
+        _ => Settings {
+            first: setting_at(t / 256 % 8),
+            later: setting_at(t / 2048 % 8),
+        },
     }
 }
 
