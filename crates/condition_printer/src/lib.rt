@@ -19,15 +19,12 @@ use sheet::{Places, check_both, find_places, open};
 const ROOM: usize = 15 * 2048;
 
 // Where the sections stand, or which of the causes 1 to 6 the sheet has. Only where a variable has no binding, head and arms are read again,
-// with binders not looked up. Two tests: a match's default arm tells a proof nothing of the refusal.
+// with binders not looked up.
 fn open_unbound(s: &[u8]) -> Result<Places, Refusal>
     ensures { sheet_of result ≡ opened_for (read_conditions s.now) s.now }
 {
     let told = open(s);
-    let Err(refusal) = told else {
-        return told;
-    };
-    if refusal != Refusal::Unbound {
+    if told.err() != Some(Refusal::Unbound) {
         return told;
     }
     let p = find_places(s)?;

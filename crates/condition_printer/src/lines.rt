@@ -18,11 +18,7 @@ fn filter_of(section: &Section, at: usize) -> Option<usize>
     ensures { Placed (words_of section.now) (tables_of section.now) at result }
 {
     let q = counted::<Projection>(section, at + 3).unwrap();
-    if word(section.bytes, q) == 1 {
-        Some(q + 1)
-    } else {
-        None
-    }
+    (word(section.bytes, q) == 1).then_some(q + 1)
 }
 
 // Where a clause's condition stands, if it has one: a WHERE's predicate, or a WITH's filter.

@@ -68,9 +68,5 @@ pub fn judge(text: &[u8], low: usize) -> Option<Judged>
             }
         }
     }
-    if mode.is_there() && depth == 0 {
-        Some(Judged { entries, deepest })
-    } else {
-        None
-    }
+    (mode.is_there() && depth == 0).then_some(Judged { entries, deepest })
 }

@@ -1,5 +1,6 @@
 // The machine that writes the entries of a text that reads, from the last to the first. Operators that wait for their left operand stand at
-// the front of its list, each as its rank and its number: a rank is ten for each level of brackets, and the operator's level + 1.
+// the front of its list, each as its rank and its number: a rank is ten for each level of brackets, and the operator's level + 1. They and the
+// entries share the one lent list, two words each, from its two ends.
 ghost use Rattle.std.specs.Prelude.{◌+◌, ◌*◌, ◌^◌, ◌<◌, ◌≤◌, length};
 
 use condition::{BINARY, UNARY, binary_level, unary_level};
@@ -42,7 +43,7 @@ impl<'a> Machine<'a> {
         }
     }
 
-    // An entry before the others.
+    // An entry before the others. (Room is asked for, and is no invariant: it falls with each entry.)
     fn write(&mut self, kind: u64, operand: u64)
         requires { HasRoom 1 self.old }
         ensures { Written kind operand self.old self.new }

@@ -1,7 +1,7 @@
 // The findings of a sheet, as a run over it leaves them.
 ghost use Rattle.std.specs.Prelude.{ℕ, ◌*◌, ◌^◌, ◌<◌, ◌≤◌, length, get_or};
 
-use finding::Finding;
+use finding::{Finding, six_at};
 
 // So many findings, no more than a sheet has words, as flat words, six each: the first ones stand from the front of the words on, the others
 // from their end back.
@@ -36,8 +36,6 @@ impl<'a> Found<'a> {
         ensures { result ≡ nth self.now i }
     {
         let at = self.word_of(i);
-        let mut words = [0; 6];
-        words.copy_from_slice(&self.words[at..at + 6]);
-        Finding::from(words)
+        Finding::from(six_at(self.words, at))
     }
 }

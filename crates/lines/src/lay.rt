@@ -1,4 +1,5 @@
-// A line, laid piece by piece. A code is a number, since a list's words may be no finding's.
+// A line, laid piece by piece. A code is a number, since a list's words may be no finding's. A place and the lent bytes go from piece to piece,
+// as in `texts`, and no struct of them: a fixed piece is then a few stores, and a struct's end would be memory.
 ghost use Rattle.std.specs.Prelude.{◌≡◌, [], ◌∷◌, ◌++◌, ◌+◌, ◌≤◌, length, IfSome};
 ghost use Rattle.words.specs.Decimal.{decimal};
 ghost use Rattle.texts.specs.Bytes.{bytes};

@@ -16,9 +16,10 @@ ghost use Rattle.lines.specs.Given.{texts_of, first, text_of, Measured};
 
 pub use found::Found;
 use lay::{lay_head, lay_line};
-use measure::{line_len, width_of};
+use measure::line_len;
 pub use names::Names;
 use refusal::Refusal;
+use words::decimal_width;
 
 // The lines of the findings; how long they are. Findings go by their number: which end of the words one stands at hangs on it.
 fn lay_lines(names: &Names, found: &Found, out: &mut [u8]) -> usize
@@ -50,7 +51,7 @@ fn has_room(names: &Names, found: &Found, room: usize) -> bool
     ensures { Measured (length (text_of names.now found.now)) room result }
 {
     let most = 167 + names.section.len();
-    let mut need = 10 + width_of(found.count as u32) + found.count * most;
+    let mut need = 10 + decimal_width(found.count as u32) + found.count * most;
     for i in 0..found.count {
         if need <= room {
             return true;

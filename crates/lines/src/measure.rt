@@ -8,13 +8,6 @@ use finding::Finding;
 use texts::{text_for, text_len};
 use words::decimal_width;
 
-// How many digits n has; one alone is no division.
-pub fn width_of(n: u32) -> usize
-    ensures { result ≡ width n }
-{
-    if n < 10 { 1 } else { decimal_width(n) }
-}
-
 // The length of the code's digits and the message. A code that has a text has four digits.
 fn said_len(f: Finding, x: &[u8]) -> usize
     requires { length x.now ≤ 8192 }
@@ -32,5 +25,5 @@ pub fn line_len(f: Finding, x: &[u8]) -> usize
     requires { length x.now ≤ 8192 }
     ensures { result ≡ length (line_for f.code f.start f.end f.one f.two x.now) }
 {
-    5 + width_of(f.start) + width_of(f.end) + said_len(f, x)
+    5 + decimal_width(f.start) + decimal_width(f.end) + said_len(f, x)
 }

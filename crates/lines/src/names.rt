@@ -20,12 +20,11 @@ impl<'a> Names<'a> {
     pub fn text(&self, name: u32) -> &'a [u8]
         ensures { result.now ≡ name_of (texts_of self.now) name }
     {
-        if name == 0 {
+        let Some(i) = name.checked_sub(1) else {
             return b"";
-        }
-        match self.places.get(name as usize - 1) {
-            Some(&p) => name_at(self.section, p as usize),
-            None => b"",
-        }
+        };
+        self.places
+            .get(i as usize)
+            .map_or(b"", |p| name_at(self.section, *p as usize))
     }
 }

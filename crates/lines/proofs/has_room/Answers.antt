@@ -12,13 +12,13 @@ use Rattle.lines.proofs.Most.{needed-first, first-small, needed-one, needed-next
 use Rattle.lines.proofs.has_room.Goals as goal
 
 pub overflow_add-need : goal.overflow_add-need
-overflow_add-need c = omega (arith, c.width_of.ensures, first-small c.args.names.now c.args.found.now)
+overflow_add-need c = omega (arith, c.decimal_width.ensures, first-small c.args.names.now c.args.found.now)
 
 pub loop-i-init : goal.loop-i-init
 loop-i-init c =
     let names = c.args.names.now in
     let found = c.args.found.now in
-    record { same = omega (arith, c.width_of.ensures, needed-first names found); small = omega (arith, c.width_of.ensures, first-small names found) }
+    record { same = omega (arith, c.decimal_width.ensures, needed-first names found); small = omega (arith, c.decimal_width.ensures, first-small names found) }
 
 pub returns-then-need-room : goal.returns-then-need-room
 returns-then-need-room c =

@@ -1,5 +1,9 @@
 -- A WITH's projections end at the word q, where its flag stands (`flag-inside`); its filter is the expression after it.
-use Rattle.std.proofs.Common.{◌∙◌, sym, arith}
+use Rattle.std.proofs.Common.{◌∙◌, sym, arith, inl, inr, ℕ, ◌+◌, ◌≡◌, Option, Some, None}
+use Rattle.std.specs.Bool.{then_some}
+use Rattle.std.proofs.Math.Dec.{eqb}
+use Rattle.std.proofs.lemmas.Bool.Decides.{eqb_tells}
+use Rattle.condition_printer.specs.Page.{Placed}
 use Rattle.words.proofs.Words.{length-words}
 use Rattle.heads.specs.Answer.{words_of, tables_of}
 use Rattle.condition_printer.proofs.Clauses.{projections-begin, projections-there, flag-inside, filter-stands, no-filter}
@@ -19,21 +23,26 @@ pub unwrap-q-requires : goal.unwrap-q-requires
 unwrap-q-requires c =
     let a = c.args in projections-there (words_of a.section.now) (tables_of a.section.now) a.at c.requires.0 c.requires.1.0 _ c.counted.ensures
 
-pub overflow_add-result : goal.overflow_add-result
-overflow_add-result c =
+pub overflow_add-q : goal.overflow_add-q
+overflow_add-q c =
     let a = c.args in
     let read = rw c.unwrap-q.ensures at c.counted.ensures in
     let flag = flag-inside (words_of a.section.now) (tables_of a.section.now) a.at c.requires.0 c.requires.1.0 c.unwrap-q.result read.same in
     omega (arith, flag, length-words a.section.now.bytes.now)
 
-pub returns-then-word-eq1 : goal.returns-then-word-eq1
-returns-then-word-eq1 c =
-    let a = c.args in
-    let read = rw c.unwrap-q.ensures at c.counted.ensures in
-    filter-stands (words_of a.section.now) (tables_of a.section.now) a.at c.requires.0 c.requires.1.0 c.unwrap-q.result read.same read.from (sym c.word.ensures ∙ c.if-word-eq1.true)
+-- what holds for either value of the test holds for the answer
+told-by : (k q : ℕ) (P : Option ℕ → Type 0) → (k ≡ 1 → P (Some (q + 1))) → ((k ≡ 1 → ⊥) → P None) → P (then_some (eqb k 1) (q + 1))
+told-by k q P f g = elim (eqb_tells k 1) [
+  | inl h ↦ rw h.0 (f h.1)
+  | inr h ↦ rw h.0 (g h.1)
+]
 
-pub returns-else-word-eq1 : goal.returns-else-word-eq1
-returns-else-word-eq1 c =
+pub returns : goal.returns
+returns c =
     let a = c.args in
+    let ws = words_of a.section.now in
+    let ts = tables_of a.section.now in
     let read = rw c.unwrap-q.ensures at c.counted.ensures in
-    no-filter (words_of a.section.now) (tables_of a.section.now) a.at c.requires.0 c.requires.1.0 c.unwrap-q.result read.same (λ e. c.if-word-eq1.false (c.word.ensures ∙ e))
+    rw c.then_some.ensures (told-by c.word.result c.unwrap-q.result (Placed ws ts a.at)
+    (λ e. filter-stands ws ts a.at c.requires.0 c.requires.1.0 c.unwrap-q.result read.same read.from (sym c.word.ensures ∙ e))
+    (λ n. no-filter ws ts a.at c.requires.0 c.requires.1.0 c.unwrap-q.result read.same (λ e. n (c.word.ensures ∙ e))))

@@ -1,10 +1,12 @@
 -- A token a turn (`Judging`).
 use native.Mathlib.Omega.{arith}
+use Rattle.std.proofs.Common.{inl, inr}
+use Rattle.std.proofs.lemmas.Bool.Decides.{eqb_tells}
 use mathlib.Core.Path.{sym, ◌∙◌}
 use Rattle.condition_reader.proofs.FillTurns.{tells}
 use Rattle.condition_reader.proofs.JudgeTurns.{open-mode, open-depth, open_turn, close-mode, close-turn, number-mode, number-turn, unary-mode, unary-turn, binary-mode, binary-chain, binary-turn, bad-token, end-mode, end-depth, end_reads, begins}
 use Rattle.condition_reader.proofs.judging.judge.Goals as goal
-use Rattle.condition_reader.proofs.judging.judge.Goals.{then-not-is_there-via-then-not-is_there, then-not-is_there-via-else-not-is_there+then-depth-eq0, then-not-may_join-via-then-not-may_join, then-not-may_join-via-else-not-may_join+then-chains, else-is_there-via-then-is_there+else-depth-eq0-2, else-is_there-via-else-is_there}
+use Rattle.condition_reader.proofs.judging.judge.Goals.{then-not-is_there-via-then-not-is_there, then-not-is_there-via-else-not-is_there+then-depth-eq0, then-not-may_join-via-then-not-may_join, then-not-may_join-via-else-not-may_join+then-chains, then-is_there, else-is_there}
 
 pub loop-rest-init : goal.loop-rest-init
 loop-rest-init c = begins c.new-window.ensures
@@ -69,13 +71,13 @@ pub returns-in_err-token : goal.returns-in_err-token
 returns-in_err-token c =
     rw c.from_residual.ensures (bad-token c.loop-rest.invariant (grind arith) (rw c.in_err-token.was at c.last_token.ensures.found))
 
-pub returns-else-is_there : goal.returns-else-is_there
-returns-else-is_there c =
-    elim c.else-is_there.branch [
-      | else-is_there-via-then-is_there+else-depth-eq0-2 w ↦ end-depth c.loop-rest.invariant (grind arith) (omega arith)
-      | else-is_there-via-else-is_there w ↦ end-mode c.loop-rest.invariant (grind arith) (sym c.is_there-2.ensures ∙ w.if-is_there.false)
+pub returns : goal.returns
+returns c =
+    let there = sym c.is_there-2.ensures in
+    elim c.if-is_there.branch [
+      | then-is_there w ↦ elim (eqb_tells c.loop-rest.depth 0) [
+        | inl h ↦ rw (c.then_some.ensures, w.then_some-is, h.0) (end_reads c.loop-rest.invariant (grind arith) (there ∙ w.if-is_there.true) h.1)
+        | inr h ↦ rw (c.then_some.ensures, w.then_some-is, h.0) (end-depth c.loop-rest.invariant (grind arith) (omega (arith, h.1)))
+      ]
+      | else-is_there w ↦ rw (c.then_some.ensures, w.then_some-is, w.if-is_there.false) (end-mode c.loop-rest.invariant (grind arith) (there ∙ w.if-is_there.false))
     ]
-
-pub returns-then-depth-eq0-2 : goal.returns-then-depth-eq0-2
-returns-then-depth-eq0-2 c =
-    end_reads c.loop-rest.invariant (grind arith) (sym c.is_there-2.ensures ∙ c.if-is_there.true) c.if-depth-eq0-2.true
