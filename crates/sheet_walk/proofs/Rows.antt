@@ -2,13 +2,12 @@
 -- (`row_words_lem`).
 use Prim.Native.Nat.{ℕ, zero, suc, ◌+◌, ◌*◌, ◌<◌, ◌≤◌}
 use native.Mathlib.Omega.{arith}
-use mathlib.Core.Path.{◌≡◌, refl, ap, sym, ◌∙◌}
+use mathlib.Core.Path.{◌≡◌, refl, sym, ◌∙◌}
 use mathlib.Core.Bool.{true, false}
 use mathlib.Core.List.{List, [], ◌∷◌, ◌++◌, flat_map}
-use lib.ListN.{length, take, drop, get_or, length-take, length-drop}
+use lib.ListN.{length, take, get_or, length-take, length-drop}
 use lib.Seq.{get_or-drop, get_or-take}
 use Rattle.words.specs.Words.{words}
-use Rattle.words.proofs.Words.{length-words}
 use Rattle.heads.specs.Got.{ok, many}
 use Rattle.expr.proofs.Inverse.{never}
 use Rattle.clauses.specs.Well.{Each}
