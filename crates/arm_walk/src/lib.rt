@@ -1,6 +1,7 @@
 // The clauses of a head and the arms, one after the other. What a WITH carries is stored into the carried list behind it, where that has room.
 // `held`, `marks` and `carried` are lent beside the walk, so there are five to seven parameters (tried: what a struct borrows from another's field is
-// not known afterwards, and a WITH's pairs and a context borrow them).
+// not known afterwards, and a WITH's pairs and a context borrow them). Held and Clear stand in several contracts: they are of lent words beside a
+// context, and a ghost field would have to hold while these are written.
 #![tactic(auto)]
 
 ghost use Rattle.std.specs.Prelude.{◌≡◌, length};

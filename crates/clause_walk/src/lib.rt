@@ -2,7 +2,8 @@
 // words each, or the aliases of a RETURN with sort keys, while its projections are walked. Such a RETURN sets the marks of these, and takes them
 // away again. Both are lent beside the walk, so that walk_body has six parameters
 // (tried: what a struct borrows from another's field is not known afterwards, and a WITH's pairs and a context borrow them). Contracts say that the
-// mode resolves names; it is handed on whole, since an Unwind and a Call walk on in it without resolving.
+// mode resolves names; it is handed on whole, since an Unwind and a Call walk on in it without resolving. Held and Clear stand in several contracts:
+// they are of lent words beside a context, and a ghost field would have to hold while these are written.
 #![tactic(auto)]
 
 ghost use Rattle.std.specs.Prelude.{◌≡◌, true, length};

@@ -1,4 +1,5 @@
-// What a RETURN with sort keys holds of its projections.
+// What a RETURN with sort keys holds of its projections. Lent words with how many are held, since there is no heap; one type for these and the pairs of
+// a WITH would be no plainer.
 ghost use Rattle.std.specs.Prelude.{◌<◌, length};
 ghost use Rattle.return_walk.specs.Returns.{Marked};
 ghost use Rattle.return_walk.specs.Aliases.{InRange, HoldsAlias};

@@ -1,7 +1,8 @@
 // RETURN: its projections are walked from outside its scope, which is current after it. So are its sort keys, in which its aliases are no use:
 // these are held while its projections are walked, and marked while its sort keys are.
 // `held` and `marks` are lent beside the walk, so that walk_return has six parameters (tried: what a struct borrows from another's field is not known
-// afterwards, and the aliases and a context borrow them).
+// afterwards, and the aliases and a context borrow them). Held and Clear stand in several contracts: they are of lent words beside a context, and a
+// ghost field would have to hold while these are written.
 #![tactic(auto)]
 
 ghost use Rattle.std.specs.Prelude.{◌≡◌, length};

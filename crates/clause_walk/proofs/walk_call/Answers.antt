@@ -14,7 +14,7 @@ use Rattle.steps.specs.Hold.{Ready, Steps, on_names}
 use Rattle.steps.specs.declared.Walk.{Walk}
 use Rattle.steps.specs.declared.context.Context.{Context}
 use Rattle.walk.specs.Goes.{Walked}
-use Rattle.walk.proofs.Stage.{Rest, Stage, did, start, ready}
+use Rattle.walk.proofs.Stage.{Rest, Stage, did, start}
 use Rattle.clause_parts.specs.Passes.{counted_at}
 use Rattle.clause_parts.proofs.Passing.{forget, went, fell, last_one, past, halted}
 use Rattle.clause_walk.proofs.Rescoped.{call-as}

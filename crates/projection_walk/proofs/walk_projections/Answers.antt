@@ -1,9 +1,5 @@
 -- The first projections were carried: none, one more each turn, and at the end all of them.
-use native.Mathlib.Omega.{arith}
-use Rattle.steps.proofs.Held.{ready-less}
 use Rattle.steps.specs.Modes.{mode_of}
-use Rattle.clause_parts.proofs.Passing.{held_on}
-use Rattle.projection_walk.proofs.Chained.{carried-ready, carried-holding}
 use Rattle.projection_walk.proofs.Projected.{begun, turn, fall}
 use Rattle.projection_walk.proofs.walk_projections.Goals as goal
 
