@@ -3,7 +3,7 @@
 --     ids-are     a name's use id, as the code looks it up, is the statement's
 use Prim.Native.Nat.{ℕ, ◌*◌, ◌≤◌}
 use native.Mathlib.Omega.{arith}
-use mathlib.Core.Path.{◌≡◌, sym, ◌∙◌, ap, subst}
+use mathlib.Core.Path.{◌≡◌, sym, ◌∙◌, ap}
 use mathlib.Core.Bool.{Bool, true}
 use mathlib.Core.List.{List, [], map, reverse, reverse-reverse}
 use lib.ListN.{length, get_or, take, length-take, length-map, get_or-map}

@@ -58,8 +58,8 @@ fn copy(from: &[u32], n: usize, to: &mut [u32])
     to[..n].copy_from_slice(&from[..n]);
 }
 
-// The bindings of a log and a carried list. The rows and the list come apart, since the language has one lifetime for all that a struct lends: tried
-// with a Carried that the caller makes, and it is refused.
+// The bindings of a log and a carried list. A function of its own, since the language has one lifetime for all that a struct lends: tried in `fill`,
+// and what the carried list has afterwards was not known.
 fn bind(
     rows: Rows,
     list: &[u32],

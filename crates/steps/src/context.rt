@@ -85,7 +85,7 @@ impl Context<'_> {
     }
 }
 
-// "Prop other than `id`"
+// The settings of a property's parts: "Prop other than `id`"
 pub fn property_settings(ident: Option<u32>, x: u32) -> Settings
     ensures { pair_of result ≡ both (cond (is_the x ident) general property) general }
 {
@@ -105,7 +105,7 @@ fn two_settings(k: u32) -> Settings
     Settings::all(Setting::General)
 }
 
-// "Operators 0 to 5 and 8 to 11 set arithmetic"
+// The settings of a binary operator's parts: "Operators 0 to 5 and 8 to 11 set arithmetic"
 #[tactic(auto, using(std::proofs::lemmas::Bool::Decides::nat_tests), unfolding(semantics::specs::Kinds::is_arithmetic))]
 pub fn operator_settings(o: u32) -> Settings
     ensures { pair_of result ≡ both (cond (is_arithmetic o) arithmetic general) (cond (is_arithmetic o) arithmetic general) }
