@@ -21,6 +21,8 @@ fn sheet<R: Read, W: Write>(input: &mut R, out: &mut W, n: usize) -> io::Result<
 fn main(rt: HostRuntime) -> io::Result<()> {
     let mut input = rt.stdin();
     let mut out = rt.stdout();
+    // A loop until the input ends has no measure: it is bounded. It stands in `refusals` and `vectors` too: a function over a closure would be
+    // longer, by what it asks and promises of the closure.
     for _ in 0..u32::MAX {
         let Some(n) = read_length(&mut input)? else {
             return Ok(());

@@ -26,6 +26,7 @@ fn check_into(s: &[u8], lists: &mut Lists<u32>, records: &mut [Finding]) -> Resu
     ensures answers { answered result ≡ answer_for true s.now (lent_with (lent lists.old) records.old) }
     ensures leaves { records.new ≡ (left_for true s.now (lent_with (lent lists.old) records.old)).findings }
 {
+    // Field by field: what a method's result borrows from a field isn't known afterwards.
     let mut with_records = Lists {
         scopes: lists.scopes,
         bindings: lists.bindings,
@@ -59,7 +60,7 @@ fn markers(flat: &[u32], from: usize) -> usize {
         .count()
 }
 
-// A check call with a list of n records.
+// A check call with a list of n records. (`show` makes the same five arrays: a struct of `checker` would have to own them for both.)
 fn report<W: Write>(out: &mut W, s: &[u8], n: usize) -> io::Result<()>
     requires { n ≤ 2048 }
 {

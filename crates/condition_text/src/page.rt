@@ -1,4 +1,5 @@
-// Lent bytes that a text is written into, as far as there is room, which the library's printing does not do.
+// Lent bytes that a text is written into, and where it ends so far. A writer of its own: each text is asked to fit, which the library's printing
+// does not ask; `texts` writes by position, and its text's end is no field.
 ghost use Rattle.std.specs.Prelude.{◌≤◌, length};
 
 use words::put_decimal;

@@ -1,5 +1,5 @@
 // The listing of a sheet: its findings as text, a line each, at the front of lent bytes; or a refusal (1 to 8, 10), which alters none of
-// them. The sheet is read and walked once, with scratch that is sized to it.
+// them. The sheet is read and walked once, with scratch that is sized to it. No heap: scratch is one array, cut into the lists.
 #![tactic(auto)]
 
 ghost use Rattle.std.specs.Prelude.{◌≡◌, not, ◌+◌, ◌*◌, ◌^◌, ◌<◌, ◌≤◌, eqb, length};
@@ -19,7 +19,7 @@ use words::count;
 // How many entries a list may need.
 const ENTRIES: u32 = 2048;
 
-// Scratch for so many words: sixteen for each of them, and 8 besides.
+// Scratch for so many words: sixteen for each of them, and 8 besides. A const for each: the language computes no const argument.
 const FOR_32: usize = 32 * 16 + 8;
 
 const FOR_64: usize = 64 * 16 + 8;

@@ -4,5 +4,5 @@
 use std::io;
 
 fn main(rt: HostRuntime) -> io::Result<()> {
-    show::show_input(&mut rt.stdin(), &mut rt.stdout(), false)
+    show::show_input(&mut rt.stdin(), &mut rt.stdout())
 }

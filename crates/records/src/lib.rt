@@ -1,4 +1,5 @@
-// The check call with its findings in a lent list of finding records: the core's flat findings are stored one by one.
+// The check call with its findings in a lent list of finding records: the core's flat findings are stored one by one. No heap: they stand in an
+// array of the largest size.
 #![tactic(auto)]
 
 ghost use Rattle.std.specs.Prelude.{◌≡◌};
@@ -16,6 +17,7 @@ pub fn check(s: &[u8], warns: bool, lists: &mut Lists<Finding>) -> Result<Counts
     ensures leaves { lent lists.new ≡ left_for warns s.now (lent lists.old) }
 {
     let mut flat = [0u32; 12288];
+    // Field by field: what a method's result borrows from a field isn't known afterwards.
     let mut core = Lists {
         scopes: lists.scopes,
         bindings: lists.bindings,

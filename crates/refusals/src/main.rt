@@ -27,6 +27,7 @@ fn sheet_line<R: Read, W: Write>(input: &mut R, out: &mut W, n: usize) -> io::Re
 fn main(rt: HostRuntime) -> io::Result<()> {
     let mut input = rt.stdin();
     let mut out = rt.stdout();
+    // A loop until the input ends has no measure: it is bounded. (As in `answers`, which says why it is no function over a closure.)
     for _ in 0..u32::MAX {
         let Some(n) = read_length(&mut input)? else {
             return Ok(());

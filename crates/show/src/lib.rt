@@ -4,7 +4,7 @@
 
 mod lists;
 
-ghost use Rattle.std.specs.Prelude.{◌≡◌, false, take, IfSome, OnOk};
+ghost use Rattle.std.specs.Prelude.{take, IfSome, OnOk};
 ghost use Rattle.std.specs.Io.KnownBytes.{Appends};
 ghost use Rattle.show.specs.Printed.{printed};
 
@@ -22,7 +22,7 @@ pub fn show_listing<W: Write>(out: &mut W, s: &[u8]) -> io::Result<()>
     let mut page = [0u8; 65536];
     match listing(s, true, &mut page) {
         Ok(n) => out.write_all(&page[..n]),
-        // The words are written here: a refusal's Display promises no text.
+        // The words are written here: a refusal's Display promises no text, as it has no `output`.
         Err(refusal) => write!(out, "refused {}\n", u32::from(refusal)),
     }
 }
@@ -33,16 +33,22 @@ pub fn show<W: Write>(out: &mut W, s: &[u8]) -> io::Result<()> {
     show_lists(out, s)
 }
 
-// The sheet on a reader: its listing, and its lists too if they are asked for. There is room for one byte more than a sheet may have, so
-// that a longer input is too long.
-pub fn show_input<R: Read, W: Write>(input: &mut R, out: &mut W, lists: bool) -> io::Result<()>
-    ensures { lists ≡ false → OnOk result (IfSome (R.remaining input.old)
+// There is room for one byte more than a sheet may have, so that a longer input is too long.
+const ROOM: usize = 8193;
+
+// The sheet on a reader: its listing.
+pub fn show_input<R: Read, W: Write>(input: &mut R, out: &mut W) -> io::Result<()>
+    ensures { OnOk result (IfSome (R.remaining input.old)
         (λ xs. Appends (W.contents out.old) (W.contents out.new) (printed (take 8193 xs)))) }
 {
-    let mut room = [0u8; 8193];
+    let mut room = [0u8; ROOM];
     let n = read_full(input, &mut room)?;
-    if lists {
-        return show(out, &room[..n]);
-    }
     show_listing(out, &room[..n])
+}
+
+// Its listing, then its lists. A function of its own: of a function that is handed in, the listing's promise would have to be asked.
+pub fn show_lists_input<R: Read, W: Write>(input: &mut R, out: &mut W) -> io::Result<()> {
+    let mut room = [0u8; ROOM];
+    let n = read_full(input, &mut room)?;
+    show(out, &room[..n])
 }

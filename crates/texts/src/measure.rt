@@ -1,4 +1,5 @@
-// How long a text is, before it is written. A number is the length of a text's fixed pieces, which stand once, where they are laid.
+// How long a text is, before it is written. A number is the length of a text's fixed pieces, which stand once, where they are laid: they are
+// laid inline, and their lengths are not known before.
 ghost use Rattle.std.specs.Prelude.{◌≡◌, length};
 ghost use Rattle.texts.specs.Texts.{text_of};
 

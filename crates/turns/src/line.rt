@@ -33,7 +33,7 @@ fn number(text: &[u8]) -> Option<u32>
     if *first != b'0' {
         return value(text);
     }
-    if others.is_empty() { Some(0) } else { None }
+    others.is_empty().then_some(0)
 }
 
 // Where the first blank stands.

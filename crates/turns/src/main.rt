@@ -81,6 +81,7 @@ fn main(rt: HostRuntime) -> io::Result<()> {
     let mut out = rt.stdout();
     let mut turns = Turns::new();
     let mut input = [0; 4096];
+    // A loop until the input ends has no measure: it is bounded.
     for _ in 0..u64::MAX {
         let got = from.read(&mut input)?;
         if got == 0 {

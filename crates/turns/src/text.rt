@@ -1,4 +1,4 @@
-// A text in fixed memory.
+// A text in fixed memory, with bytes of its own: what `texts` and `condition_text` write goes into lent bytes.
 ghost use Rattle.std.specs.Prelude.{◌≡◌, ℕ, ◌+◌, ◌≤◌, List, [], ◌++◌, length, take};
 
 use std::marker::Model;

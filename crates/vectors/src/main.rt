@@ -31,6 +31,7 @@ fn string<R: Read, W: Write>(input: &mut R, out: &mut W, n: usize) -> io::Result
 fn main(rt: HostRuntime) -> io::Result<()> {
     let mut input = rt.stdin();
     let mut out = rt.stdout();
+    // A loop until the input ends has no measure: it is bounded. (As in `answers`, which says why it is no function over a closure.)
     for _ in 0..4096 {
         let Some(n) = read_length(&mut input)? else {
             return Ok(());

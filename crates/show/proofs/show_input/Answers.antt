@@ -12,6 +12,6 @@ read_front (Ok u) None Q f k t q = tt
 read_front (Ok u) (Some xs) Q f k t q = subst Q (t ∙ f ∙ ap (λ m. take m xs) k) q
 
 pub returns : goal.returns
-returns g c = λ no. read_front c.show_listing.result (g.R.Read.remaining c.args.input.now)
+returns g c = read_front c.show_listing.result (g.R.Read.remaining c.args.input.now)
     (λ s. Appends (g.W.Write.contents c.args.out.now) (g.W.Write.contents c.show_listing.new.out) (printed s))
     c.in_ok-n.ensures.front c.read_full.auto.room refl c.show_listing.ensures
