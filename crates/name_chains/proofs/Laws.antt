@@ -7,15 +7,13 @@ use native.Mathlib.Nat.{mod-lt}
 use mathlib.Core.Path.{◌≡◌, refl, ap, sym, ◌∙◌}
 use mathlib.Core.Bool.{Bool, true, false, cond, not, ◌&&◌, ◌||◌}
 use mathlib.Core.List.{List, [], ◌∷◌, ◌++◌, map-append}
-use Rattle.std.specs.Simd.{first_chunks}
-use Rattle.std.specs.Prelude.{map, ◌/◌, take, drop}
+use Rattle.std.specs.Prelude.{map, take, drop}
 use Rattle.std.proofs.Common.{add-one}
 use Rattle.std.proofs.lemmas.List.{take_all}
 use Rattle.words.proofs.Words.{drop-word, drop-none, word_of, words_chunks}
 use Rattle.std.proofs.Math.ListN.{drop_of_length-le}
 use Rattle.std.proofs.Math.Seq.{drop-cons}
 use Rattle.tables.specs.Name.{name_at}
-use Rattle.words.specs.Words.{words, le32}
 use lib.ListN.{length, get_or, set, length-set}
 use lib.Seq.{get_or-take, length-take-le, take-suc}
 use Rattle.tables.specs.Distinct.{same_bytes, name_in, fresh_after}
