@@ -1,15 +1,15 @@
 -- Laws of what is stored in lists: words copied to a place are stored there one by one, and where a flat list begins with a list of
--- findings, the records that `into` stores are theirs.
+-- findings, the records that `into` stores are theirs; what is stored in a list's front is stored in the list (`into-front`).
 use mathlib.Core.Path.{◌≡◌, refl, sym, ap, ◌∙◌}
 use Prim.Native.Nat.{ℕ, zero, suc, ◌+◌, ◌*◌, ◌<◌, ◌≤◌}
 use native.Mathlib.Nat.{not-suc-le-zero, le_of_suc-le-suc, le_of_lt, le_refl}
 use native.Mathlib.Omega.{arith}
 use mathlib.Core.List.{List, [], ◌∷◌, ◌++◌, map, flat_map, append_assoc}
-use lib.ListN.{length, get_or, set, take, drop, length-map}
+use lib.ListN.{length, get_or, set, take, drop, length-map, length-set, take-append-drop}
 use borrow.Rule.Slice.PartMut.{put_mid}
 use Rattle.std.proofs.lemmas.Slice.{put_mid-paste}
 use Rattle.std.proofs.lemmas.List.Edits.{paste_all}
-use lib.Seq.{sets, sets-eq, length-take-le, take-length, take-suc, drop-cons, append_snoc, set_at}
+use lib.Seq.{sets, sets-eq, length-take-le, take-length, take-suc, drop-cons, append_snoc, set_at, set-append_left}
 use Rattle.semantics.specs.Log.{finding}
 use Rattle.semantics.specs.Log as log
 use Rattle.finding.specs.Flat.{finding_words}
@@ -21,6 +21,20 @@ pub copied-sets : (at k : ℕ) (l ys vs : List ℕ) → ys ≡ vs → k ≡ leng
 copied-sets at k l ys vs e n room =
     let long : at + length vs ≤ length l = omega arith in
     put_mid-paste at k l ys vs k e refl n ∙ paste_all l at vs k n ∙ rw n (sym (rw append_assoc at (sets-eq vs l at long)))
+
+-- what is stored in the front of a list is stored in the list
+length_into : (fs : List Finding) (flat : List ℕ) (n : ℕ) → length (into fs flat n) ≡ length fs
+unfolding into
+length_into fs flat zero = refl
+length_into fs flat (suc n) = simp length-set (length_into fs flat n)
+
+pub into-front : (fs : List Finding) (flat : List ℕ) (n k : ℕ) → k ≤ n → n ≤ length fs → into (take n fs) flat k ++ drop n fs ≡ into fs flat k
+unfolding into
+into-front fs flat n zero h l = take-append-drop n fs
+into-front fs flat n (suc k) h l =
+    let front = into (take n fs) flat k in
+    sym (set-append_left front (drop n fs) k (record_at flat k) (omega (arith, length_into (take n fs) flat k, length-take-le n fs l)))
+    ∙ ap (λ (t : List Finding). set t k (record_at flat k)) (into-front fs flat n k (omega arith) l)
 
 -- the record after six words is the record of what follows them
 module _ (a b c d e f : ℕ) (l : List ℕ) where

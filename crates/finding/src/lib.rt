@@ -65,19 +65,18 @@ pub fn words_at(flat: &mut [u32], i: usize, f: Finding)
     flat[at..at + 6].copy_from_slice(&words);
 }
 
-// The first `count` entries become the flat list's records, and the rest is left as it was. They are stored by their place, since what is written
-// through `iter_mut` is not known after the loop.
+// The first `count` entries become the flat list's records, and the rest is left as it was.
 #[tactic(auto, unfolding(crate::specs::Records::into))]
 pub fn store_all(list: &mut [Finding], flat: &[u32], count: usize)
     requires { (count ≤ length list.old) × (count * 6 ≤ length flat.now) }
     ensures { list.new ≡ into list.old flat.now count }
 {
-    for i in 0..count {
-        list[i] = record_at(flat, i);
+    for (i, record) in list[..count].iter_mut().enumerate() {
+        *record = record_at(flat, i);
     }
 }
 
-// The other way: the flat list's first `count` records become those of the list.
+// The other way: the flat list's first `count` records become those of the list. By place: a record's words are stored by theirs.
 #[tactic(auto, unfolding(crate::specs::Records::out_of))]
 pub fn load_all(flat: &mut [u32], list: &[Finding], count: usize)
     requires { (count * 6 ≤ length flat.old) × (count ≤ length list.now) }

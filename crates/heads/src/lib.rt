@@ -149,7 +149,7 @@ impl Section<'_> {
         Err(Refusal::Word)
     }
 
-    // Any word.
+    // Any word. A span is any word and then one no less, at each place: with one reader for both, the search finds no proof of a binding's.
     pub fn any_word(&self, at: usize) -> Result<(u32, usize), Refusal>
         requires { at ≤ length (words_of self.now) }
         ensures one { one_on at result }

@@ -7,15 +7,13 @@ use native.Mathlib.Nat.{mod-lt}
 use mathlib.Core.Path.{◌≡◌, refl, ap, sym, ◌∙◌}
 use mathlib.Core.Bool.{Bool, true, false, cond, not, ◌&&◌, ◌||◌}
 use mathlib.Core.List.{List, [], ◌∷◌, ◌++◌, map-append}
-use Rattle.std.specs.Simd.{first_chunks}
-use Rattle.std.specs.Prelude.{map, ◌/◌, take, drop}
+use Rattle.std.specs.Prelude.{map, take, drop}
 use Rattle.std.proofs.Common.{add-one}
 use Rattle.std.proofs.lemmas.List.{take_all}
-use Rattle.words.proofs.Words.{drop-word, drop-none}
+use Rattle.words.proofs.Words.{drop-word, drop-none, word_of, words_chunks}
 use Rattle.std.proofs.Math.ListN.{drop_of_length-le}
 use Rattle.std.proofs.Math.Seq.{drop-cons}
 use Rattle.tables.specs.Name.{name_at}
-use Rattle.words.specs.Words.{words, le32}
 use lib.ListN.{length, get_or, set, length-set}
 use lib.Seq.{get_or-take, length-take-le, take-suc}
 use Rattle.tables.specs.Distinct.{same_bytes, name_in, fresh_after}
@@ -89,20 +87,6 @@ first-hung {slot} {m} {n} {chains} s places h w =
         prevs = λ i l. w.chained.prevs i l ∙ rw (same i l) (seek-alike _ _ (slot_in slot s (take n places) i) i (λ j k. same j (omega arith)));
       };
     })
-
--- the words of a text, four bytes each
-abbrev pub word_of : List ℕ → ℕ
-word_of b = le32 (get_or b 0 0) (get_or b 1 0) (get_or b 2 0) (get_or b 3 0)
-
-pub words_chunks : (s : List ℕ) → map word_of (first_chunks 4 (length s / 4) s) ≡ words s
-unfolding words
-words_chunks [] = refl
-words_chunks (a ∷ []) = refl
-words_chunks (a ∷ (b ∷ [])) = refl
-words_chunks (a ∷ (b ∷ (c ∷ []))) = refl
-words_chunks (a ∷ (b ∷ (c ∷ (d ∷ s)))) =
-    let more : length (a ∷ (b ∷ (c ∷ (d ∷ s)))) / 4 ≡ suc (length s / 4) = omega arith in
-    rw more (ap (◌∷◌ (le32 a b c d)) (words_chunks s))
 
 -- one name more
 pub one_more : {slot : List ℕ → ℕ} {s places : List ℕ} {m n x : ℕ} {old new : List ℕ} → Hung slot s places m n old → x ≡ slot_in slot s places n → Hangs m x n old new → Hung slot s places m (suc n) new

@@ -9,36 +9,24 @@ use std::fmt;
 // A cause of refusal, in the order in which the causes are sought.
 #[derive(Clone, Copy, Debug, PartialEq, Eq)]
 pub enum Refusal {
-    Size,
-    Places,
-    Names,
-    Bindings,
-    Word,
-    Depth,
-    Unbound,
-    Entries,
-    Asked,
-    Page,
-    Room,
+    Size = 1,
+    Places = 2,
+    Names = 3,
+    Bindings = 4,
+    Word = 5,
+    Depth = 6,
+    Unbound = 7,
+    Entries = 8,
+    Asked = 9,
+    Page = 10,
+    Room = 12,
 }
 
 impl From<Refusal> for u32 {
     ghost from_gives = { λ refusal n. n ≡ number_of refusal };
 
     fn from(refusal: Refusal) -> u32 {
-        match refusal {
-            Refusal::Size => 1,
-            Refusal::Places => 2,
-            Refusal::Names => 3,
-            Refusal::Bindings => 4,
-            Refusal::Word => 5,
-            Refusal::Depth => 6,
-            Refusal::Unbound => 7,
-            Refusal::Entries => 8,
-            Refusal::Asked => 9,
-            Refusal::Page => 10,
-            Refusal::Room => 12,
-        }
+        refusal as u32
     }
 }
 

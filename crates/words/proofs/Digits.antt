@@ -1,8 +1,8 @@
 -- Laws of a number in decimal: its width digit by digit, and its digits written from the last to the first.
-use Prim.Native.Nat.{ℕ, zero, suc, ◌+◌, ◌-◌, ◌/◌, ◌%◌, ◌^◌, ◌<◌, ◌≤◌}
+use Prim.Native.Nat.{ℕ, zero, suc, ◌+◌, ◌-◌, ◌*◌, ◌/◌, ◌%◌, ◌^◌, ◌<◌, ◌≤◌}
 use native.Mathlib.Numerals.{sub-one}
 use native.Mathlib.Omega.{arith}
-use mathlib.Core.Path.{◌≡◌, refl}
+use mathlib.Core.Path.{◌≡◌, refl, ap, ◌∙◌}
 use mathlib.Core.Bool.{Bool, true, false, cond}
 use mathlib.Core.List.{List, ◌++◌}
 use borrow.Author.Tests.{lt-ltb, le-ltb}
@@ -29,7 +29,10 @@ unfolding width width_within
 width-more zero h = omega arith
 width-more (suc n) h = rw (le-ltb (suc n) 10 h, fuel n (suc n / 10) (suc n / 10) (omega arith) (omega arith))
 
-pub ruleset widths = (width_one, width-more)
+-- one digit more than the greatest power of ten within n
+pub width-power : (k n : ℕ) → 10 ^ k ≤ n → n < 10 * 10 ^ k → width n ≡ suc k
+width-power zero n l h = width_one n (omega arith)
+width-power (suc k) n l h = width-more n (omega arith) ∙ ap suc (width-power k (n / 10) (omega arith) (omega arith))
 
 more-le : (b : Bool) (w k : ℕ) → w ≤ k → cond b 1 (suc w) ≤ suc k
 more-le true w k h = omega arith

@@ -4,18 +4,10 @@ ghost use Rattle.words.specs.Decimal.{decimal, width};
 ghost use Rattle.words.specs.Front.{put_front, put_length};
 
 // How many digits n has.
-#[tactic(auto, using(crate::proofs::Digits::widths))]
 pub fn decimal_width(n: u32) -> usize
     ensures { result ≡ width n }
 {
-    let mut m = n;
-    let mut k = 1;
-    // A `while`: it counts no index.
-    while 10 <= m {
-        m /= 10;
-        k += 1;
-    }
-    k
+    n.checked_ilog10().map_or(1, |k| k as usize + 1)
 }
 
 // Writes the digits of n at the front of out and answers how many; 0, and out as it was, where they don't fit: callers go on from there, and

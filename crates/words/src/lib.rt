@@ -34,9 +34,8 @@ pub fn count(s: &[u8]) -> usize
 pub fn word(s: &[u8], at: usize) -> u32
     ensures { result ≡ get_or (words s.now) at 0 }
 {
-    if at < s.len() / 4 {
-        let k = at * 4;
-        return join(s[k], s[k + 1], s[k + 2], s[k + 3]);
-    }
-    0
+    s.as_chunks::<4>()
+        .0
+        .get(at)
+        .map_or(0, |bytes| u32::from_le_bytes(*bytes))
 }

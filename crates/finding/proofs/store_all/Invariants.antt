@@ -1,7 +1,7 @@
--- The loop's invariant: the list is the one that was lent, with its first i records stored.
-use Rattle.std.proofs.Common.{◌≡◌}
+-- The loop's invariant: the records are those that were lent, with the first i stored.
+use Rattle.std.proofs.Common.{◌≡◌, take}
 use Rattle.finding.specs.Records.{into}
 use Rattle.finding.proofs.store_all.Given as goal
 
 abbrev pub invariant-loop-i : goal.invariant-loop-i
-invariant-loop-i l = l.list ≡ into l.fn.list l.flat l.i
+invariant-loop-i l = l.record-items ≡ into (take l.fn.count l.fn.list) l.flat l.i

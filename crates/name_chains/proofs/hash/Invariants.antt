@@ -2,7 +2,7 @@
 use Rattle.std.proofs.Common.{◌≡◌, map, drop}
 use Rattle.words.specs.Words.{words}
 use Rattle.name_chains.specs.Slot.{hash_from, hash_of}
-use Rattle.name_chains.proofs.Laws.{word_of}
+use Rattle.words.proofs.Words.{word_of}
 use Rattle.name_chains.proofs.hash.Given as goal
 
 abbrev pub invariant-loop-bytes : goal.invariant-loop-bytes
