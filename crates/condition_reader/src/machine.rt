@@ -6,7 +6,7 @@ ghost use Rattle.std.specs.Prelude.{◌+◌, ◌*◌, ◌^◌, ◌<◌, ◌≤�
 use condition::{BINARY, UNARY, binary_level, unary_level};
 use condition_lexer::Token;
 
-// The code of an atom's entry.
+// The code of an atom's entry. In a sheet's words none says so, as BINARY and UNARY do: it stands here alone.
 const ATOM: u64 = 0;
 
 // How many operators wait, at which word the entries begin, and how deep in brackets the text stands that is left.
