@@ -33,22 +33,12 @@ pub fn show<W: Write>(out: &mut W, s: &[u8]) -> io::Result<()> {
     show_lists(out, s)
 }
 
-// There is room for one byte more than a sheet may have, so that a longer input is too long.
-const ROOM: usize = 8193;
-
-// The sheet on a reader: its listing.
+// The sheet on a reader: its listing. There is room for one byte more than a sheet may have, so that a longer input is too long.
 pub fn show_input<R: Read, W: Write>(input: &mut R, out: &mut W) -> io::Result<()>
     ensures { OnOk result (IfSome (R.remaining input.old)
         (λ xs. Appends (W.contents out.old) (W.contents out.new) (printed (take 8193 xs)))) }
 {
-    let mut room = [0u8; ROOM];
+    let mut room = [0u8; 8193];
     let n = read_full(input, &mut room)?;
     show_listing(out, &room[..n])
-}
-
-// Its listing, then its lists. A function of its own: of a function that is handed in, the listing's promise would have to be asked.
-pub fn show_lists_input<R: Read, W: Write>(input: &mut R, out: &mut W) -> io::Result<()> {
-    let mut room = [0u8; ROOM];
-    let n = read_full(input, &mut room)?;
-    show(out, &room[..n])
 }
