@@ -17,7 +17,6 @@ fn sheet<R: Read, W: Write>(input: &mut R, out: &mut W, n: usize) -> io::Result<
     skip(input, n - front)
 }
 
-// The programs that read a row of lengths have this loop each: a shared one would take a closure that is lent reader and writer.
 fn main(rt: HostRuntime) -> io::Result<()> {
     let mut input = rt.stdin();
     let mut out = rt.stdout();

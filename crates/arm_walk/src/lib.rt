@@ -39,13 +39,14 @@ fn take_carried(walk: &Walk, carried: &mut [u32], from: u32)
         return;
     }
     let barrier = walk.cur - 1;
+    // By index: an entry of the stack is stored by its place.
     for i in 0..walk.visible.top {
         let (name, variable) = walk.visible.entry(i);
         put_carried(carried, from + i, barrier, name, variable);
     }
 }
 
-// n clauses.
+// n clauses. A loop of its own: one over a closure would need a contract over every state that it leaves.
 pub fn walk_clauses(
     walk: &mut Walk,
     context: &Context,
@@ -94,7 +95,7 @@ fn walk_arm(
     walk_clauses(walk, context, held, marks, carried, n, mode)
 }
 
-// n arms.
+// n arms. A loop of its own, as in walk_clauses.
 pub fn walk_arms(
     walk: &mut Walk,
     context: &Context,

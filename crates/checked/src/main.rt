@@ -60,7 +60,8 @@ fn markers(flat: &[u32], from: usize) -> usize {
         .count()
 }
 
-// A check call with a list of n records. (`show` makes the same five arrays: a struct of `checker` would have to own them for both.)
+// A check call with a list of n records. (`show` makes the same five arrays: a struct that owned them would lend them by a method, and
+// what a method's result borrows from a field isn't known afterwards.)
 fn report<W: Write>(out: &mut W, s: &[u8], n: usize) -> io::Result<()>
     requires { n ≤ 2048 }
 {

@@ -203,7 +203,8 @@ fn check_in(
     Ok(lists.fill(s, index, scratch))
 }
 
-// With scratch for sheets of up to N words: V, F and H are the lengths that follow from N, which the language doesn't compute of it. One array, cut
+// With scratch for sheets of up to N words: V, F and H are the lengths that follow from N, which the language doesn't compute of it. No
+// heap: scratch is arrays. One array, cut
 // as crate listing cuts its own, would need one length, but laws of the zeros in each part, which are those of listing once more.
 fn check_sized<const N: usize, const V: usize, const F: usize, const H: usize>(
     s: &[u8],

@@ -127,7 +127,7 @@ fn walk_match(walk: &mut Walk, context: &Context, head: Head, mode: Mode) -> Res
 }
 
 // What follows the kind and the span of a clause.
-#[tactic(auto, unfolding(fused::specs::Clauses::body_go, fused::specs::Clauses::opening_go, semantics::specs::World::opens))]
+#[tactic(auto, using(return_walk::proofs::Returned::keys_in), unfolding(fused::specs::Clauses::body_go, fused::specs::Clauses::opening_go, semantics::specs::World::opens))]
 fn walk_body(
     walk: &mut Walk,
     context: &Context,

@@ -50,7 +50,7 @@ impl Item for Yield {
     }
 }
 
-// A count, and as many expressions.
+// A count, and as many expressions. Not by `counted`: flat reads a row whole, with the parts of its plain heads.
 pub fn counted_exprs(section: &Section, at: usize) -> Result<usize, Refusal>
     requires { at ≤ length (words_of section.now) }
     ensures { Reads (words_of section.now) at (counted_exprs (tables_of section.now)) result }
@@ -59,7 +59,7 @@ pub fn counted_exprs(section: &Section, at: usize) -> Result<usize, Refusal>
     read_kids(section, at, MAX_DEPTH, n as usize)
 }
 
-// A count, and as many marks of a kind with their expressions.
+// A count, and as many marks of a kind with their expressions. Not by `counted`: a mark's reader is told the kind, and an Item's is told nothing.
 pub fn counted_marks(section: &Section, at: usize, kind: MarkKind) -> Result<usize, Refusal>
     requires { at ≤ length (words_of section.now) }
     ensures { Reads (words_of section.now) at (counted_marks (tables_of section.now) (kind_of kind)) result }

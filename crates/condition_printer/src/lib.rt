@@ -16,7 +16,7 @@ use refusal::Refusal;
 use sheet::{Places, check_both, find_places, open};
 
 // Room for 15 bytes for each word of the longest sheet, which no text exceeds.
-const ROOM: usize = 15 * 2048;
+pub const ROOM: usize = 15 * 2048;
 
 // Where the sections stand, or which of the causes 1 to 6 the sheet has. Only where a variable has no binding, head and arms are read again,
 // with binders not looked up.
@@ -43,7 +43,7 @@ fn print_all(s: &[u8], p: Places, page: &mut Page<'_>)
     print_arms(&arms, p.tail, p.arms, page);
 }
 
-// The text is made first, so that a page that is too short stays as it was.
+// The text is made first, in an array of the largest size (no heap), so that a page that is too short stays as it was.
 fn show(s: &[u8], p: Places, page: &mut [u8]) -> Result<usize, Refusal>
     requires { accepted p ≡ opened_for (read_conditions s.now) s.now }
     ensures answer { sheet_of result ≡ conditions_as (read_conditions s.now) (length page.old) }

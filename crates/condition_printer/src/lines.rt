@@ -1,5 +1,6 @@
 // The lines of clauses and arms, over the sheet's words in place: a condition where a clause has one, and a line feed. Clauses and arms have a
-// loop each, as they have a definition and a law each.
+// loop each, as they have a definition and a law each. A section and a position go as in crate heads, which says why. Ready stands in each contract:
+// it is a fact of a reader, a position and a page together, and the room on the page falls with each text.
 ghost use Rattle.std.specs.Prelude.{◌≡◌, true, ◌≤◌, length, drop, get_or};
 ghost use Rattle.heads.specs.Got.{many, is_ok};
 ghost use Rattle.heads.specs.Answer.{words_of, tables_of};

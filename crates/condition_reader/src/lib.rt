@@ -48,7 +48,7 @@ fn fill(text: &[u8], entries: usize, list: &mut [u64])
 }
 
 // Reads a condition's text into the front of a lent list, two words an entry, and answers how many entries there are, or none where the text
-// doesn't read. A list with fewer entries than the text has bytes is refused.
+// doesn't read. A list with fewer entries than the text has bytes is refused. It is flat lent words, as other lists are: no heap.
 pub fn read_condition(text: &[u8], list: &mut [u64]) -> Result<Option<usize>, Refusal>
     ensures { ReadAs text.now list.old list.new result }
 {

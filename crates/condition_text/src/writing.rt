@@ -1,4 +1,5 @@
 // A condition printed over the sheet's words in place. It calls itself on each operand with its level, and the expression's length falls.
+// A section and a position go as in crate heads, which says why.
 ghost use Rattle.std.specs.Prelude.{length, drop};
 ghost use Rattle.heads.specs.Answer.{words_of, tables_of};
 ghost use Rattle.expr.specs.Read.{reader_of};

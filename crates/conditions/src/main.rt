@@ -2,17 +2,15 @@
 // No heap: what is read and written goes through arrays of the largest size.
 #![tactic(auto)]
 
-use condition_printer::conditions;
+use condition_printer::{ROOM, conditions};
 use std::io;
 use std::io::Write;
 
-// A page has 15 bytes for each word of the longest sheet, which no text exceeds. A byte more than the longest sheet shows a longer one.
-const PAGE: usize = 15 * 2048;
-
-const ROOM: usize = 4 * 2048 + 1;
+// A byte more than the longest sheet shows a longer one.
+const BYTES: usize = 4 * 2048 + 1;
 
 fn show<W: Write>(out: &mut W, s: &[u8]) -> io::Result<()> {
-    let mut page = [0u8; PAGE];
+    let mut page = [0u8; ROOM];
     match conditions(s, &mut page) {
         Ok(n) => out.write_all(&page[..n]),
         Err(refusal) => writeln!(out, "{refusal}"),
@@ -20,7 +18,7 @@ fn show<W: Write>(out: &mut W, s: &[u8]) -> io::Result<()> {
 }
 
 fn main(rt: HostRuntime) -> io::Result<()> {
-    let mut room = [0u8; ROOM];
+    let mut room = [0u8; BYTES];
     let n = streams::read_full(&mut rt.stdin(), &mut room)?;
     show(&mut rt.stdout(), &room[..n])
 }

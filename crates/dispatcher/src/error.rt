@@ -5,7 +5,8 @@ ghost use Rattle.dispatcher.specs.ErrorNumber.{number_of};
 use std::error::Error;
 use std::fmt;
 
-// There is no such queue, or it is full: each by its number.
+// There is no such queue, or it is full: each by its number. A type of its own beside refusal::Refusal: those are causes of sheets and texts, and an
+// add has these two alone.
 #[derive(Clone, Copy, Debug, PartialEq, Eq)]
 pub enum AddError {
     NoQueue = 13,

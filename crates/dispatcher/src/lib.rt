@@ -66,7 +66,8 @@ fn serve(words: &mut [u32; 577], q: usize) -> u32
     words[q * 16 + first as usize]
 }
 
-// Serves the next waiting queue after the one served last, going round. (A loop and no `find`: it is the definition's own look.)
+// Serves the next waiting queue after the one served last, going round. (A loop and no `find`: it turns as the definition does,
+// and how many were looked at is answered too.)
 pub fn take(words: &mut [u32; 577]) -> Taken
     ensures { Takes words.old words.new result }
 {

@@ -1,5 +1,6 @@
 // One entry more in a lent flat list: a carried name as the last, and a binding or an answer where the first making gives the place and the
-// last one the value. Kinds are numbers, as the lists have them.
+// last one the value. Kinds are numbers, as the lists have them. A list and its number of entries are two parameters, as in crate lists_fill, which
+// says why.
 #![tactic(auto)]
 
 ghost use Rattle.std.specs.Prelude.{◌≡◌, true, [], ◌∷◌, ◌+◌, ◌*◌, ◌≤◌, length};
@@ -29,7 +30,7 @@ pub struct Found {
 }
 
 // A lent list of bindings, how many are made in it, and the stamps that know of them: word 0 is the highest scope that binds + 1, or 0, and
-// word name + 1 is the same number where that scope binds the name.
+// word name + 1 is the same number where that scope binds the name. Numbers + 1, 0 for none, since they are lent words that are zero at first.
 #[derive(Drop)]
 pub struct Bindings<'a> {
     pub list: &'a mut [u32],
@@ -58,7 +59,7 @@ pub fn put_carried(out: &mut [u32], n: u32, barrier: u32, x: u32, v: u32)
     set_entry(out, i, [barrier, x, v]);
 }
 
-// The place of the first of m entries of W words that begins with a key, or m. By index: tried `position` over `as_chunks`, and nothing is known of a
+// The place of the first of m entries of W words that begins with a key, or m, and no None: there a new entry goes. By index: tried `position` over `as_chunks`, and nothing is known of a
 // closure over arrays of any length.
 fn place_of<const W: usize>(out: &[u32], m: usize, key: &[u32]) -> usize
     requires { m * W ≤ length out.now }
@@ -133,7 +134,8 @@ fn store_binding(out: &mut [u32], m: usize, i: usize, b: Binding) -> usize
 }
 
 impl Bindings<'_> {
-    // A binding put into the list, where it has room for it.
+    // A binding put into the list, where it has room for it. IsStill says that list and stamps are the lent ones still: a callee may exchange a field
+    // that is a `&mut`.
     pub fn put(&mut self, b: Binding)
         requires { Fits (kept self.old) }
         ensures still { IsStill self.old self.new }

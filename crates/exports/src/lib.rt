@@ -9,7 +9,7 @@ ghost use Rattle.exports.specs.Numbers.{flat, answer_by, left_by, checked_number
 use checker::{Lists, check_words};
 use scope::{lookup, scope_at_offset};
 
-// The lists of a sheet and their five counts: 256, or the refusal's number.
+// The lists of a sheet and their five counts: 256, or the refusal's number. Eight parameters: a list each, as C has them.
 #[unsafe(no_mangle)]
 pub extern "C" fn cenguatu_check(
     sheet: &[u8],
@@ -42,7 +42,7 @@ pub extern "C" fn cenguatu_check(
     }
 }
 
-// 256 and the variable, 0 for nothing, or the refusal's number.
+// 256 and the variable, 0 for nothing, or the refusal's number. Eight parameters: C gives each list with its count.
 #[unsafe(no_mangle)]
 pub extern "C" fn cenguatu_lookup(
     scopes: &[u32],
@@ -63,7 +63,7 @@ pub extern "C" fn cenguatu_lookup(
     }
 }
 
-// 256 and the scope, 0 for none, or the refusal's number.
+// 256 and the scope, 0 for none, or the refusal's number. The same match as in cenguatu_lookup, since each has a definition of its own.
 #[unsafe(no_mangle)]
 pub extern "C" fn cenguatu_scope_at_offset(scopes: &[u32], n: usize, o: u32) -> u64
     ensures { result ≡ offset_number (offset n scopes.now o) }

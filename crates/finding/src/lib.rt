@@ -5,7 +5,7 @@ ghost use Rattle.std.specs.Prelude.{◌≡◌, ◌+◌, ◌*◌, ◌≤◌, leng
 ghost use Rattle.std.proofs.lemmas.List.Edits.{sets};
 ghost use Rattle.finding.specs.Records.{six_at, record_at, words_of, into, out_of};
 
-// Code, span, name + 1 or 0, two details.
+// Code, span, name + 1 or 0, two details: the words as a list has them.
 #[derive(Clone, Copy, Debug, PartialEq, Eq)]
 pub struct Finding {
     pub code: u32,

@@ -1,4 +1,4 @@
-// The codes of heads, by bits of numbers as the definition's tables have them. A `const` array would be made anew at each use.
+// The codes of heads, by bits of numbers as the definition's tables have them.
 ghost use Rattle.std.specs.Prelude.{◌≡◌, true, false, ◌<◌};
 ghost use Rattle.std.specs.Option.{MatchOption};
 ghost use Rattle.flat.specs.Plain.{plain_codes, quiet_codes, word_codes, bit_of, has, counted, parts_of, is_out};

@@ -1,6 +1,6 @@
 // The heads of expressions and of a pattern's parts and elements, read in place: what a word must be, and which words belong to a
 // head. A section is a part of a sheet that ends where its words do; a position in it is a word's number. What reads takes a position and
-// answers what it read and the next position, and shares no cursor: after a refusal there is no next one, and readers in a row are a row of
+// answers what it read and the next position, each within the words, and shares no cursor: after a refusal there is no next one, and readers in a row are a row of
 // `let (x, at)`.
 #![tactic(auto, using(crate::proofs::Reading::steps), unfolding(crate::proofs::Reading::readers))]
 
@@ -277,7 +277,8 @@ impl Section<'_> {
         false
     }
 
-    // Whether a variable may be bound. A match, here and below: of a closure that calls a method on `self` no answer is known.
+    // Whether a variable may be bound. A match, here and below: tried with `is_none_or` over a closure that calls a method on `self`, and the proof
+    // didn't close.
     #[tactic(auto, unfolding(crate::specs::Answer::known_at))]
     pub fn knows(&self, v: u32) -> bool
         ensures { result ≡ (tables_of self.now).known v }

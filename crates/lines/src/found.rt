@@ -4,7 +4,7 @@ ghost use Rattle.std.specs.Prelude.{ℕ, ◌*◌, ◌^◌, ◌<◌, ◌≤◌, l
 use finding::{Finding, six_at};
 
 // So many findings, no more than a sheet has words, as flat words, six each: the first ones stand from the front of the words on, the others
-// from their end back.
+// from their end back. The words are the log's, which are lent (no heap), so front and count stand beside them.
 #[derive(Clone, Copy)]
 pub struct Found<'a> {
     pub words: &'a [u32],

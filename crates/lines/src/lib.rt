@@ -1,4 +1,5 @@
-// The lines of a listing. They are measured before the first byte is written.
+// The lines of a listing. They are measured before the first byte is written. Names and findings are two parameters: they come from two places, the
+// sheet and the log, and each definition here takes them apart.
 #![tactic(auto)]
 
 mod found;

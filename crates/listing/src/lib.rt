@@ -1,5 +1,6 @@
 // The listing of a sheet: its findings as text, a line each, at the front of lent bytes; or a refusal (1 to 8, 10), which alters none of
 // them. The sheet is read and walked once, with scratch that is sized to it. No heap: scratch is one array, cut into the lists.
+// Sheet, choice and page go down as they came, and each function hands on the same promise: they differ in scratch alone.
 #![tactic(auto)]
 
 ghost use Rattle.std.specs.Prelude.{◌≡◌, not, ◌+◌, ◌*◌, ◌^◌, ◌<◌, ◌≤◌, eqb, length};
@@ -34,7 +35,7 @@ const FOR_1024: usize = 1024 * 16 + 8;
 
 const FOR_2048: usize = 2048 * 16 + 8;
 
-// What was found, `said` of it by the name walk.
+// What was found, `said` of it by the name walk: words and counts as a Log has them, of which only these are read.
 fn found_in(words: &[u32], said: u32, told: u32) -> Found<'_>
     requires { (said + told ≤ 2048) × ((said + told) * 6 ≤ length words.now) }
     ensures { (result.words.now ≡ words.now) × ((result.front ≡ said) × (result.count ≡ said + told)) }

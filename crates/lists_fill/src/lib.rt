@@ -134,7 +134,7 @@ fn fill_findings(found: &[u32], n: usize, out: &mut [u32]) -> usize
 }
 
 // The parent's word of a Root that an event opens: the number + 1 of the WITH's barrier above it, or 0. That is the Root's own number too, since
-// a Root is opened right after its barrier.
+// a Root is opened right after its barrier. It stays the list's word, of which the definition takes parent_of.
 fn root_of(e: Logged) -> u32
     ensures { (id : ℕ → ℕ) → parent_of result ≡ barrier_in (said id e) }
 {
@@ -149,7 +149,8 @@ fn root_of(e: Logged) -> u32
     }
 }
 
-// The carried list of a sheet with its rows, and how many entries it has.
+// The carried list of a sheet with its rows, and how many entries it has. Ready is a fact of it, of how many entries are met and of the bindings
+// together, and no invariant of one.
 #[derive(Clone, Copy)]
 pub struct Carried<'a> {
     pub rows: Rows<'a>,
@@ -266,7 +267,8 @@ pub fn fill_recorded(log: &Log, uses: &[u32], out: &mut [u32]) -> usize
     m
 }
 
-// k findings of the kind walk, which stand at the back, after m that there are; how many there are then.
+// k findings of the kind walk, which stand at the back, after m that there are; how many there are then. From
+// the back as in lines::Found, which stands above the log and counts both ends as one row.
 fn append_findings(found: &[u32], k: usize, out: &mut [u32], m: usize) -> usize
     requires { (k * 6 ≤ length found.now) × ((m + k) * 6 ≤ length out.old) }
     ensures { Becomes k finding_words (after (told_in k found.now)) out.old out.new m result }

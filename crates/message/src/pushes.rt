@@ -6,7 +6,8 @@ use expr::Type;
 use tables::VarKind;
 use texts::Text;
 
-// What comes with a text: a name or none; detail two, the number of a kind or a type, from low to high, but one.
+// What comes with a text: a name or none; detail two, the number of a kind or a type, from low to high, but one. Where
+// nothing is barred, `but` is a number outside low to high: so there is one comparison and no case.
 #[derive(Clone, Copy)]
 pub struct Push {
     pub named: bool,

@@ -1,5 +1,6 @@
 // Whether names are distinct, by chains: names whose texts have the same slot hang together, and a name is compared only with those of its
-// chain. The lent words hold for each slot its newest name (its number + 1, or 0), then for each name the one before it in its chain. The
+// chain. The lent words hold for each slot its newest name (its number + 1, or 0), then for each name the one before it in its chain: numbers + 1 are what
+// is stored, since these are lent words and no heap. The
 // slot is a hash of the text with a multiplier made from the section, so which names share one differs from sheet to sheet. Only the time
 // rests on it, never the answer.
 #![tactic(auto)]

@@ -1,5 +1,6 @@
 // A sheet on standard input: its names by their index, a line each, up to the first index that is refused; then that refusal.
-// No heap: what is read and written goes through arrays of the largest size.
+// No heap: what is read and written goes through arrays of the largest size. Whether a name has a text and the text are two calls, as document 01
+// has them: this program shows both.
 #![tactic(auto)]
 
 use sheet::{check_name, name_text};

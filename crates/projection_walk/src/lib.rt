@@ -23,7 +23,8 @@ use refusal::Refusal;
 use steps::{Context, Mode, Setting, Settings, Walk};
 use walk::{walk_expr, walk_row};
 
-// A Var: used, and carried under its alias, or under the name of its row. A walk, a context and what belongs to this one projection: six parameters.
+// A Var: used, and carried under its alias, or under the name of its row. Six parameters: the walk, its context and its
+// mode, the pairs of the WITH, the alias and the variable of this projection.
 // A nested match: of what a closure under `or_else` returned a proof knows nothing here.
 fn carry_var(
     walk: &mut Walk,

@@ -23,7 +23,6 @@ fn sheet_line<R: Read, W: Write>(input: &mut R, out: &mut W, n: usize) -> io::Re
     Ok(true)
 }
 
-// The programs that read a row of lengths have this loop each: a shared one would take a closure that is lent reader and writer.
 fn main(rt: HostRuntime) -> io::Result<()> {
     let mut input = rt.stdin();
     let mut out = rt.stdout();

@@ -26,9 +26,9 @@ use Rattle.steps.specs.declared.context.Context.{Context}
 use Rattle.steps.proofs.Held.{lower, framed, frame-more, still-then}
 use Rattle.steps.proofs.Moved.{left-fits, left-frame, left-holds}
 use Rattle.walk.specs.Goes.{Walked, rest_in}
-use Rattle.clause_parts.specs.Passes.{Passes}
+use Rattle.clause_parts.specs.Passes.{Passes, Held, Clear}
 use Rattle.clause_parts.proofs.Cleared.{below-descends, cut_still, cut_fits, cut_holds, cut_at, names-step}
-use Rattle.return_walk.specs.Returns.{output_at, hushed_at, outside_at, return_at}
+use Rattle.return_walk.specs.Returns.{KeysIn, output_at, hushed_at, outside_at, return_at}
 
 -- ---- projections whose aliases nobody asks for
 module _ (P : List ℕ → Both → List ℕ → Got (Both × List ℕ)) (R : Go) (f : Both → Both) (same : (xs : List ℕ) (s : Both) (r : List ℕ) → bind (P xs s r) (λ x r2. ok (f x.0) r2) ≡ bind (R s r) (λ u r2. ok (f u) r2))
@@ -144,3 +144,8 @@ module _ {c : Context} {w w1 w2 : Walk} {a b : ℕ} (ready : Ready 3 c w) (x : S
                 };
           };
         }
+
+-- words that serve for sort keys serve without them
+pub keys_in : (b : Bool) {c : Context} {m : Mode} {held marks : List ℕ} → Held c held m × Clear c marks → KeysIn b c m held marks
+keys_in true h = h
+keys_in false h = tt

@@ -10,6 +10,7 @@ use Rattle.fused.specs.Fused.{Mode, rounds}
 use Rattle.fused.specs.Clauses.{within, aliased, projections_go, hushed_row, return_go}
 use Rattle.steps.specs.Memory.{names_in, tables_in, world_at}
 use Rattle.walk.specs.Goes.{Goer}
+use Rattle.clause_parts.specs.Passes.{Held, Clear}
 use Rattle.steps.specs.declared.context.Context.{Context}
 
 -- the first k of the aliases that are held, a word each, in order
@@ -41,6 +42,11 @@ pub record Marked (to k : ℕ) (held marks marks' : List ℕ) : Type 0 where
 -- whether a clause is a RETURN with sort keys
 abbrev pub sorts : ClauseKind → Bool
 sorts kind = eqb (code_of kind) (code_of SortedReturn)
+
+-- what is asked of the words that are lent for sort keys: nothing without them
+abbrev pub KeysIn : Bool → Context → Mode → (held marks : List ℕ) → Type 0
+KeysIn true c m held marks = Held c held m × Clear c marks
+KeysIn false c m held marks = Unit {0}
 
 -- What is walked, in a mode.
 module _ (c : Context) (mode : Mode) where

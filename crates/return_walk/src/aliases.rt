@@ -24,7 +24,7 @@ impl Aliases<'_> {
         self.count += 1;
     }
 
-    // The marks of the aliases become `to`.
+    // The marks of the aliases become `to`, 1 or 0: a mark is a lent word.
     pub fn mark(&self, marks: &mut [u32], to: u32)
         requires { InRange (length marks.old) self.now }
         ensures { Marked to self.now.count self.now.words.now marks.old marks.new }

@@ -5,13 +5,13 @@
 // ghost field would have to hold while these are written.
 #![tactic(auto)]
 
-ghost use Rattle.std.specs.Prelude.{◌≡◌, length};
+ghost use Rattle.std.specs.Prelude.{◌≡◌, true, length};
 ghost use Rattle.steps.specs.Modes.{mode_of};
 ghost use Rattle.steps.specs.Memory.{names_in};
 ghost use Rattle.steps.specs.Hold.{Ready};
 ghost use Rattle.walk.specs.Goes.{Walked};
 ghost use Rattle.clause_parts.specs.Passes.{Passes, Held, Clear};
-ghost use Rattle.return_walk.specs.Returns.{sorts, output_at, outputs_at, returned_at, hushed_at, sorted_at, return_at};
+ghost use Rattle.return_walk.specs.Returns.{sorts, KeysIn, output_at, outputs_at, returned_at, hushed_at, sorted_at, return_at};
 ghost use Rattle.return_walk.specs.Aliases.{aliases_of, InRange};
 
 mod aliases;
@@ -93,6 +93,7 @@ fn walk_sorted(
         words: held,
         count: 0,
     };
+    // A loop beside walk_outputs: here each alias is held, for which a RETURN without sort keys needs no words.
     for _ in 0..n {
         let alias = next_alias(walk, context)?;
         aliases.hold(alias);
@@ -110,7 +111,7 @@ pub fn walk_return(
     head: Head,
     mode: Mode,
 ) -> Result<(), Refusal>
-    requires { (Held context.now held.old (mode_of mode) × Clear context.now marks.old) × Ready 3 context.now walk.old }
+    requires { KeysIn (sorts head.kind) context.now (mode_of mode) held.old marks.old × (((mode_of mode).resolves ≡ true) × Ready 3 context.now walk.old) }
     ensures same { marks.new ≡ marks.old }
     ensures kept { length held.new ≡ length held.old }
     ensures passes { Passes 3 context.now walk.old walk.new (return_at context.now (mode_of mode) (sorts head.kind) head.start head.end) result }

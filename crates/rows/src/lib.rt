@@ -113,7 +113,8 @@ pub fn multiplier<F: Fn(u32) -> u32>(n: u32, word: F) -> u32
     hash / 2 * 2 + 1
 }
 
-// Where the rows stand in the words of a sheet, how many they are, and how they spread over slots.
+// Where the rows stand in the words of a sheet, how many they are, and how they spread over slots: a caller names both numbers, and their range is a
+// fact of `Slots`.
 #[derive(Clone, Copy, Debug, PartialEq, Eq)]
 pub struct Index {
     pub first: usize,
@@ -178,7 +179,7 @@ pub struct Rows<'a> {
 }
 
 impl Rows<'_> {
-    // The name and the kind of a variable's row.
+    // The name and the kind of a variable's row; the kind is a number, since the sheet's words have it.
     #[tactic(auto, using(words::proofs::Words::word_laws, crate::proofs::Chains::sought_within))]
     pub fn row(&self, v: u32) -> Option<(u32, u32)>
         requires { Standing self.now }

@@ -105,7 +105,7 @@ impl Graph<'_> {
     }
 }
 
-// Lookup on lent lists; Asked also where a count is above its list's entries.
+// Lookup on lent lists, in eight parameters since C gives each list with its count; Asked also where a count is above its list's entries.
 #[tactic(auto, using(crate::proofs::Listed::scopes_listed, crate::proofs::Listed::bindings_listed, crate::proofs::Listed::carried_listed), unfolding(crate::specs::Lookup::lookup))]
 pub fn lookup(
     scopes: &[u32],

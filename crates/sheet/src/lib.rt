@@ -28,7 +28,7 @@ pub fn open_in(s: &[u8], tab: &mut [u32], ids: &mut [u32]) -> Result<Places, Ref
     Ok(p)
 }
 
-// The same with tables of N places. No heap: two tables of the largest size.
+// The same with tables of N places. No heap: two arrays.
 fn open_sized<const N: usize>(s: &[u8]) -> Result<Places, Refusal>
     requires { (length s.now / 4 ≤ N) × (N ≤ 2048) }
     ensures { sheet_of result ≡ opened_as s.now }

@@ -18,7 +18,7 @@ pub fn are_names(s: &[u8], n: u32, tab: &mut [u32], ids: &mut [u32]) -> bool
 }
 
 // The name with the index i, of n names in the bytes of their section, with tables of N places: the byte where its length stands, and the
-// end of the section. No heap: two tables of the largest size.
+// end of the section. No heap: two arrays of N places.
 fn find_sized<const N: usize>(s: &[u8], n: u32, i: u32) -> Result<(u32, usize), Refusal>
     requires { (length s.now ≤ 8192) × ((length s.now / 4 ≤ N) × (N ≤ 2048)) }
     ensures { FindsIn n i s.now result }
@@ -34,7 +34,8 @@ fn find_sized<const N: usize>(s: &[u8], n: u32, i: u32) -> Result<(u32, usize), 
     Err(Refusal::Word)
 }
 
-// With tables sized to the section, so that a short one clears few words.
+// With tables sized to the section, so that a short one clears few words. A match beside that of `open`: a closure takes no const argument, so one
+// choice of sizes can't serve both.
 fn find_in(s: &[u8], n: u32, i: u32) -> Result<(u32, usize), Refusal>
     requires { length s.now ≤ 8192 }
     ensures { FindsIn n i s.now result }

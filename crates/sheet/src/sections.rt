@@ -60,7 +60,8 @@ pub fn check_end(at: usize, end: usize) -> Result<(), Refusal>
     Ok(())
 }
 
-// n items of a kind from one word up to another, and nothing else. Binders are sought among so many bindings, or not at all.
+// n items of a kind from one word up to another, and nothing else. Binders are sought among so many bindings, or not at all. Six parameters: its
+// two calls take the count and both ends from different fields of Places.
 fn check_section<I: Item>(
     s: &[u8],
     p: Places,

@@ -11,7 +11,7 @@ use words::{count, word};
 
 // Where the sections of a sheet stand: how many names, bindings, clauses and arms there are; the first word of the bindings, the head,
 // the arms and the trailer; the statement's span. No struct of a sheet's bytes and its places: the walks go by the places alone, and calls
-// take them after the bytes.
+// take them after the bytes. That the sections lie within the bytes (InPlaces) is a fact between the two, and asked by whoever reads both.
 #[derive(Clone, Copy)]
 pub struct Places {
     pub names: u32,

@@ -25,7 +25,8 @@ pub struct Choice {
 }
 
 // The words that a run works in. After it `places` and `ids` have where each name stands and its use id, `chains` the rows of the bindings, and
-// the walk what was found, and how many bindings were made and names carried.
+// the walk what was found, and how many bindings were made and names carried. Places and ids are two lists, as in crate tables: the one is read without
+// the other. That it is Clean, as long as the sheet asks and zero where it must be, is asked for and is no ghost field: a run writes these words.
 #[derive(Drop)]
 pub struct Scratch<'a> {
     pub places: &'a mut [u32],

@@ -1,4 +1,5 @@
-// The tables of a sheet: its names and their use ids, its bindings hung up in chains; and what the walks go by. Causes 3 and 4.
+// The tables of a sheet: its names and their use ids, its bindings hung up in chains; and what the walks go by. Causes 3 and 4. The lists
+// are parameters each: see walk_sheet.
 ghost use Rattle.std.specs.Prelude.{◌≡◌, ◌+◌, ◌*◌, ◌≤◌, length, take};
 ghost use Rattle.words.specs.Words.{words};
 ghost use Rattle.tables.specs.Answer.{Roomy};

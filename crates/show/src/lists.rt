@@ -79,8 +79,8 @@ pub fn show_records<W: Write>(out: &mut W, words: &[u32], n: usize) -> io::Resul
     )
 }
 
-// The lists of a sheet, warnings on; nothing where it is refused. (Program `checked` makes the same five arrays: a struct of `checker` would
-// have to own them for both.)
+// The lists of a sheet, warnings on; nothing where it is refused. (Program `checked` makes the same five arrays: a struct that owned
+// them would lend them by a method, and what a method's result borrows from a field isn't known afterwards.)
 pub fn show_lists<W: Write>(out: &mut W, s: &[u8]) -> io::Result<()> {
     let mut scopes = [0u32; 8192];
     let mut bindings = [0u32; 12288];

@@ -18,7 +18,7 @@ use heads::Elem;
 use scope::ScopeKind;
 use tables::VarKind;
 
-// The name of a row, 0 where there is none.
+// The name of a row, 0 where there is none, as the definition has it: `note` then clears `known`, and the sheet is refused at the end.
 pub fn name_in(r: Option<(u32, u32)>) -> u32
     ensures { result ≡ name_in r }
 {

@@ -29,7 +29,8 @@ impl TryFrom<u32> for Sort {
     }
 }
 
-// `said` events and `told` findings.
+// `said` events and `told` findings. Lent words with two counts, since there is no heap: events and findings share one run, of which each takes
+// what it needs.
 #[derive(Drop)]
 pub struct Log<'a> {
     pub words: &'a mut [u32],

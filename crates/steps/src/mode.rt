@@ -65,7 +65,8 @@ impl Setting {
         }
     }
 
-    // The code and the detail of the finding where a list is wanted, in the settings that want one.
+    // The code and the detail of the finding where a list is wanted, in the settings that want one. The code is a number, since that is its name in
+    // document 01.
     pub fn list_code(self) -> Option<(u32, u32)>
         ensures { result ≡ list_code self }
     {

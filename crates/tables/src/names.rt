@@ -80,7 +80,8 @@ pub fn name_at(s: &[u8], p: usize) -> &[u8]
         .unwrap_or_default()
 }
 
-// Reads n names from the front of s: tab gets the byte where each stands, ids its use id.
+// Reads n names from the front of s: tab gets the byte where each stands, ids its use id. That both have a place for each word of s (Roomy) is
+// asked by whoever writes them.
 pub fn scan_names(s: &[u8], n: u32, tab: &mut [u32], ids: &mut [u32]) -> Result<usize, Refusal>
     requires { Roomy s.now tab.old ids.old }
     ensures { Scanned s.now n tab.new ids.new result }

@@ -1,5 +1,5 @@
-// How long a text is, before it is written. A number is the length of a text's fixed pieces, which stand once, where they are laid: they are
-// laid inline, and their lengths are not known before.
+// How long a text is, before it is written. A number is the length of a text's fixed pieces, added up by hand: the pieces are literals in write_text,
+// laid inline, and a table of them for both would hand `lay` a slice of any length. The contract holds the numbers to the texts.
 ghost use Rattle.std.specs.Prelude.{◌≡◌, length};
 ghost use Rattle.texts.specs.Texts.{text_of};
 

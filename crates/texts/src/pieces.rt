@@ -1,6 +1,6 @@
 // The pieces of a text, each laid where the last one ended, and the names of kinds and types by their numbers in the lists: they are the
 // Rust's own strings, a line each. What lays several is inlined, and a place and the lent bytes go from piece to piece, so that a fixed piece is a
-// few stores: the end in a struct of a lent slice, as `condition_text` has one, would be memory.
+// few stores: the end in a struct of a lent slice, as `condition_text` has one, would be memory. (The library's printing into lent bytes promises no text.)
 ghost use Rattle.std.specs.Prelude.{◌≡◌, ◌++◌, ◌+◌, ◌≤◌, length};
 ghost use Rattle.texts.specs.Bytes.{bytes};
 ghost use Rattle.texts.specs.Texts.{type_name, kind_name};

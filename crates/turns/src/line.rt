@@ -9,7 +9,7 @@ pub enum Command {
     Take,
 }
 
-// The number that digits write.
+// The number that digits write. By hand: the library's `parse` reads a str and takes a plus sign before the digits.
 fn value(digits: &[u8]) -> Option<u32>
     ensures { result ≡ digits_from 0 digits.now }
 {

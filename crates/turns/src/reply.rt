@@ -10,7 +10,7 @@ use crate::text::Text;
 use dispatcher::{AddError, Served, Taken, add, take};
 use words::put_decimal;
 
-// Puts a number and the byte after it.
+// Puts a number and the byte after it. Its digits are those of `words`: the library's printing into fixed bytes promises no text.
 fn put_field(page: &mut Text<PAGE>, n: u32, after: u8)
     requires { length page.old + 11 ≤ 4096 }
     ensures text { page.new ≡ page.old ++ field n after }

@@ -27,7 +27,6 @@ fn string<R: Read, W: Write>(input: &mut R, out: &mut W, n: usize) -> io::Result
     Ok(true)
 }
 
-// The programs that read a row of lengths have this loop each: a shared one would take a closure that is lent reader and writer.
 fn main(rt: HostRuntime) -> io::Result<()> {
     let mut input = rt.stdin();
     let mut out = rt.stdout();

@@ -1,5 +1,6 @@
 // The visible names in lent words: for each name where its newest entry stands (its number + 1, or 0), then a stack of entries of four
-// words: name, variable, scope, and where the name's newest entry stood before. Finding and binding take constant time, and so does each
+// words: name, variable, scope, and where the name's newest entry stood before. Numbers + 1, and 0 for none, are what
+// is stored: lent words, no heap. Finding and binding take constant time, and so does each
 // entry that is undone.
 // One run of lent words for both: how many names there are is known only once the sheet is read. Entries are gone over by index: each turn writes
 // where other entries and the names' places stand. That the words are `Sound` and a name is below `names` is asked by contracts: a ghost field would
@@ -85,7 +86,8 @@ impl Visible<'_> {
     }
 }
 
-// One turn of `restack`: the entry i goes to the place j if it is the newest of its name; the number of entries that are kept then.
+// One turn of `restack`: the entry i goes to the place j if it is the newest of its name; the number of entries that are kept then. It takes the words
+// and not the struct: between two turns these are not `Sound`, and its law goes by the words.
 fn keep(vis: &mut [u32], names: u32, i: u32, j: u32, scope: u32) -> u32
     requires { (j ≤ i) × ((i < 4294967295) × ((names + (i + 1) * 4 ≤ length vis.old) × (name_at names vis.old i < names))) }
     ensures { Turned names scope vis.old vis.new i j result }

@@ -19,6 +19,7 @@ use words::{count, word};
 // The most parts that a row of the loop counts.
 pub const MOST: usize = 524287;
 
+// By code; 0 where no head with it is plain, as the definition's table has it.
 fn shape(code: u32) -> u32
     ensures { result ≡ shape code }
 {
@@ -48,6 +49,7 @@ fn shape(code: u32) -> u32
     }
 }
 
+// By code: the most that the word after it may be, 4294967295 where it may be any; the definition's own table.
 fn limit(code: u32) -> u32
     ensures { result ≡ limit code }
 {

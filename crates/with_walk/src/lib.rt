@@ -24,6 +24,7 @@ fn see_pairs(walk: &mut Walk, pairs: &Pairs) -> u32
     ensures { Sees pairs.now walk.old walk.new result }
 {
     let mut made = 0;
+    // By index: a pair is two of the lent words, and `pair` and its definition go by the pair's number.
     for i in 0..pairs.count {
         let (x, v) = pairs.pair(i);
         made += u32::from(!walk.is_again(x));

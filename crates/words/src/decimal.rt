@@ -11,7 +11,7 @@ pub fn decimal_width(n: u32) -> usize
 }
 
 // Writes the digits of n at the front of out and answers how many; 0, and out as it was, where they don't fit: callers go on from there, and
-// no number has 0 digits.
+// no number has 0 digits. By hand, from the last digit back: the library's printing into fixed bytes promises no text.
 #[tactic(auto, using(std::proofs::lemmas::Bool::Decides::nat_tests, crate::proofs::Digits::written), unfolding(crate::specs::Front::put_front, crate::specs::Front::put_length))]
 pub fn put_decimal(n: u32, out: &mut [u8]) -> usize
     ensures { (result ≡ put_length (decimal n) out.old) × (out.new ≡ put_front (decimal n) out.old) }

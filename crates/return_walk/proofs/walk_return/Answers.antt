@@ -13,7 +13,7 @@ use Rattle.return_walk.proofs.walk_return.Goals as goal
 
 pub returns-in_err-walk_sorted-in-SortedReturn-clause-passes : goal.returns-in_err-walk_sorted-in-SortedReturn-clause-passes
 returns-in_err-walk_sorted-in-SortedReturn-clause-passes c =
-    rw c.in-SortedReturn.is (return_refused c.requires.1 c.enter.ensures c.leave.ensures (mode_of c.args.mode) true c.requires.0.0.resolves _ c.in_err-walk_sorted-in-SortedReturn.ensures.walked c.from_residual.ensures)
+    rw c.in-SortedReturn.is (return_refused c.requires.1.1 c.enter.ensures c.leave.ensures (mode_of c.args.mode) true c.requires.1.0 _ c.in_err-walk_sorted-in-SortedReturn.ensures.walked c.from_residual.ensures)
 
 pub returns-in_err-walk_returned-in_default : goal.returns-in_err-walk_returned-in_default
 returns-in_err-walk_returned-in_default c =
@@ -21,15 +21,15 @@ returns-in_err-walk_returned-in_default c =
     record {
       same = refl;
       kept = refl;
-      passes = rw none (return_refused c.requires.1 c.enter.ensures c.leave.ensures (mode_of c.args.mode) false c.requires.0.0.resolves _ c.in_err-walk_returned-in_default.ensures c.from_residual-in_err-walk_returned-in_default.ensures);
+      passes = rw none (return_refused c.requires.1.1 c.enter.ensures c.leave.ensures (mode_of c.args.mode) false c.requires.1.0 _ c.in_err-walk_returned-in_default.ensures c.from_residual-in_err-walk_returned-in_default.ensures);
     }
 
 pub leave-requires-2 : goal.leave-requires-2
 leave-requires-2 c =
     let m = mode_of c.args.mode in
     elim c.match-head.branch [
-      | in-SortedReturn+in_ok-walk_sorted-in-SortedReturn w ↦ rw w.walk-is (leave-asks c.requires.1 c.enter.ensures c.leave.ensures m true c.requires.0.0.resolves w.in_ok-walk_sorted-in-SortedReturn.ensures.walked)
-      | in_default+in_ok-walk_returned-in_default w ↦ rw w.walk-is (leave-asks c.requires.1 c.enter.ensures c.leave.ensures m false c.requires.0.0.resolves w.in_ok-walk_returned-in_default.ensures)
+      | in-SortedReturn+in_ok-walk_sorted-in-SortedReturn w ↦ rw w.walk-is (leave-asks c.requires.1.1 c.enter.ensures c.leave.ensures m true c.requires.1.0 w.in_ok-walk_sorted-in-SortedReturn.ensures.walked)
+      | in_default+in_ok-walk_returned-in_default w ↦ rw w.walk-is (leave-asks c.requires.1.1 c.enter.ensures c.leave.ensures m false c.requires.1.0 w.in_ok-walk_returned-in_default.ensures)
     ]
 
 pub returns-clause-passes : goal.returns-clause-passes
@@ -40,4 +40,4 @@ returns-clause-passes c =
       | in-SortedReturn+in_ok-walk_sorted-in-SortedReturn w ↦ rw (w.walk-is, w.in-SortedReturn.is) w.in_ok-walk_sorted-in-SortedReturn.ensures.walked
       | in_default+in_ok-walk_returned-in_default w ↦ let none : sorts a.head.kind ≡ false = search rules in rw (w.walk-is, none) w.in_ok-walk_returned-in_default.ensures
     ] in
-    return-passes c.requires.1 c.enter.ensures c.leave.ensures (mode_of a.mode) (sorts a.head.kind) c.requires.0.0.resolves outside c.leave-2.ensures
+    return-passes c.requires.1.1 c.enter.ensures c.leave.ensures (mode_of a.mode) (sorts a.head.kind) c.requires.1.0 outside c.leave-2.ensures
