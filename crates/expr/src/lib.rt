@@ -61,7 +61,7 @@ pub fn read_marks(
     Ok(p)
 }
 
-// A pattern, where there is one.
+// A pattern, where there is one: that is asked here, so that read_expr is one row of readers.
 #[cycle(readers)]
 #[tactic(auto, using(heads::proofs::Reading::steps), unfolding(crate::specs::Read::maybe_pattern, crate::specs::Read::pattern))]
 pub fn read_pattern(section: &Section, at: usize, room: u32, has: bool) -> Result<usize, Refusal>

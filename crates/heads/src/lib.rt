@@ -259,8 +259,8 @@ impl Section<'_> {
         Ok((elem, at))
     }
 
-    // Whether one of the first n bindings has the variable v. A loop, since it ends where the words do: the last row may be cut short, where
-    // `step_by` goes on.
+    // Whether one of the first n bindings has the variable v. A loop: tried `step_by(5)`, `take(n)` and `any`, which promise the runs of one another,
+    // and the proof didn't close.
     pub fn has_row(&self, n: usize, v: u32) -> bool
         ensures { result ≡ is_in v (row_ids n (drop self.now.rows (words_of self.now))) }
     {

@@ -46,7 +46,7 @@ fn read_body(s: &[u8], at: usize, n: u32) -> Result<usize, Refusal>
     Err(Refusal::Names)
 }
 
-// The length of the name that stands at the byte p.
+// The length of the name that stands at the byte p: a word, by its four bytes as the definition has it.
 fn length_at(s: &[u8], p: usize) -> u32
     requires { p + 4 ≤ length s.now }
     ensures { result ≡ length_at s.now p }
