@@ -8,6 +8,7 @@ use Rattle.scope.specs.Graph.{Scope, Entry, Carried}
 use Rattle.scope.specs.Lookup.{Looked, at, nothing, refused}
 use Rattle.scope.specs.Offset.{Best, none', best, Offset, in', nowhere}
 use Rattle.scope.specs.Offset as offsets
+use Rattle.scope.specs.declared.Found.{Found}
 use Rattle.scope.specs.declared.Graph.{Graph}
 
 abbrev pub scopes_in : Graph → List Scope
@@ -23,8 +24,8 @@ abbrev pub bound_as : code.Option ℕ → Option ℕ
 bound_as (Some v) = Some v
 bound_as None = None
 
-abbrev pub looked_as : Result (code.Option ℕ) Refusal → Looked
-looked_as (Ok (Some v)) = at v
+abbrev pub looked_as : Result (code.Option Found) Refusal → Looked
+looked_as (Ok (Some found)) = at found.variable found.scope
 looked_as (Ok None) = nothing
 looked_as (Err cause) = refused (number_of cause)
 

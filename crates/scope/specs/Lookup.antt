@@ -4,8 +4,9 @@ use Rattle.std.specs.Prelude.{ℕ, zero, suc, Bool, true, false, cond, ◌&&◌,
 use Rattle.scope.specs.Graph.{with_barrier, Scope, scope, Entry, entry, Carried, carried}
 use Rattle.scope.specs.Flat.{scope_width, binding_width, carried_width, room, scopes_of, bindings_of, carrieds_of}
 
+-- "Lookup now gives the scope number that binds the name as well as the variable" (document 02, CR 3)
 pub data Looked : Type 0 where
-  at : (variable : ℕ) → Looked
+  at : (variable scope : ℕ) → Looked
   nothing : Looked
   refused : (cause : ℕ) → Looked
 
@@ -36,7 +37,7 @@ lets_on kind has = cond (eqb kind with_barrier) has true
 -- what a scope answers: its own binding; nothing, where the name may not go on or there is no parent; else what its parent p answers,
 -- which `above` gives. A parent that is not below its child is cause 9.
 unfoldable pub answer_at : ℕ → Option ℕ → Bool → Option ℕ → (above : ℕ → Looked) → Looked
-answer_at s (Some v) goes_on p above = at v
+answer_at s (Some v) goes_on p above = at v s
 answer_at s None false p above = nothing
 answer_at s None true None above = nothing
 answer_at s None true (Some p) above = cond (ltb p s) (above p) (refused 9)

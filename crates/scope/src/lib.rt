@@ -28,6 +28,13 @@ pub struct Graph<'a> {
     pub carried: &'a [[u32; 3]],
 }
 
+// What lookup finds: the variable of a name, and the scope that binds it.
+#[derive(Clone, Copy)]
+pub struct Found {
+    pub variable: u32,
+    pub scope: u32,
+}
+
 // The first entries of a list of flat words; Asked where it has fewer.
 #[tactic(auto, using(crate::proofs::Listed::front))]
 fn in_use<const WIDTH: usize>(words: &[u32], count: usize) -> Result<&[[u32; WIDTH]], Refusal>
@@ -71,7 +78,7 @@ impl Graph<'_> {
     }
 
     // From a scope up its parents, each of which lies below its child.
-    fn climb(&self, from: u32, name: u32) -> Result<Option<u32>, Refusal>
+    fn climb(&self, from: u32, name: u32) -> Result<Option<Found>, Refusal>
         requires { from < length self.now.scopes.now }
         ensures { looked_as result ≡ climb (scopes_in self.now) (bindings_in self.now) (carried_in self.now) (suc from) from name }
     {
@@ -79,7 +86,7 @@ impl Graph<'_> {
         // Up the scopes: each turn says where the next begins.
         loop {
             if let Some(variable) = self.bound_in(scope, name) {
-                return Ok(Some(variable));
+                return Ok(Some(Found { variable, scope }));
             }
             let [kind, parent, _, _] = self.scopes[scope as usize];
             if parent == 0 || !self.passes(kind, scope, name) {
@@ -92,10 +99,11 @@ impl Graph<'_> {
         }
     }
 
-    // The variable that a name has in a scope: the first binding on the way up; a WithBarrier lets through only names that it carries.
+    // The variable that a name has in a scope, and the scope that binds it: the first binding on the way up; a WithBarrier lets through only
+    // names that it carries.
     // Asked where there is no such scope, or a parent on the way is not below its child.
     #[tactic(auto, using(crate::proofs::Listed::counted), unfolding(crate::specs::Lookup::lookup_in))]
-    pub fn lookup(&self, scope: u32, name: u32) -> Result<Option<u32>, Refusal>
+    pub fn lookup(&self, scope: u32, name: u32) -> Result<Option<Found>, Refusal>
         ensures { looked_as result ≡ lookup_in (scopes_in self.now) (bindings_in self.now) (carried_in self.now) scope name }
     {
         if self.scopes.len() <= scope as usize {
@@ -116,7 +124,7 @@ pub fn lookup(
     c: usize,
     scope: u32,
     name: u32,
-) -> Result<Option<u32>, Refusal>
+) -> Result<Option<Found>, Refusal>
     ensures { looked_as result ≡ lookup a scopes.now b bindings.now c carried.now scope name }
 {
     let graph = Graph {

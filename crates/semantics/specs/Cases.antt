@@ -89,7 +89,7 @@ pub sight : map (log true)
     ∷ (root ∷ lost 0xFAF3A281 0)
     ∷ matched (lost 0xFAF3A281 0)
     ∷ (root ∷ open' (scope 6 (Some 0) 1 2) ∷ bind false false (bound 1 0 1 4) ∷ bind false true (bound 1 0 2 4) ∷ find (finding 1002 1 2 1 0 0) ∷ [])
-    ∷ (root ∷ answer (write 1 (found 1 1 0)) ∷ answer (write 2 (found 2 1 0)) ∷ open' (scope 7 (Some 0) 1 2) ∷ carry (carried 1 0 1) ∷ carry (carried 1 0 2) ∷ open' (scope 1 (Some 1) 2 2) ∷ bind true false (bound 2 0 1 1) ∷ bind true true (bound 2 0 2 1) ∷ answer (write 0xFAF3A281 (found 2 1 0)) ∷ [])
+    ∷ (root ∷ answer (write 1 (found 1 1 0)) ∷ answer (write 2 (found 2 1 0)) ∷ open' (scope 7 (Some 0) 1 2) ∷ carry (carried 1 0 1) ∷ carry (carried 1 0 2) ∷ open' (scope 1 (Some 1) 2 2) ∷ bind true false (bound 2 0 1 1) ∷ bind true true (bound 2 0 2 1) ∷ answer (write 0xFAF3A281 (found 2 1 1)) ∷ [])
     ∷ (root ∷ open' (scope 2 (Some 0) 1 2) ∷ bind false false (bound 1 0 1 3) ∷ bind false true (bound 1 0 1 3) ∷ find (finding 1002 0 0 1 0 0) ∷ [])
     ∷ (root ∷ open' (scope 2 (Some 0) 1 2) ∷ bind false false (bound 1 0 1 3) ∷ open' (scope 2 (Some 1) 3 4) ∷ bind false false (bound 2 0 1 3) ∷ [])
     ∷ []
@@ -105,11 +105,23 @@ pub keys : map (log true)
     ∷ small (return 1 2 (projection (Some 1) (node (Leaf 3) done) ∷ []) (sorted (more name_b (more (comprehension 5 6 node_b (more name_b done)) (more name_a done)))) ∷ []) []
     ∷ [])
     ≡ matched (open' (scope 7 (Some 1) 3 4) ∷ open' (scope 1 (Some 2) 4 4) ∷ answer (write 0xFAF3A281 (found 1 1 0)) ∷ lost 0xFAF3A281 0)
-    ∷ matched (answer (write 2 (found 2 1 0)) ∷ open' (scope 7 (Some 1) 3 4) ∷ carry (carried 2 0 2) ∷ open' (scope 1 (Some 2) 4 4) ∷ bind true false (bound 3 0 2 1) ∷ answer (write 0xFAF3A281 (found 2 1 0)) ∷ open' (scope 9 (Some 3) 5 6) ∷ bind false false (bound 4 1 2 1) ∷ answer (write 0xFAF3A282 (found 2 1 0)) ∷ [])
+    ∷ matched (answer (write 2 (found 2 1 0)) ∷ open' (scope 7 (Some 1) 3 4) ∷ carry (carried 2 0 2) ∷ open' (scope 1 (Some 2) 4 4) ∷ bind true false (bound 3 0 2 1) ∷ answer (write 0xFAF3A281 (found 2 1 1)) ∷ open' (scope 9 (Some 3) 5 6) ∷ bind false false (bound 4 1 2 1) ∷ answer (write 0xFAF3A282 (found 2 1 0)) ∷ [])
     ∷ (root ∷ open' (scope 8 (Some 0) 1 2) ∷ open' (scope 9 (Some 0) 5 6) ∷ bind false false (bound 2 1 2 1) ∷ lost 0xFAF3A281 0)
     ∷ []
 unfolding small node_a node_b name_a name_b logs walk use_id fnv1_of fnv_from fnv_step
 keys = refl
+
+-- Carried or fresh (document 02, CR 3). MATCH (a) WITH a MATCH (b) WHERE a, b, and a by its variable: a came over the WITH, b didn't, a Var
+-- says nothing; MATCH (a) WITH a WITH nothing ORDER BY a: the key's a came over the WITH before
+pub over_with : map (log true)
+    (small (opening (match 0) 1 2 node_a ∷ with' 3 4 (projection None name_a ∷ []) done unsorted ∷ opening (match 0) 5 6 node_b ∷ reading where' 7 8 (more name_a (more name_b (more (var 1) done))) ∷ []) []
+    ∷ small (opening (match 0) 1 2 node_a ∷ with' 3 4 (projection None name_a ∷ []) done unsorted ∷ with' 5 6 [] done (sorted (more name_a done)) ∷ []) []
+    ∷ [])
+    ≡ matched (answer (write 0xFAF3A281 (found 1 1 0)) ∷ open' (scope 7 (Some 1) 3 4) ∷ carry (carried 2 0 1) ∷ open' (scope 1 (Some 2) 4 4) ∷ bind true false (bound 3 0 1 1) ∷ open' (scope 2 (Some 3) 5 6) ∷ bind false false (bound 4 1 2 1) ∷ answer (write 0xFAF3A281 (found 1 1 1)) ∷ answer (write 0xFAF3A282 (found 2 1 0)) ∷ answer (write 1 (found 1 1 0)) ∷ [])
+    ∷ matched (answer (write 0xFAF3A281 (found 1 1 0)) ∷ open' (scope 7 (Some 1) 3 4) ∷ carry (carried 2 0 1) ∷ open' (scope 1 (Some 2) 4 4) ∷ bind true false (bound 3 0 1 1) ∷ open' (scope 7 (Some 3) 5 6) ∷ open' (scope 1 (Some 4) 6 6) ∷ answer (write 0xFAF3A281 (found 1 1 1)) ∷ [])
+    ∷ []
+unfolding small node_a node_b name_a name_b logs walk use_id fnv1_of fnv_from fnv_step
+over_with = refl
 
 -- the names a, b, `*` and c, with variables 1 and 3 of a, 2 of b, 4 of `*`; the use id of c is a variable, a relationship
 unfoldable pub starry : List Clause → Statement
@@ -158,8 +170,8 @@ pub over_star : map (log true)
     (starry (opening (match 0) 1 2 node_a ∷ with' 3 4 (all ∷ []) done unsorted ∷ return 5 6 (projection None name_a ∷ []) unsorted ∷ [])
     ∷ starry (with' 3 4 (projection (Some 3) (node (Leaf 3) done) ∷ []) done unsorted ∷ return 5 6 (projection None (unresolved 3) ∷ []) unsorted ∷ [])
     ∷ [])
-    ≡ matched (answer (write 0xFAF3A2CA missing) ∷ open' (scope 7 (Some 1) 3 4) ∷ carry (carried 2 0 1) ∷ open' (scope 1 (Some 2) 4 4) ∷ bind true false (bound 3 0 1 1) ∷ open' (scope 8 (Some 3) 5 6) ∷ answer (write 0xFAF3A281 (found 1 1 0)) ∷ [])
-    ∷ (root ∷ open' (scope 7 (Some 0) 3 4) ∷ carry (carried 1 3 0xFAF3A283) ∷ open' (scope 1 (Some 1) 4 4) ∷ bind true false (bound 2 3 0xFAF3A283 2) ∷ open' (scope 8 (Some 2) 5 6) ∷ answer (write 0xFAF3A283 (found 0xFAF3A283 2 0)) ∷ [])
+    ≡ matched (answer (write 0xFAF3A2CA missing) ∷ open' (scope 7 (Some 1) 3 4) ∷ carry (carried 2 0 1) ∷ open' (scope 1 (Some 2) 4 4) ∷ bind true false (bound 3 0 1 1) ∷ open' (scope 8 (Some 3) 5 6) ∷ answer (write 0xFAF3A281 (found 1 1 1)) ∷ [])
+    ∷ (root ∷ open' (scope 7 (Some 0) 3 4) ∷ carry (carried 1 3 0xFAF3A283) ∷ open' (scope 1 (Some 1) 4 4) ∷ bind true false (bound 2 3 0xFAF3A283 2) ∷ open' (scope 8 (Some 2) 5 6) ∷ answer (write 0xFAF3A283 (found 0xFAF3A283 2 1)) ∷ [])
     ∷ []
 unfolding starry node_a name_a logs walk use_id fnv1_of fnv_from fnv_step
 over_star = refl

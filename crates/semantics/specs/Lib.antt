@@ -4,4 +4,3 @@ pub mod Resolve
 pub mod Kinds
 pub mod Lists
 pub mod Cases
-pub mod Lookup

@@ -9,9 +9,13 @@ use Rattle.sheet.specs.Statement.{Statement}
 use Rattle.semantics.specs.Log.{e1001, e1002, finding, found, missing, bound, write, Event, open', bind, carry, answer, find}
 use Rattle.semantics.specs.World.{World, hush, world_of, variable, opens, Direct, a_var, a_name, other, direct, yield_name, name_of, kind_of, worlds}
 
--- A visible name, its variable, and the scope that binds it; and a pair that a WITH carries.
+-- What a visible name is bound to: its variable, and via_projection (document 02, CR 3), 1 if the binding came over a WITH and else 0. A
+-- visible name, what it is bound to, and the scope that binds it; and a pair that a WITH carries.
+pub data Hit : Type 0 where
+  hit : (variable via : ℕ) → Hit
+
 pub data Seen : Type 0 where
-  seen : (name variable scope : ℕ) → Seen
+  seen : (name : ℕ) → Hit → (scope : ℕ) → Seen
 
 pub data Pair : Type 0 where
   pair : (name variable : ℕ) → Pair
@@ -23,23 +27,26 @@ pub record State : Type 0 where
   pub last : ℕ  -- the highest scope number so far
   pub log : List Event  -- what was said, newest first
 
--- the variable of the newest binding of a name; and whether the scope c binds it
-unfoldable pub lookup : ℕ → List Seen → Option ℕ
+unfoldable pub variable_of : Hit → ℕ
+variable_of (hit v o) = v
+
+-- what the newest binding of a name binds it to; and whether the scope c binds it
+unfoldable pub lookup : ℕ → List Seen → Option Hit
 lookup x [] = None
-lookup x (seen y v p ∷ vis) = cond (eqb x y) (Some v) (lookup x vis)
+lookup x (seen y h p ∷ vis) = cond (eqb x y) (Some h) (lookup x vis)
 
 unfoldable pub binds : ℕ → ℕ → List Seen → Bool
 binds c x [] = false
-binds c x (seen y v p ∷ vis) = eqb x y && eqb p c || binds c x vis
+binds c x (seen y h p ∷ vis) = eqb x y && eqb p c || binds c x vis
 
 -- a variable that has a row, under its name; and a name that is found
 unfoldable pub if_row : Option Row → ℕ → List Pair
 if_row None v = []
 if_row (Some (row i x k a b)) v = pair x v ∷ []
 
-unfoldable pub if_some : Option ℕ → ℕ → List Pair
+unfoldable pub if_some : Option Hit → ℕ → List Pair
 if_some None x = []
-if_some (Some v) x = pair x v ∷ []
+if_some (Some h) x = pair x (variable_of h) ∷ []
 
 -- pairs without those of a name; and each visible name once, with its newest variable, newest first
 unfoldable pub without : ℕ → List Pair → List Pair
@@ -48,7 +55,7 @@ without x (pair y v ∷ ps) = cond (eqb x y) (without x ps) (pair y v ∷ withou
 
 unfoldable pub once : List Seen → List Pair
 once [] = []
-once (seen x v p ∷ vis) = pair x v ∷ without x (once vis)
+once (seen x h p ∷ vis) = pair x (variable_of h) ∷ without x (once vis)
 
 -- The steps. An event is said, always or if a test holds; a scope is opened under the current one, which it becomes; a name is bound in
 -- the current scope, and visible from then on; what is visible and current is again as in s.
@@ -65,7 +72,7 @@ enter k a b s = record { visible = s.visible; cur = suc s.last; last = suc s.las
 abbrev pub bind_over : Bool → ℕ → ℕ → ℕ → State → State
 bind_over over x v k s =
     record {
-      visible = seen x v s.cur ∷ s.visible;
+      visible = seen x (hit v (cond over 1 0)) s.cur ∷ s.visible;
       cur = s.cur;
       last = s.last;
       log = bind over (binds s.cur x s.visible) (bound s.cur x v k) ∷ s.log;
@@ -81,18 +88,18 @@ abbrev pub standing : List Seen → ℕ → State → State
 standing vis c s = record { visible = vis; cur = c; last = s.last; log = s.log }
 
 module _ (w : World) where
-  -- "A Var records its own id, visible or not, if the sheet's bindings section has it"
+  -- "A Var records its own id, visible or not, if the sheet's bindings section has it"; "a Var's own record keeps false" (document 02, CR 3)
   unfoldable pub use_var : ℕ → Option Row → State → State
   use_var v None s = s
   use_var v (Some (row i x k a b)) s = say (answer (write v (found v k 0))) s
 
   -- "E1001 comes at each visit of an Unresolved name not visible, except `*`, recorded unresolved without it"
-  unfoldable pub use_name : ℕ → Option ℕ → State → State
-  use_name x (Some v) s = say (answer (write (w.id x) (found v (kind_of w v) 0))) s
+  unfoldable pub use_name : ℕ → Option Hit → State → State
+  use_name x (Some (hit v o)) s = say (answer (write (w.id x) (found v (kind_of w v) o))) s
   use_name x None s = say_if (not (w.is_star x)) (find (finding e1001 0 0 (suc x) 0 0)) (say (answer (write (w.id x) missing)) s)
 
   -- "a name equal to an alias of the same clause is no use .. and gives no finding and no record" (document 02, CR 1)
-  unfoldable pub visit : Bool → ℕ → Option ℕ → State → State
+  unfoldable pub visit : Bool → ℕ → Option Hit → State → State
   visit true x o s = s
   visit false x o s = use_name x o s
 
@@ -101,9 +108,9 @@ module _ (w : World) where
   bind_anew a b x v k s = say_if (w.warns && binds s.cur x s.visible) (find (finding e1002 a b (suc x) 0 0)) (bind_name x v k s)
 
   -- "Nodes and relationships bind only a name not visible"
-  unfoldable pub bind_new : Option ℕ → ℕ → ℕ → ℕ → State → State
+  unfoldable pub bind_new : Option Hit → ℕ → ℕ → ℕ → State → State
   bind_new None x v k s = bind_name x v k s
-  bind_new (Some u) x v k s = s
+  bind_new (Some h) x v k s = s
 
   -- "Patterns, yields and Unwind bind with their position's kind"
   unfoldable pub bind_path : Option ℕ → State → State
@@ -240,5 +247,5 @@ log warns s = reverse (run warns s).log
 
 -- `unfolding walk` opens all of the walk.
 unfoldable pub walk : Unit {0}
-unfolding worlds lookup binds if_row if_some without once say_if use_var use_name visit bind_anew bind_new bind_path bind_elem resolve carries projected is_all any_star starred carried_by carry_all bind_all barrier fresh yields alias_in aliases sort_by clause clauses arms start run log exprs keys_of
+unfolding worlds variable_of lookup binds if_row if_some without once say_if use_var use_name visit bind_anew bind_new bind_path bind_elem resolve carries projected is_all any_star starred carried_by carry_all bind_all barrier fresh yields alias_in aliases sort_by clause clauses arms start run log exprs keys_of
 walk = tt

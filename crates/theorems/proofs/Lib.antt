@@ -23,6 +23,5 @@ pub mod Barriers
 pub mod Inners
 pub mod Mets
 pub mod Agrees
-pub mod Forgets
 pub mod Needs
 pub mod Alike
