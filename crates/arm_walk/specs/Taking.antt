@@ -4,7 +4,7 @@ use Rattle.std.specs.Prelude.{ℕ, ◌+◌, ◌-◌, ◌*◌, ◌<◌, ◌≤◌
 use Rattle.scope.specs.Graph.{Carried, carried}
 use Rattle.heads.specs.Got.{ok}
 use Rattle.semantics.specs.Log.{Event, carries_in}
-use Rattle.semantics.specs.Resolve.{Seen, seen}
+use Rattle.semantics.specs.Resolve.{Seen, seen, variable_of}
 use Rattle.theorems.specs.Needs.{carried_in}
 use Rattle.fused.specs.Fused.{Both}
 use Rattle.visible.specs.Stack as stack
@@ -18,7 +18,7 @@ use Rattle.steps.specs.declared.context.Context.{Context}
 -- visible names as what a barrier carries, oldest first
 unfoldable pub carried_as : ℕ → List Seen → List Carried
 carried_as b [] = []
-carried_as b (seen x v p ∷ l) = carried_as b l ++ (carried b x v ∷ [])
+carried_as b (seen x h p ∷ l) = carried_as b l ++ (carried b x (variable_of h) ∷ [])
 
 -- a list has what a log, newest first, carries, if it has room for that
 pub record Carries (old out : List ℕ) (l : List Event) : Type 0 where

@@ -36,7 +36,7 @@ begins key words = starts_with eqb words key
 abbrev pub is_binding : ℕ → ℕ → Entry → Bool
 is_binding s x (entry t y u j r) = eqb s t && eqb x y
 
--- the answer to a use, which is found or missing; whether over a projection is not known
+-- the answer to a use, which is found or missing
 abbrev pub answer : Option Found → Answer
 answer None = missing
-answer (Some f) = found f.variable f.kind 0
+answer (Some f) = found f.variable f.kind f.via

@@ -22,11 +22,12 @@ pub struct Binding {
     pub kind: u32,
 }
 
-// A variable that a use has, and its kind.
+// A variable that a use has, its kind, and via_projection, 1 if its name came over a WITH and else 0.
 #[derive(Clone, Copy, Debug, PartialEq, Eq)]
 pub struct Found {
     pub variable: u32,
     pub kind: u32,
+    pub via: u32,
 }
 
 // A lent list of bindings, how many are made in it, and the stamps that know of them: word 0 is the highest scope that binds + 1, or 0, and
@@ -155,7 +156,7 @@ fn answer_entry(id: u32, found: Option<Found>) -> [u32; 5]
     ensures { result ≡ recorded_words (write id (answer found)) }
 {
     match found {
-        Some(f) => [id, 1, f.variable, f.kind, 0],
+        Some(f) => [id, 1, f.variable, f.kind, f.via],
         None => [id, 0, 0, 0, 0],
     }
 }

@@ -12,6 +12,6 @@ use Rattle.lists_fill.specs.declared.Logged.TheVariants.{Scope, Binding, Variabl
 abbrev pub said : (ℕ → ℕ) → Logged → Event
 said id (Scope k p a b) = open' (scope k (parent_of p) a b)
 said id (Binding again b) = bind false again (bound_of b)
-said id (Variable f) = answer (write f.variable (found f.variable f.kind 0))
+said id (Variable f) = answer (write f.variable (found f.variable f.kind f.via))
 said id (Name x f) = answer (write (id x) (entries.answer f))
 said id (Finding f) = find (finding f.code f.start f.end f.name f.one f.two)

@@ -39,20 +39,24 @@ enum Logged {
 }
 
 // A use that is found, where the flag is not 0.
-fn found_if(flag: u32, variable: u32, kind: u32) -> Option<Found>
-    ensures { answer result ≡ answered flag variable kind }
+fn found_if(flag: u32, variable: u32, kind: u32, via: u32) -> Option<Found>
+    ensures { answer result ≡ answered flag variable kind via }
 {
     if flag == 0 {
         return None;
     }
-    Some(Found { variable, kind })
+    Some(Found {
+        variable,
+        kind,
+        via,
+    })
 }
 
 impl From<[u32; 6]> for Logged {
     ghost from_gives = { λ words logged. (id : ℕ → ℕ) → said id logged ≡ event_at id words 0 };
 
     fn from(words: [u32; 6]) -> Logged {
-        let [sort, a, b, c, d, _] = words;
+        let [sort, a, b, c, d, e] = words;
         let binding = Binding {
             scope: a,
             name: b,
@@ -66,8 +70,9 @@ impl From<[u32; 6]> for Logged {
             Ok(Sort::Variable) => Logged::Variable(Found {
                 variable: a,
                 kind: b,
+                via: 0,
             }),
-            Ok(Sort::Name) => Logged::Name(a, found_if(b, c, d)),
+            Ok(Sort::Name) => Logged::Name(a, found_if(b, c, d, e)),
             Err(_) => Logged::Finding(Finding::from(words)),
         }
     }

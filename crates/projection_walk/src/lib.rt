@@ -53,9 +53,9 @@ fn carry_seen(walk: &mut Walk, context: &Context, pairs: &mut Pairs, alias: Opti
     ensures { Adds context.now walk.old pairs.old walk.new pairs.new (λ id. on_names (name_use (world_at context.now id) x)) alias (a_name x) }
 {
     match walk.visible.find(x) {
-        Some((v, _)) => {
+        Some(newest) => {
             walk.record_name(context, x);
-            pairs.keep(alias.unwrap_or(x), v);
+            pairs.keep(alias.unwrap_or(x), newest.variable);
         }
         None => walk.use_name(context, x),
     }

@@ -8,7 +8,7 @@ use Rattle.tables.specs.Row.{path_kind, Row, row}
 use Rattle.semantics.specs.Log.{Finding, missing, write, answer, Event}
 use Rattle.semantics.specs.Log.{found as found_as}
 use Rattle.semantics.specs.World.{World, variable, kind_of}
-use Rattle.semantics.specs.Resolve.{State, binds, say, enter, bind_name, use_var, bind_path}
+use Rattle.semantics.specs.Resolve.{Hit, hit, State, binds, say, enter, bind_name, use_var, bind_path}
 use Rattle.semantics.specs.Kinds.{Setting, pattern_type, type_of, at_type, at_row, misplaced, row_for}
 use Rattle.theorems.specs.Needs.{made, carried_in}
 use Rattle.fused.specs.Fused.{Both, Mode, when, told, step, same, noting, name_use}
@@ -272,6 +272,6 @@ abbrev pub var_record : Mode → ℕ → ℕ → State → State
 var_record m v k = when m.resolves (say (answer (write v (found_as v k 0))))
 
 -- what is recorded of a name, E1001 apart
-abbrev pub name_record : World → ℕ → Option ℕ → State → State
-name_record w x (Some v) s = say (answer (write (w.id x) (found_as v (kind_of w v) 0))) s
+abbrev pub name_record : World → ℕ → Option Hit → State → State
+name_record w x (Some (hit v o)) s = say (answer (write (w.id x) (found_as v (kind_of w v) o))) s
 name_record w x None s = say (answer (write (w.id x) missing)) s

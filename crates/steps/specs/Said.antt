@@ -23,8 +23,8 @@ Sorts word (Err e) = (sort : Sort) → sort_number sort ≢ word
 
 -- An event by its six words: 1 a scope, 2 a binding, 3 one that replaces another, 4 a use of a variable, 5 a use of a name, and else a finding.
 -- What a WITH carries and binds is not among them.
-abbrev pub answered : ℕ → ℕ → ℕ → Answer
-answered flag v k = cond (eqb flag 0) missing (found v k 0)
+abbrev pub answered : (flag variable kind via : ℕ) → Answer
+answered flag v k via = cond (eqb flag 0) missing (found v k via)
 
 abbrev pub event_of : (ℕ → ℕ) → (tag a b c d e : ℕ) → Event
 event_of id tag a b c d e =
@@ -33,7 +33,7 @@ event_of id tag a b c d e =
     ∷ (2, bind false false (bound a b c d))
     ∷ (3, bind false true (bound a b c d))
     ∷ (4, answer (write a (found a b 0)))
-    ∷ (5, answer (write (id a) (answered b c d)))
+    ∷ (5, answer (write (id a) (answered b c d e)))
     ∷ [])
     (find (finding tag a b c d e))
 

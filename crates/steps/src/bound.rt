@@ -57,7 +57,7 @@ impl Walk<'_> {
     {
         let again = self.is_again(x);
         self.say_bound(context, again, x, v, kind);
-        self.visible.bind(x, v, self.cur);
+        self.visible.bind(x, v, self.cur, false);
         again
     }
 
@@ -67,7 +67,7 @@ impl Walk<'_> {
         ensures { result ≡ binds self.now.cur x (entries self.now.visible) }
     {
         let cur = self.cur;
-        self.visible.find(x).is_some_and(|(_, scope)| scope == cur)
+        self.visible.find(x).is_some_and(|newest| newest.scope == cur)
     }
 
     // A binding in the current scope is said, and counted unless it replaces another.

@@ -89,9 +89,17 @@ impl Walk<'_> {
             return;
         }
         match self.visible.find(x) {
-            Some((v, _)) => self
-                .log
-                .say([Sort::Name as u32, x, 1, v, context.rows.kind(v), 0]),
+            Some(newest) => {
+                let v = newest.variable;
+                self.log.say([
+                    Sort::Name as u32,
+                    x,
+                    1,
+                    v,
+                    context.rows.kind(v),
+                    newest.via,
+                ]);
+            }
             None => self.log.say([Sort::Name as u32, x, 0, 0, 0, 0]),
         }
     }

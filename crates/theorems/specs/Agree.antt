@@ -1,14 +1,13 @@
 -- Lookup on the finished lists gives what the walk saw: the variable of a name's newest binding, and the scope that binds it.
 use Rattle.std.specs.Prelude.{ℕ, ◌<◌, ◌≡◌, Bool, cond, List, [], ◌∷◌, ◌++◌, reverse, eqb, Some}
 use Rattle.scope.specs.Graph.{comprehension_scope, scope}
-use Rattle.scope.specs.Lookup.{carries}
-use Rattle.semantics.specs.Lookup.{Looked, at, nothing, refused, lookup_in}
+use Rattle.scope.specs.Lookup.{Looked, at, nothing, refused, carries, lookup_in}
 use Rattle.expr.specs.Tree.{Steps}
 use Rattle.clauses.specs.Tree.{Clause, Arm, arm}
 use Rattle.sheet.specs.Statement.{Statement}
 use Rattle.semantics.specs.Log.{Event, open', scopes_in, binds_in, carries_in, opened}
 use Rattle.semantics.specs.World.{hush, world_of}
-use Rattle.semantics.specs.Resolve.{Seen, seen, State, standing, bind_pattern, clauses, start, log}
+use Rattle.semantics.specs.Resolve.{Seen, seen, variable_of, State, standing, bind_pattern, clauses, start, log}
 use Rattle.semantics.specs.Resolve
 use Rattle.semantics.specs.Lists.{puts, scopes, bindings, carried_list}
 use Rattle.theorems.specs.Site.{Site, Stands, before, barrier_of}
@@ -16,7 +15,7 @@ use Rattle.theorems.specs.Site.{Site, Stands, before, barrier_of}
 -- what the visible list has for a name
 unfoldable pub seen_as : ℕ → List Seen → Looked
 seen_as x [] = nothing
-seen_as x (seen y v p ∷ vis) = cond (eqb x y) (at v p) (seen_as x vis)
+seen_as x (seen y h p ∷ vis) = cond (eqb x y) (at (variable_of h) p) (seen_as x vis)
 
 -- lookup on the views of a log
 unfoldable pub look : List Event → ℕ → ℕ → Looked

@@ -11,7 +11,7 @@ use Rattle.sheet.specs.Statement.{Statement}
 use Rattle.semantics.specs.Log
 use Rattle.semantics.specs.Log.{Finding, finding, Answer, found, missing, Write, write, Event, answer, find, answers_in}
 use Rattle.semantics.specs.World.{World, hush, variable, opens, bytes_of, kind_of, world_of}
-use Rattle.semantics.specs.Resolve.{Seen, seen, State, lookup, enter, leave, standing, bind_path, bind_elem, resolve, resolves, bind_pattern, carried_by, barrier, fresh, aliases, clause, clauses, start, log}
+use Rattle.semantics.specs.Resolve.{Hit, hit, Seen, seen, State, lookup, enter, leave, standing, bind_path, bind_elem, resolve, resolves, bind_pattern, carried_by, barrier, fresh, aliases, clause, clauses, start, log}
 use Rattle.semantics.specs.Lists.{findings}
 
 -- A Var with its id, or an Unresolved with its name and the visible list.
@@ -21,11 +21,11 @@ pub data Use : Type 0 where
 
 -- "not visible": no entry of the visible list has the name x; and the test of it.
 abbrev pub Lacks : ℕ → List Seen → Type 0
-Lacks x vis = (v p : ℕ) → Memᴰ (seen x v p) vis → ⊥
+Lacks x vis = (h : Hit) (p : ℕ) → Memᴰ (seen x h p) vis → ⊥
 
 unfoldable pub lacks : ℕ → List Seen → Bool
 lacks x [] = true
-lacks x (seen y v p ∷ vis) = not (eqb x y) && lacks x vis
+lacks x (seen y h p ∷ vis) = not (eqb x y) && lacks x vis
 
 -- "A Var records its own id, visible or not, if the sheet's bindings section has it."
 unfoldable pub of_row : ℕ → Option Row → List Write
@@ -86,10 +86,10 @@ module _ (w : World) where
   e1001 (by_var v) = []
   e1001 (by_name x vis) = cond (lacks x vis && not (w.is_star x)) (finding Log.e1001 0 0 (suc x) 0 0 ∷ []) []
 
-  -- The record of a name: its use id, and the variable that the visible list has for it.
-  unfoldable pub answer_by : Option ℕ → Answer
+  -- The record of a name: its use id, and what the visible list has for it: the variable, and whether that came over a WITH.
+  unfoldable pub answer_by : Option Hit → Answer
   answer_by None = missing
-  answer_by (Some v) = found v (kind_of w v) 0
+  answer_by (Some (hit v o)) = found v (kind_of w v) o
 
   unfoldable pub record_of : Use → List Write
   record_of (by_var v) = of_row v (w.row v)

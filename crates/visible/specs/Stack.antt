@@ -1,6 +1,6 @@
 -- What is visible as a stack of entries in its words, and what the functions do to it.
 use Rattle.std.specs.Prelude.{ℕ, suc, ◌≤◌, ◌≡◌, List, ◌∷◌, length}
-use Rattle.semantics.specs.Resolve.{Seen, seen, once}
+use Rattle.semantics.specs.Resolve.{Hit, Seen, seen, once}
 use Rattle.visible.specs.Visible.{name_at, variable_at, seens, seen_once, Tabled}
 use Rattle.visible.specs.declared.Visible.{Visible}
 
@@ -22,10 +22,10 @@ pub record Still (old new : Visible) : Type 0 where
   pub size : length new.words.now ≡ length old.words.now
 
 -- one entry more
-pub record Bound (x v c : ℕ) (old new : Visible) : Type 0 where
+pub record Bound (x : ℕ) (h : Hit) (c : ℕ) (old new : Visible) : Type 0 where
   pub still : Still old new
   pub height : new.top ≡ suc old.top
-  pub same : entries new ≡ seen x v c ∷ entries old
+  pub same : entries new ≡ seen x h c ∷ entries old
   pub sound : Sound new
 
 -- back to a height
@@ -35,7 +35,7 @@ pub record Cut (height : ℕ) (old new : Visible) : Type 0 where
   pub same : entries new ≡ seens old.names height old.words.now
   pub sound : Sound new
 
--- each visible name once, with its newest variable, all in the scope c
+-- each visible name once, with its newest variable, all in the scope c and as what came over a WITH
 pub record Restacked (c : ℕ) (old new : Visible) : Type 0 where
   pub still : Still old new
   pub same : entries new ≡ seen_once c (once (entries old))

@@ -1,33 +1,35 @@
 -- The list of visible names of the resolve walk, and how it stands in words.
-use Rattle.std.specs.Prelude.{ℕ, zero, suc, ◌+◌, ◌*◌, ◌<◌, ◌≤◌, ◌≡◌, Bool, false, cond, List, [], ◌∷◌, eqb, length, get_or, Option, None, Some}
-use Rattle.semantics.specs.Resolve.{Seen, seen, Pair, pair}
+use Rattle.std.specs.Prelude.{ℕ, zero, suc, ◌+◌, ◌*◌, ◌/◌, ◌%◌, ◌<◌, ◌≤◌, ◌≡◌, Bool, false, cond, List, [], ◌∷◌, eqb, length, get_or, Option, None, Some}
+use Rattle.semantics.specs.Resolve.{Hit, hit, Seen, seen, Pair, pair}
+use Rattle.visible.specs.declared.Newest.{Newest}
 
--- the scope of the newest binding of a name, whose variable is `lookup`'s
+-- the scope of the newest binding of a name, whose variable and via are `lookup`'s
 unfoldable pub scope_of : ℕ → List Seen → ℕ
 scope_of x [] = 0
-scope_of x (seen y v p ∷ l) = cond (eqb x y) p (scope_of x l)
+scope_of x (seen y h p ∷ l) = cond (eqb x y) p (scope_of x l)
 
--- what is told of a name: the variable that is looked up, and the scope
-abbrev pub answer : Option ℕ → ℕ → Option (ℕ × ℕ)
+-- what is told of a name: what is looked up, and the scope
+abbrev pub answer : Option Hit → (scope : ℕ) → Option Newest
 answer None p = None
-answer (Some v) p = Some (v, p)
+answer (Some (hit v o)) p = Some (record { variable = v; scope = p; via = o })
 
 -- no scope is above c, and from the newest to the oldest they do not rise
 unfoldable pub Descends : ℕ → List Seen → Type 0
 Descends c [] = Unit {0}
-Descends c (seen y v p ∷ l) = (p ≤ c) × Descends p l
+Descends c (seen y h p ∷ l) = (p ≤ c) × Descends p l
 
 -- whether the binding that was found is of the scope c
-abbrev pub is_of : ℕ → Option (ℕ × ℕ) → Bool
-is_of c (Some (v, p)) = eqb p c
+abbrev pub is_of : ℕ → Option Newest → Bool
+is_of c (Some newest) = eqb newest.scope c
 is_of c None = false
 
 -- where a name's newest entry stands from the oldest, + 1, or 0
 unfoldable pub place : ℕ → List Seen → ℕ
 place x [] = 0
-place x (seen y v p ∷ l) = cond (eqb x y) (suc (length l)) (place x l)
+place x (seen y h p ∷ l) = cond (eqb x y) (suc (length l)) (place x l)
 
--- the entry i over a table of n names, and the entries below the height t, newest first
+-- the entry i over a table of n names, whose third word is twice the scope, and 1 more if it came over a WITH; and the entries below the
+-- height t, newest first
 abbrev pub name_at : ℕ → List ℕ → ℕ → ℕ
 name_at n m i = get_or m (n + i * 4) 0
 
@@ -35,7 +37,7 @@ abbrev pub variable_at : ℕ → List ℕ → ℕ → ℕ
 variable_at n m i = get_or m (n + i * 4 + 1) 0
 
 abbrev pub seen_at : ℕ → List ℕ → ℕ → Seen
-seen_at n m i = seen (name_at n m i) (variable_at n m i) (get_or m (n + i * 4 + 2) 0)
+seen_at n m i = let home = get_or m (n + i * 4 + 2) 0 in seen (name_at n m i) (hit (variable_at n m i) (home % 2)) (home / 2)
 
 unfoldable pub seens : ℕ → ℕ → List ℕ → List Seen
 seens n zero m = []
@@ -48,10 +50,10 @@ pub record Tabled (n top : ℕ) (m : List ℕ) : Type 0 where
   pub prevs : (i : ℕ) → i < top → get_or m (n + i * 4 + 3) 0 ≡ place (name_at n m i) (seens n i m)
   pub named : (i : ℕ) → i < top → name_at n m i < n
 
--- pairs as entries of one scope
+-- pairs as entries of one scope, which came over a WITH
 unfoldable pub seen_once : ℕ → List Pair → List Seen
 seen_once c [] = []
-seen_once c (pair x v ∷ ps) = seen x v c ∷ seen_once c ps
+seen_once c (pair x v ∷ ps) = seen x (hit v 1) c ∷ seen_once c ps
 
 -- of the entries below i, those that are the newest of their name below the height top
 unfoldable pub newest : ℕ → ℕ → List ℕ → ℕ → List Pair

@@ -1,14 +1,13 @@
 // The visible names in lent words: for each name where its newest entry stands (its number + 1, or 0), then a stack of entries of four
-// words: name, variable, scope, and where the name's newest entry stood before. Numbers + 1, and 0 for none, are what
-// is stored: lent words, no heap. Finding and binding take constant time, and so does each
-// entry that is undone.
+// words: name, variable, twice the scope and 1 more if it came over a WITH, and where the name's newest entry stood before. Numbers + 1, and 0
+// for none, are what is stored: lent words, no heap. Finding and binding take constant time, and so does each entry that is undone.
 // One run of lent words for both: how many names there are is known only once the sheet is read. Entries are gone over by index: each turn writes
 // where other entries and the names' places stand. That the words are `Sound` and a name is below `names` is asked by contracts: a ghost field would
 // have to hold between the writes of `bind` and `cut`.
 #![tactic(auto)]
 
-ghost use Rattle.std.specs.Prelude.{◌≡◌, ◌+◌, ◌*◌, ◌<◌, ◌≤◌, length};
-ghost use Rattle.semantics.specs.Resolve.{lookup};
+ghost use Rattle.std.specs.Prelude.{◌≡◌, cond, ◌+◌, ◌*◌, ◌<◌, ◌≤◌, length};
+ghost use Rattle.semantics.specs.Resolve.{hit, lookup};
 ghost use Rattle.visible.specs.Visible.{scope_of, name_at, answer, Turned};
 ghost use Rattle.visible.specs.Stack.{entries, entry_at, Sound, Bound, Cut, Restacked};
 
@@ -20,9 +19,17 @@ pub struct Visible<'a> {
     pub top: u32,
 }
 
+// The newest binding of a name: its variable, the scope that binds it, and via_projection, 1 if it came over a WITH and else 0.
+#[derive(Clone, Copy)]
+pub struct Newest {
+    pub variable: u32,
+    pub scope: u32,
+    pub via: u32,
+}
+
 impl Visible<'_> {
-    // The newest binding of x, its variable and its scope; a name past the table has none.
-    pub fn find(&self, x: u32) -> Option<(u32, u32)>
+    // The newest binding of x; a name past the table has none.
+    pub fn find(&self, x: u32) -> Option<Newest>
         requires { Sound self.now }
         ensures { result ≡ answer (lookup x (entries self.now)) (scope_of x (entries self.now)) }
     {
@@ -30,7 +37,12 @@ impl Visible<'_> {
             let i = self.words[x as usize];
             if 0 < i {
                 let k = (self.names as usize) + ((i - 1) as usize) * 4;
-                return Some((self.words[k + 1], self.words[k + 2]));
+                let home = self.words[k + 2];
+                return Some(Newest {
+                    variable: self.words[k + 1],
+                    scope: home / 2,
+                    via: home % 2,
+                });
             }
         }
         None
@@ -45,16 +57,16 @@ impl Visible<'_> {
         (self.words[k], self.words[k + 1])
     }
 
-    // One entry more.
-    pub fn bind(&mut self, x: u32, v: u32, scope: u32)
-        requires { (x < self.old.names) × ((self.old.top < 4294967295) × ((self.old.names + (self.old.top + 1) * 4 ≤ length self.old.words.now) × Sound self.old)) }
-        ensures { Bound x v scope self.old self.new }
+    // One entry more; whether it came over a WITH.
+    pub fn bind(&mut self, x: u32, v: u32, scope: u32, over: bool)
+        requires { (x < self.old.names) × ((scope < 2147483648) × ((self.old.top < 4294967295) × ((self.old.names + (self.old.top + 1) * 4 ≤ length self.old.words.now) × Sound self.old))) }
+        ensures { Bound x (hit v (cond over 1 0)) scope self.old self.new }
     {
         let old = self.words[x as usize];
         let k = (self.names as usize) + (self.top as usize) * 4;
         self.words[k] = x;
         self.words[k + 1] = v;
-        self.words[k + 2] = scope;
+        self.words[k + 2] = scope * 2 + u32::from(over);
         self.words[k + 3] = old;
         self.top += 1;
         self.words[x as usize] = self.top;
@@ -73,9 +85,10 @@ impl Visible<'_> {
         self.top = height;
     }
 
-    // Each visible name once, with its newest variable, in the order of those bindings, oldest first, all in one scope: what a star carries.
+    // Each visible name once, with its newest variable, in the order of those bindings, oldest first, all in one scope: what a star carries, which
+    // came over a WITH.
     pub fn restack(&mut self, scope: u32)
-        requires { Sound self.old }
+        requires { (scope < 2147483648) × Sound self.old }
         ensures { Restacked scope self.old self.new }
     {
         let mut kept = 0;
@@ -89,7 +102,7 @@ impl Visible<'_> {
 // One turn of `restack`: the entry i goes to the place j if it is the newest of its name; the number of entries that are kept then. It takes the words
 // and not the struct: between two turns these are not `Sound`, and its law goes by the words.
 fn keep(vis: &mut [u32], names: u32, i: u32, j: u32, scope: u32) -> u32
-    requires { (j ≤ i) × ((i < 4294967295) × ((names + (i + 1) * 4 ≤ length vis.old) × (name_at names vis.old i < names))) }
+    requires { (j ≤ i) × ((i < 4294967295) × ((scope < 2147483648) × ((names + (i + 1) * 4 ≤ length vis.old) × (name_at names vis.old i < names)))) }
     ensures { Turned names scope vis.old vis.new i j result }
 {
     let k = (names as usize) + (i as usize) * 4;
@@ -97,17 +110,18 @@ fn keep(vis: &mut [u32], names: u32, i: u32, j: u32, scope: u32) -> u32
     let number = i + 1;
     if vis[x as usize] == number {
         let kept = j + 1;
+        let home = scope * 2 + 1;
         if j < i {
             let v = vis[k + 1];
             let to = (names as usize) + (j as usize) * 4;
             vis[to] = x;
             vis[to + 1] = v;
-            vis[to + 2] = scope;
+            vis[to + 2] = home;
             vis[to + 3] = 0;
             vis[x as usize] = kept;
             return kept;
         }
-        vis[k + 2] = scope;
+        vis[k + 2] = home;
         vis[k + 3] = 0;
         return kept;
     }

@@ -5,7 +5,7 @@ use Rattle.clauses.specs.declared.kind.ClauseKind.{ClauseKind}
 use Rattle.clauses.specs.declared.kind.ClauseKind.TheVariants.{SortedWith}
 use Rattle.scope.specs.Graph.{root_scope}
 use Rattle.semantics.specs.World.{World}
-use Rattle.semantics.specs.Resolve.{Seen, seen, binds, State, Pair, pair, enter, standing, bind_all, barrier}
+use Rattle.semantics.specs.Resolve.{hit, Seen, seen, binds, State, Pair, pair, enter, standing, bind_all, barrier}
 use Rattle.fused.specs.Fused.{Both, Mode}
 use Rattle.fused.specs.Clauses.{all_of, with_go}
 use Rattle.visible.specs.Visible.{seens}
@@ -43,12 +43,12 @@ pub record Rebinds (c : Context) (p : Pairs) (w w' : Walk) (a b top : ℕ) : Typ
 -- pairs are seen in the current scope, without an event
 abbrev pub seen_by : List Pair → State → State
 seen_by [] s = s
-seen_by (pair x v ∷ ps) s = seen_by ps (standing (seen x v s.cur ∷ s.visible) s.cur s)
+seen_by (pair x v ∷ ps) s = seen_by ps (standing (seen x (hit v 1) s.cur ∷ s.visible) s.cur s)
 
 -- how many of them are the first of their name in the scope c, above a list
 unfoldable pub firsts : ℕ → List Pair → List Seen → ℕ
 firsts c [] l = 0
-firsts c (pair x v ∷ ps) l = cond (binds c x l) 0 1 + firsts c ps (seen x v c ∷ l)
+firsts c (pair x v ∷ ps) l = cond (binds c x l) 0 1 + firsts c ps (seen x (hit v 1) c ∷ l)
 
 -- the first n pairs are seen
 pub record SeesAll (n : ℕ) (p : Pairs) (c : Context) (w w' : Walk) : Type 0 where
@@ -66,8 +66,9 @@ pub record SeesFirst (n : ℕ) (p : Pairs) (w w' : Walk) (r : ℕ) : Type 0 wher
 abbrev pub Sees : Pairs → (w w' : Walk) → ℕ → Type 0
 Sees p = SeesFirst p.count p
 
--- what seeing them asks: their names have places, and the stack has room
+-- what seeing them asks: their names have places, and the stack and its words have room
 pub record SeesIn (w : Walk) (p : Pairs) : Type 0 where
+  pub short : w.cur < 2147483648
   pub binding : Binding w
   pub wide : p.count * 2 ≤ length p.words.now
   pub named : InNames w.visible.names (pairs_of p)
@@ -96,7 +97,8 @@ pub record BindsIn (top : ℕ) (w : Walk) (p : Pairs) : Type 0 where
   pub room : w.visible.names + (top + p.count) ≤ w.at
 
 -- what seeing the pairs alone again asks: the stack is above a height, and there is room for the pairs
-pub record SeesAgainIn (height : ℕ) (w : Walk) (p : Pairs) : Type 0 where
+pub record SeesAgainIn (height root : ℕ) (w : Walk) (p : Pairs) : Type 0 where
+  pub short : root < 2147483648
   pub sound : Sound w.visible
   pub low : height ≤ w.visible.top
   pub wide : p.count * 2 ≤ length p.words.now

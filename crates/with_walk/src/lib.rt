@@ -29,14 +29,14 @@ fn see_pairs(walk: &mut Walk, pairs: &Pairs) -> u32
         let (x, v) = pairs.pair(i);
         made += u32::from(!walk.is_again(x));
         let cur = walk.cur;
-        walk.visible.bind(x, v, cur);
+        walk.visible.bind(x, v, cur, true);
     }
     made
 }
 
 // Where there is a star, each name that is visible stays so once, in the current scope; how many these are, 0 without a star.
 fn spread(walk: &mut Walk, star: bool) -> u32
-    requires { Binding walk.old }
+    requires { (walk.old.cur < 2147483648) × Binding walk.old }
     ensures { Spreads star walk.old walk.new result }
 {
     if star {
@@ -74,7 +74,7 @@ fn bind_with(walk: &mut Walk, context: &Context, pairs: &Pairs, head: Head, top:
 // After the keys only what is carried is visible. With a star that is all up to the height, where the keys began; without one the stack is
 // emptied, of the names before the WITH too, and the pairs become visible anew.
 fn see_again(walk: &mut Walk, pairs: &Pairs, height: u32, root: u32)
-    requires { SeesAgainIn height walk.old pairs.now }
+    requires { SeesAgainIn height root walk.old pairs.now }
     ensures { SeesAgain pairs.now height root walk.old walk.new }
 {
     if pairs.star {
