@@ -12,7 +12,7 @@ use Rattle.clauses.specs.Tree.{Yield, yield, Clause, opening, reading, with', re
 use Rattle.tables.specs.Row.{Row, row}
 use Rattle.semantics.specs.Log.{Event}
 use Rattle.semantics.specs.World.{World, hush, variable}
-use Rattle.semantics.specs.Resolve.{Seen, Pair, pair, State, lookup, leave, standing, enter, say_if, use_var, use_name, visit, bind_anew, bind_new, bind_path, bind_elem, resolve, resolves, bind_pattern, carried_by, carry_all, bind_all, barrier, fresh, yields, aliases, sort_by, clause, clauses, arms}
+use Rattle.semantics.specs.Resolve.{Hit, hit, Seen, Pair, pair, State, lookup, leave, standing, enter, say_if, use_var, use_name, visit, bind_anew, bind_new, bind_path, bind_elem, resolve, resolves, bind_pattern, carried_by, carry_all, bind_all, barrier, fresh, yields, aliases, sort_by, clause, clauses, arms}
 
 -- s, with l said before
 abbrev pub after : List Event → State → State
@@ -29,12 +29,12 @@ module _ (w : World) (l : List Event) where
   var-after v None s = refl
   var-after v (Some (row i x k a b)) s = refl
 
-  name-after : (x : ℕ) (o : Option ℕ) (s : State) → use_name w x o (after l s) ≡ after l (use_name w x o s)
+  name-after : (x : ℕ) (o : Option Hit) (s : State) → use_name w x o (after l s) ≡ after l (use_name w x o s)
   unfolding use_name
-  name-after x (Some v) s = refl
+  name-after x (Some (hit v u)) s = refl
   name-after x None s = say-after _ _ _
 
-  visit-after : (hushed : Bool) (x : ℕ) (o : Option ℕ) (s : State) → visit w hushed x o (after l s) ≡ after l (visit w hushed x o s)
+  visit-after : (hushed : Bool) (x : ℕ) (o : Option Hit) (s : State) → visit w hushed x o (after l s) ≡ after l (visit w hushed x o s)
   unfolding visit
   visit-after true x o s = refl
   visit-after false x o s = name-after x o s
@@ -44,7 +44,7 @@ module _ (w : World) (l : List Event) where
   path-after None s = refl
   path-after (Some v) s = say-after _ _ _
 
-  new-after : (o : Option ℕ) (x v k : ℕ) (s : State) → bind_new w o x v k (after l s) ≡ after l (bind_new w o x v k s)
+  new-after : (o : Option Hit) (x v k : ℕ) (s : State) → bind_new w o x v k (after l s) ≡ after l (bind_new w o x v k s)
   unfolding bind_new
   new-after None x v k s = refl
   new-after (Some u) x v k s = refl

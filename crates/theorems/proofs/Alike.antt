@@ -16,7 +16,7 @@ use Rattle.clauses.specs.Tree.{Projection}
 use Rattle.tables.specs.Row.{path_kind, Row, row}
 use Rattle.semantics.specs.Log.{e1002, finding, bound, Event, open', bind, find}
 use Rattle.semantics.specs.World.{World, variable, name_of, kind_of}
-use Rattle.semantics.specs.Resolve.{Seen, seen, Pair, pair, State, lookup, binds, without, once, say, say_if, enter, bind_name, bind_over, leave, standing, use_var, use_name, visit, bind_anew, bind_new, bind_path, bind_elem, resolve, resolves, bind_pattern, projected, any_star, starred, carried_by, bind_all, fresh, sort_by}
+use Rattle.semantics.specs.Resolve.{Hit, hit, Seen, seen, Pair, pair, State, lookup, binds, without, once, say, say_if, enter, bind_name, bind_over, leave, standing, use_var, use_name, visit, bind_anew, bind_new, bind_path, bind_elem, resolve, resolves, bind_pattern, projected, any_star, starred, carried_by, bind_all, fresh, sort_by}
 use Rattle.theorems.proofs.Keeps.{say_if-keeps, all_keep}
 use Rattle.theorems.proofs.Needs.{own-append}
 use Rattle.theorems.proofs.Shows.{named}
@@ -57,7 +57,7 @@ module _ (w : World) (n : ℕ) where
         cur = h.cur;
         last = h.last;
         log = ap₂ ◌∷◌ (ap₂ (λ g c. bind false g (bound c x v k)) own h.cur) h.log;
-        finds = λ y. ap (cond (eqb y x) (Some v)) (h.finds y);
+        finds = λ y. ap (cond (eqb y x) (Some (hit v 0))) (h.finds y);
         owns = λ c y q. ap₂ (λ a b. eqb y x && eqb a c || b) h.cur (h.owns c y q);
         high = h.high;
       }
@@ -67,10 +67,10 @@ module _ (w : World) (n : ℕ) where
   var-I v None h = h
   var-I v (Some (row i x k a b)) h = say-I _ h
 
-  visit-I : (hushed : Bool) (x : ℕ) (o : Option ℕ) {s t : State} → Indistinct n s t → Indistinct n (visit w hushed x o s) (visit w hushed x o t)
+  visit-I : (hushed : Bool) (x : ℕ) (o : Option Hit) {s t : State} → Indistinct n s t → Indistinct n (visit w hushed x o s) (visit w hushed x o t)
   unfolding visit use_name
   visit-I true x o h = h
-  visit-I false x (Some v) h = say-I _ h
+  visit-I false x (Some (hit v u)) h = say-I _ h
   visit-I false x None h = say_if-I (not (w.is_star x)) _ (say-I _ h)
 
   anew-I : (a b x v k : ℕ) {s t : State} → n < t.cur → Indistinct n s t → Indistinct n (bind_anew w a b x v k s) (bind_anew w a b x v k t)
@@ -85,7 +85,7 @@ module _ (w : World) (n : ℕ) where
   path-I None p h = h
   path-I (Some v) p h = anew-I 0 0 (name_of w v) v path_kind p h
 
-  new-I : (o : Option ℕ) (x v k : ℕ) {s t : State} → n < t.cur → Indistinct n s t → Indistinct n (bind_new w o x v k s) (bind_new w o x v k t)
+  new-I : (o : Option Hit) (x v k : ℕ) {s t : State} → n < t.cur → Indistinct n s t → Indistinct n (bind_new w o x v k s) (bind_new w o x v k t)
   unfolding bind_new
   new-I None x v k p h = bind-I x v k p h
   new-I (Some u) x v k p h = h
@@ -105,7 +105,7 @@ module _ (w : World) (n : ℕ) where
   elem-cur k None s = refl
   elem-cur k (Some v) s = new-cur (lookup (name_of w v) s.visible)
     where
-      new-cur : (o : Option ℕ) → (bind_new w o (name_of w v) v k s).cur ≡ s.cur
+      new-cur : (o : Option Hit) → (bind_new w o (name_of w v) v k s).cur ≡ s.cur
       new-cur None = unfold bind_new in refl
       new-cur (Some u) = unfold bind_new in refl
 
@@ -162,7 +162,7 @@ keys-alike w ks s A B c n f g p =
 -- What bound pairs leave visible: the newest first, in the scope c, above the list before.
 unfoldable pub seen_in : ℕ → List Pair → List Seen → List Seen
 seen_in c [] vis = vis
-seen_in c (pair x v ∷ ps) vis = seen_in c ps (seen x v c ∷ vis)
+seen_in c (pair x v ∷ ps) vis = seen_in c ps (seen x (hit v 1) c ∷ vis)
 
 pub bound-seen : (w : World) (ps : List Pair) (s : State) → (bind_all w ps s).visible ≡ seen_in s.cur ps s.visible
 unfolding bind_all seen_in
@@ -178,9 +178,9 @@ bound-last w (pair x v ∷ ps) s = bound-last w ps (bind_over true x v (kind_of 
 named-seen : (x c : ℕ) (ps : List Pair) (vis : List Seen) → lookup x (seen_in c ps vis) ≡ None → (named x ps ≡ false) × (lookup x vis ≡ None)
 unfolding seen_in named lookup
 named-seen x c [] vis e = (refl, e)
-named-seen x c (pair y v ∷ ps) vis e = let h = named-seen x c ps (seen y v c ∷ vis) e in go (eqb x y) h.0 h.1
+named-seen x c (pair y v ∷ ps) vis e = let h = named-seen x c ps (seen y (hit v 1) c ∷ vis) e in go (eqb x y) h.0 h.1
   where
-    go : (b : Bool) → named x ps ≡ false → cond b (Some v) (lookup x vis) ≡ None → ((b || named x ps) ≡ false) × (lookup x vis ≡ None)
+    go : (b : Bool) → named x ps ≡ false → cond b (Some (hit v 1)) (lookup x vis) ≡ None → ((b || named x ps) ≡ false) × (lookup x vis ≡ None)
     go true p q = absurd (let z : ◌≡◌ {A = ℕ} 0 1 = cc in omega arith)
     go false p q = (p, q)
 

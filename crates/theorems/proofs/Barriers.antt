@@ -10,7 +10,7 @@ use mathlib.Core.List.{List, [], ◌∷◌, ◌++◌, map, reverse, reverse-cons
 use lib.Dec.{eqb, ltb, lt→ltb}
 use Rattle.scope.specs.Graph.{with_barrier, Scope, scope, Carried, carried}
 use Rattle.scope.specs.Lookup.{carries}
-use Rattle.semantics.specs.Lookup.{Looked, nothing, answer_at}
+use Rattle.scope.specs.Lookup.{Looked, nothing, answer_at}
 use Rattle.clauses.specs.Tree.{exprs}
 use Rattle.sheet.specs.Statement.{Statement}
 use Rattle.semantics.specs.Log.{Event, open', carry, binds_in, carries_in, logs}

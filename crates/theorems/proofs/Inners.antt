@@ -11,12 +11,12 @@ use mathlib.Core.Bool.{Bool, true, false, cond, ◌&&◌}
 use mathlib.Core.List.{List, [], ◌∷◌, ◌++◌, reverse, reverse-cons, reverse-append, append_assoc}
 use lib.Dec.{eqb, ltb, lt→ltb}
 use Rattle.scope.specs.Graph.{comprehension_scope, Scope, scope}
-use Rattle.semantics.specs.Lookup.{Looked, at, nothing, answer_at}
+use Rattle.scope.specs.Lookup.{Looked, at, nothing, answer_at}
 use Rattle.expr.specs.Tree.{Exprs, Steps, end, part, elem}
 use Rattle.tables.specs.Row.{path_kind}
 use Rattle.semantics.specs.Log.{Finding, bound, Event, open', bind, find, binds_in, opened, logs}
 use Rattle.semantics.specs.World.{World, variable, name_of}
-use Rattle.semantics.specs.Resolve.{Seen, seen, State, lookup, binds, say_if, enter, bind_name, bind_anew, bind_new, bind_path, bind_elem, resolves, bind_pattern}
+use Rattle.semantics.specs.Resolve.{Hit, hit, variable_of, Seen, seen, State, lookup, binds, say_if, enter, bind_name, bind_anew, bind_new, bind_path, bind_elem, resolves, bind_pattern}
 use Rattle.theorems.specs.Site.{silent}
 use Rattle.theorems.specs.Agree.{seen_as, look, or_parent}
 use Rattle.theorems.proofs.Views.{binds-append}
@@ -99,10 +99,10 @@ record Owns (c : ℕ) (base : List Seen) (s : State) : Type 0 where
   pub owns : (x : ℕ) → as_looked c (binds_of c x s.log None) ≡ seen_as x own
 
 bind-O : {c : ℕ} {base : List Seen} (y v k : ℕ) (s : State) → s.cur ≡ c → Owns c base s → Owns c base (bind_name y v k s)
-unfolding seen_as
+unfolding seen_as variable_of
 bind-O {c} y v k s e h = record {
-  own = seen y v s.cur ∷ h.own;
-  adds = ap (◌∷◌ (seen y v s.cur)) h.adds;
+  own = seen y (hit v 0) s.cur ∷ h.own;
+  adds = ap (◌∷◌ (seen y (hit v 0) s.cur)) h.adds;
   owns = λ x.
       ap (as_looked c) (one-bind c x None y v k s)
       ∙ rw (e, eqb_same c, eqb_comm y x) (looked-cond c v (eqb x y) (binds_of c x s.log None) ∙ ap (cond (eqb x y) (at v c)) (h.owns x));
@@ -136,7 +136,7 @@ module _ (w : World) where
   path-clear n None s h = record { same = λ x d. refl }
   path-clear n (Some v) s h = record { same = λ x d. quiet-find n x d _ _ (bind_name (name_of w v) v path_kind s) ∙ (bind-clear n (name_of w v) v path_kind s h).same x d }
 
-  new-clear : (n : ℕ) (o : Option ℕ) (y : ℕ) (v k : ℕ) (s : State) → (n ≡ s.cur → ⊥) → Clear n s (bind_new w o y v k s)
+  new-clear : (n : ℕ) (o : Option Hit) (y : ℕ) (v k : ℕ) (s : State) → (n ≡ s.cur → ⊥) → Clear n s (bind_new w o y v k s)
   unfolding bind_new
   new-clear n None y v k s h = bind-clear n y v k s h
   new-clear n (Some u) y v k s h = record { same = λ x d. refl }
@@ -168,7 +168,7 @@ module _ (w : World) where
   path-O None s e h = h
   path-O (Some v) s e h = find-O _ _ (bind_name (name_of w v) v path_kind s) (bind-O (name_of w v) v path_kind s e h)
 
-  new-O : {c : ℕ} {base : List Seen} (o : Option ℕ) (y : ℕ) (v k : ℕ) (s : State) → s.cur ≡ c → Owns c base s → Owns c base (bind_new w o y v k s)
+  new-O : {c : ℕ} {base : List Seen} (o : Option Hit) (y : ℕ) (v k : ℕ) (s : State) → s.cur ≡ c → Owns c base s → Owns c base (bind_new w o y v k s)
   unfolding bind_new
   new-O None y v k s e h = bind-O y v k s e h
   new-O (Some u) y v k s e h = h

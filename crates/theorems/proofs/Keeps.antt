@@ -7,7 +7,7 @@ use Rattle.expr.specs.Tree.{Expr, var, unresolved, node, predicate, comprehensio
 use Rattle.tables.specs.Row.{Row, row}
 use Rattle.semantics.specs.Log.{Event}
 use Rattle.semantics.specs.World.{World}
-use Rattle.semantics.specs.Resolve.{State, lookup, say_if, use_var, use_name, visit, resolve, resolves}
+use Rattle.semantics.specs.Resolve.{Hit, hit, State, lookup, say_if, use_var, use_name, visit, resolve, resolves}
 
 pub record Keeps (s t : State) : Type 0 where
   pub visible : t.visible ≡ s.visible
@@ -27,12 +27,12 @@ module _ (w : World) where
   var-keeps v None s = record { visible = refl; cur = refl }
   var-keeps v (Some (row i x k a b)) s = record { visible = refl; cur = refl }
 
-  name-keeps : (x : ℕ) (o : Option ℕ) (s : State) → Keeps s (use_name w x o s)
+  name-keeps : (x : ℕ) (o : Option Hit) (s : State) → Keeps s (use_name w x o s)
   unfolding use_name
-  name-keeps x (Some v) s = record { visible = refl; cur = refl }
+  name-keeps x (Some (hit v u)) s = record { visible = refl; cur = refl }
   name-keeps x None s = let k = say_if-keeps (not (w.is_star x)) _ _ in record { visible = k.visible; cur = k.cur }
 
-  visit-keeps : (b : Bool) (x : ℕ) (o : Option ℕ) (s : State) → Keeps s (visit w b x o s)
+  visit-keeps : (b : Bool) (x : ℕ) (o : Option Hit) (s : State) → Keeps s (visit w b x o s)
   unfolding visit
   visit-keeps true x o s = record { visible = refl; cur = refl }
   visit-keeps false x o s = name-keeps x o s

@@ -12,7 +12,7 @@ use lib.Dec.{T, eqb, ltb, eqb→eq, ltb→lt, lt→ltb}
 use lib.ListN.{length}
 use Rattle.scope.specs.Graph.{with_barrier, Scope, scope, Entry, entry, Carried, carried}
 use Rattle.scope.specs.Lookup.{bound_in, carries, parent_at, kind_at, passes}
-use Rattle.semantics.specs.Lookup.{Looked, refused, answer_at, climb, lookup_in}
+use Rattle.scope.specs.Lookup.{Looked, refused, answer_at, climb, lookup_in}
 use Rattle.semantics.specs.Log.{Bound, bound, Event, open', scopes_in, binds_in, carries_in, opened, logs}
 use Rattle.semantics.specs.Lists.{put, puts}
 use Rattle.theorems.specs.Agree.{look}

@@ -17,7 +17,7 @@ use Rattle.tables.specs.Row.{value_kind, path_kind, Row, row}
 use Rattle.sheet.specs.Statement.{Statement}
 use Rattle.semantics.specs.Log.{Finding, Event, open', bind, carry, answer, find, opened}
 use Rattle.semantics.specs.World.{World, hush, variable, opens, yield_name, name_of, kind_of, world_of}
-use Rattle.semantics.specs.Resolve.{Seen, Pair, pair, State, lookup, say, say_if, enter, bind_name, bind_over, leave, standing, use_var, use_name, visit, bind_anew, bind_new, bind_path, bind_elem, resolve, resolves, bind_pattern, carried_by, carry_all, bind_all, barrier, fresh, yields, aliases, sort_by, clause, clauses, arms, start, run, log}
+use Rattle.semantics.specs.Resolve.{Hit, hit, Seen, Pair, pair, State, lookup, say, say_if, enter, bind_name, bind_over, leave, standing, use_var, use_name, visit, bind_anew, bind_new, bind_path, bind_elem, resolve, resolves, bind_pattern, carried_by, carry_all, bind_all, barrier, fresh, yields, aliases, sort_by, clause, clauses, arms, start, run, log}
 use Rattle.semantics.specs.Lists.{scopes, bindings, carried_list}
 use Rattle.theorems.specs.Site.{Cut, whole, in_head, in_arm, silent, entry, before}
 use Rattle.theorems.specs.Agree.{seen_as, look, or_parent, opened_after, in_lists}
@@ -93,12 +93,12 @@ module _ (warns : Bool) (st : Statement) where
     if-M true f s h = (tt, h)
     if-M false f s h = h
 
-    name-M : (x : ℕ) (o : Option ℕ) (s : State) → Met s.log → Met (use_name w x o s).log
+    name-M : (x : ℕ) (o : Option Hit) (s : State) → Met s.log → Met (use_name w x o s).log
     unfolding use_name Met Here
-    name-M x (Some v) s h = (tt, h)
+    name-M x (Some (hit v u)) s h = (tt, h)
     name-M x None s h = if-M (not (w.is_star x)) _ _ (tt, h)
 
-    visit-M : (hushed : Bool) (x : ℕ) (o : Option ℕ) (s : State) → Met s.log → Met (visit w hushed x o s).log
+    visit-M : (hushed : Bool) (x : ℕ) (o : Option Hit) (s : State) → Met s.log → Met (visit w hushed x o s).log
     unfolding visit
     visit-M true x o s h = h
     visit-M false x o s h = name-M x o s h
@@ -116,7 +116,7 @@ module _ (warns : Bool) (st : Statement) where
     path-M None s h = h
     path-M (Some v) s h = anew-M 0 0 (name_of w v) v path_kind s h
 
-    new-M : (o : Option ℕ) (x v k : ℕ) (s : State) → Met s.log → Met (bind_new w o x v k s).log
+    new-M : (o : Option Hit) (x v k : ℕ) (s : State) → Met s.log → Met (bind_new w o x v k s).log
     unfolding bind_new
     new-M None x v k s h = bind-M false x v k s h
     new-M (Some u) x v k s h = h

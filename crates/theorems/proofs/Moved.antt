@@ -18,7 +18,7 @@ use Rattle.expr.specs.Erase.{erase_e, erases, erase_s}
 use Rattle.clauses.specs.Erase.{erase_projection, erase_keys, erase_c, erase_a}
 use Rattle.semantics.specs.Log.{e1002, finding, Bound, bound, Event, open', bind, carry, answer, find}
 use Rattle.semantics.specs.World.{World, hush, variable, opens, Direct, a_var, a_name, other, direct, yield_name, name_of, kind_of}
-use Rattle.semantics.specs.Resolve.{Seen, seen, Pair, pair, State, lookup, binds, say, say_if, enter, bind_name, bind_over, leave, standing, use_var, use_name, visit, bind_anew, bind_new, bind_path, bind_elem, resolve, resolves, bind_pattern, without, once, carries, projected, any_star, starred, carried_by, carry_all, bind_all, barrier, fresh, yields, alias_in, aliases, sort_by, clause, clauses, arms}
+use Rattle.semantics.specs.Resolve.{Hit, hit, variable_of, Seen, seen, Pair, pair, State, lookup, binds, say, say_if, enter, bind_name, bind_over, leave, standing, use_var, use_name, visit, bind_anew, bind_new, bind_path, bind_elem, resolve, resolves, bind_pattern, without, once, carries, projected, any_star, starred, carried_by, carry_all, bind_all, barrier, fresh, yields, alias_in, aliases, sort_by, clause, clauses, arms}
 use Rattle.theorems.specs.Compare.{blank_scope, blank_finding, number_scope}
 use Rattle.theorems.proofs.Tests.{bool-ext, eq→eqb}
 
@@ -127,7 +127,7 @@ module _ (w : World) (m : ℕ) where
   once-up : (vis : List Seen) → once (map (number_seen (up m)) vis) ≡ once vis
   unfolding once
   once-up [] = refl
-  once-up (seen x v p ∷ vis) = ap (λ ps. pair x v ∷ without x ps) (once-up vis)
+  once-up (seen x v p ∷ vis) = ap (λ ps. pair x (variable_of v) ∷ without x ps) (once-up vis)
 
   carried-up : (ps : List Projection) (vis : List Seen) → carried_by w ps (map (number_seen (up m)) vis) ≡ carried_by w (map erase_projection ps) vis
   unfolding carried_by starred
@@ -154,7 +154,7 @@ module _ (w : World) (m : ℕ) where
     bind-R : (over : Bool) (x v k : ℕ) → R m (bind_over over x v k s) (bind_over over x v k c)
     unfolding blank number number_bound
     bind-R over x v k = record {
-      visible = ap₂ (λ n l. seen x v n ∷ l) h.cur h.visible;
+      visible = ap₂ (λ n l. seen x (hit v (cond over 1 0)) n ∷ l) h.cur h.visible;
       cur = h.cur;
       last = h.last;
       log = ap₂ ◌∷◌ (ap₂ (λ g n. bind over g (bound n x v k)) (owned-R x) h.cur) h.log;
@@ -171,7 +171,7 @@ module _ (w : World) (m : ℕ) where
     var-R v None = h
     var-R v (Some (row i x k a b)) = say-R (unfold blank number in refl)
 
-    new-R : (o : Option ℕ) (x v k : ℕ) → R m (bind_new w o x v k s) (bind_new w o x v k c)
+    new-R : (o : Option Hit) (x v k : ℕ) → R m (bind_new w o x v k s) (bind_new w o x v k c)
     unfolding bind_new
     new-R None x v k = bind-R false x v k
     new-R (Some u) x v k = h
@@ -181,12 +181,12 @@ module _ (w : World) (m : ℕ) where
   say_if-R true e f h p = say-R h p
   say_if-R false e f h p = h
 
-  name-R : (x : ℕ) (o : Option ℕ) {s c : State} → R m s c → R m (use_name w x o s) (use_name w x o c)
+  name-R : (x : ℕ) (o : Option Hit) {s c : State} → R m s c → R m (use_name w x o s) (use_name w x o c)
   unfolding use_name blank number blank_finding
-  name-R x (Some v) h = say-R h refl
+  name-R x (Some (hit v u)) h = say-R h refl
   name-R x None h = say_if-R (not (w.is_star x)) _ _ (say-R h refl) refl
 
-  visit-R : (hushed : Bool) (x : ℕ) (o : Option ℕ) {s c : State} → R m s c → R m (visit w hushed x o s) (visit w hushed x o c)
+  visit-R : (hushed : Bool) (x : ℕ) (o : Option Hit) {s c : State} → R m s c → R m (visit w hushed x o s) (visit w hushed x o c)
   unfolding visit
   visit-R true x o h = h
   visit-R false x o h = name-R x o h

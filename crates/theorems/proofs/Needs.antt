@@ -20,7 +20,7 @@ use Rattle.tables.specs.Row.{value_kind, path_kind, Row, row}
 use Rattle.sheet.specs.Statement.{Statement}
 use Rattle.semantics.specs.Log.{e1001, e1002, Finding, finding, Write, bound, Event, open', bind, carry, answer, find, bind_of, binds_in, carries_in, logs}
 use Rattle.semantics.specs.World.{World, hush, variable, opens, yield_name, name_of, kind_of, world_of}
-use Rattle.semantics.specs.Resolve.{Seen, seen, Pair, pair, State, lookup, binds, say, say_if, enter, bind_over, standing, use_var, use_name, visit, bind_anew, bind_new, bind_path, bind_elem, resolve, resolves, bind_pattern, carried_by, carry_all, bind_all, barrier, fresh, yields, aliases, sort_by, clause, clauses, arms, start, run, log}
+use Rattle.semantics.specs.Resolve.{Hit, hit, Seen, seen, Pair, pair, State, lookup, binds, say, say_if, enter, bind_over, standing, use_var, use_name, visit, bind_anew, bind_new, bind_path, bind_elem, resolve, resolves, bind_pattern, carried_by, carry_all, bind_all, barrier, fresh, yields, aliases, sort_by, clause, clauses, arms, start, run, log}
 use Rattle.semantics.specs.Lists.{put, puts, lists}
 use Rattle.theorems.specs.Site.{silent}
 use Rattle.theorems.specs.Needs.{made_one, made, carried_in, Needs}
@@ -225,10 +225,10 @@ module _ (w : World) where
   var-N v None h = h
   var-N v (Some (row i x k a b)) h = answer-N _ h
 
-  visit-N : (hushed : Bool) (x : ℕ) (o : Option ℕ) {s : State} → Counted s → Counted (visit w hushed x o s)
+  visit-N : (hushed : Bool) (x : ℕ) (o : Option Hit) {s : State} → Counted s → Counted (visit w hushed x o s)
   unfolding visit use_name
   visit-N true x o h = h
-  visit-N false x (Some v) h = answer-N _ h
+  visit-N false x (Some (hit v u)) h = answer-N _ h
   visit-N false x None h = find-N (not (w.is_star x)) (finding e1001 0 0 (suc x) 0 0) (answer-N _ h)
 
   anew-N : (a b x v k : ℕ) {s : State} → Owns s → Owns (bind_anew w a b x v k s)
@@ -240,7 +240,7 @@ module _ (w : World) where
   path-N None h = h
   path-N (Some v) h = anew-N 0 0 (name_of w v) v path_kind h
 
-  new-N : (o : Option ℕ) (x v k : ℕ) {s : State} → Owns s → Owns (bind_new w o x v k s)
+  new-N : (o : Option Hit) (x v k : ℕ) {s : State} → Owns s → Owns (bind_new w o x v k s)
   unfolding bind_new
   new-N None x v k h = bind-N false x v k h
   new-N (Some u) x v k h = h

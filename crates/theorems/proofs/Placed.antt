@@ -21,7 +21,7 @@ use Rattle.clauses.specs.Tree.{Clause, with', Arm, arm, exprs, keys_of}
 use Rattle.sheet.specs.Statement.{Statement}
 use Rattle.semantics.specs.Log.{Answer, write, answers_in, finds_in, binds_in, bound, Event, open', bind, carry, answer, find, scopes_in, carries_in, carry_of, opened, logs}
 use Rattle.semantics.specs.World.{World, kind_of, world_of}
-use Rattle.semantics.specs.Resolve.{Seen, seen, Pair, pair, State, binds, enter, standing, carry_all, bind_all, barrier, fresh, sort_by, clause, clauses, arms, start, run, log}
+use Rattle.semantics.specs.Resolve.{hit, Seen, seen, Pair, pair, State, binds, enter, standing, carry_all, bind_all, barrier, fresh, sort_by, clause, clauses, arms, start, run, log}
 use Rattle.semantics.specs.Lists
 use Rattle.semantics.specs.Lists.{puts, notes, answer_for, pairs_at, scopes, bindings, recorded}
 use Rattle.theorems.proofs.Views.{pick-append, answers-append, opened-reverse}
@@ -113,7 +113,7 @@ carry-log w cs s = ap reverse (carry-is w cs s).0 ∙ reverse_aux-reverse_aux-ni
 -- The new Root binds what the barrier carries; vis is visible there.
 unfoldable pub bound_at : World → ℕ → List Pair → List Seen → List Event
 bound_at w n [] vis = []
-bound_at w n (pair x v ∷ cs) vis = bind true (binds n x vis) (bound n x v (kind_of w v)) ∷ bound_at w n cs (seen x v n ∷ vis)
+bound_at w n (pair x v ∷ cs) vis = bind true (binds n x vis) (bound n x v (kind_of w v)) ∷ bound_at w n cs (seen x (hit v 1) n ∷ vis)
 
 bind_is : (w : World) (cs : List Pair) (s : State) → ((bind_all w cs s).log ≡ reverse_aux (bound_at w s.cur cs s.visible) s.log) × ((bind_all w cs s).last ≡ s.last)
 unfolding bind_all bound_at

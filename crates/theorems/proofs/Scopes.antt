@@ -13,7 +13,7 @@ use Rattle.expr.specs.Erase.{erase_e, erases, erase_s}
 use Rattle.tables.specs.Row.{path_kind, Row, row}
 use Rattle.semantics.specs.Log.{Finding, Event, open', bind, carry, answer, find, scopes_in, logs}
 use Rattle.semantics.specs.World.{World, variable, name_of}
-use Rattle.semantics.specs.Resolve.{State, lookup, say_if, enter, bind_name, use_var, use_name, visit, bind_anew, bind_new, bind_path, bind_elem, resolve, resolves, bind_pattern}
+use Rattle.semantics.specs.Resolve.{Hit, hit, State, lookup, say_if, enter, bind_name, use_var, use_name, visit, bind_anew, bind_new, bind_path, bind_elem, resolve, resolves, bind_pattern}
 use Rattle.theorems.specs.Compare.{blank_scope, number_scope}
 use Rattle.theorems.proofs.Views.{map-reverse}
 use Rattle.theorems.proofs.Moved.{up}
@@ -38,10 +38,10 @@ module _ (w : World) where
   var-still v None s = stay
   var-still v (Some (row i x k a b)) s = record { cur = refl; last = refl; scopes = refl }
 
-  visit-still : (hushed : Bool) (x : ℕ) (o : Option ℕ) (s : State) → Still s (visit w hushed x o s)
+  visit-still : (hushed : Bool) (x : ℕ) (o : Option Hit) (s : State) → Still s (visit w hushed x o s)
   unfolding visit use_name logs
   visit-still true x o s = stay
-  visit-still false x (Some v) s = record { cur = refl; last = refl; scopes = refl }
+  visit-still false x (Some (hit v u)) s = record { cur = refl; last = refl; scopes = refl }
   visit-still false x None s = let h = find-still (not (w.is_star x)) _ _ in record { cur = h.cur; last = h.last; scopes = h.scopes }
 
   path-still : (o : Option ℕ) (s : State) → Still s (bind_path w o s)
@@ -49,7 +49,7 @@ module _ (w : World) where
   path-still None s = stay
   path-still (Some v) s = let h = find-still _ _ (bind_name (name_of w v) v path_kind s) in record { cur = h.cur; last = h.last; scopes = h.scopes }
 
-  new-still : (o : Option ℕ) (x v k : ℕ) (s : State) → Still s (bind_new w o x v k s)
+  new-still : (o : Option Hit) (x v k : ℕ) (s : State) → Still s (bind_new w o x v k s)
   unfolding bind_new logs
   new-still None x v k s = record { cur = refl; last = refl; scopes = refl }
   new-still (Some u) x v k s = stay

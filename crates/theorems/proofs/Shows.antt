@@ -18,10 +18,10 @@ use Rattle.clauses.specs.Tree.{Yield, yield, Opening, match, create, merge, Clau
 use Rattle.sheet.specs.Statement.{Statement}
 use Rattle.semantics.specs.Log.{e1002, Finding, finding, bound, Event, open', bind, carry, find, scopes_in, carries_in, opened, logs}
 use Rattle.scope.specs.Lookup.{bound_in, kind_at, parent_at, passes, carries}
-use Rattle.semantics.specs.Lookup.{Looked, at, answer_at, climb, lookup_in}
+use Rattle.scope.specs.Lookup.{Looked, at, answer_at, climb, lookup_in}
 use Rattle.semantics.specs.Lists.{puts, scopes, bindings, carried_list}
 use Rattle.semantics.specs.World.{World, hush, variable, opens, yield_name, name_of, kind_of, world_of}
-use Rattle.semantics.specs.Resolve.{Seen, seen, Pair, pair, State, lookup, binds, say, say_if, enter, bind_over, leave, standing, bind_anew, bind_new, bind_path, bind_elem, resolves, bind_pattern, carried_by, carry_all, bind_all, barrier, fresh, yields, aliases, sort_by, clause, clauses, arms, start, run, log}
+use Rattle.semantics.specs.Resolve.{Hit, hit, variable_of, Seen, seen, Pair, pair, State, lookup, binds, say, say_if, enter, bind_over, leave, standing, bind_anew, bind_new, bind_path, bind_elem, resolves, bind_pattern, carried_by, carry_all, bind_all, barrier, fresh, yields, aliases, sort_by, clause, clauses, arms, start, run, log}
 use Rattle.theorems.proofs.Views.{opened-append, scopes-append, binds-append, carried-append, opened-reverse}
 use Rattle.theorems.proofs.Adds.{after, resolves-after, clauses-after, arms-after}
 use Rattle.theorems.proofs.Keeps.{Keeps, all_keep}
@@ -135,12 +135,12 @@ module _ (w : World) where
       (resolves-W w n (suc n) es (silent-W n s refl)).fine.within r.later r.fine
 
   bind-A : {but : List Pair} {beyond : List Seen} {s : State} (over : Bool) (x v k : ℕ) → 0 < s.cur → Shows (pair x v ∷ but) beyond s → Shows but beyond (bind_over over x v k s)
-  unfolding named seen_as
+  unfolding named seen_as variable_of
   bind-A {but} {beyond} {s} over x v k z h = record {
     fine = (bind-W w 0 0 over x v k z h.low h.fine).fine;
     low = h.low;
-    reach = seen x v s.cur ∷ h.reach;
-    splits = ap (◌∷◌ (seen x v s.cur)) h.splits;
+    reach = seen x (hit v (cond over 1 0)) s.cur ∷ h.reach;
+    splits = ap (◌∷◌ (seen x (hit v (cond over 1 0)) s.cur)) h.splits;
     gives = λ y n.
         ap (λ l. look l s.cur y) (reverse-cons (bind over (binds s.cur x s.visible) (bound s.cur x v k)) s.log)
         ∙ look-bind over (binds s.cur x s.visible) (reverse s.log) s.cur x v k y z (omega (arith, count h.fine, h.low))
@@ -165,7 +165,7 @@ module _ (w : World) where
   unfolding bind_anew
   anew-A a b x v k {s = s} z h = find-A (w.warns && binds s.cur x s.visible) (finding e1002 a b (suc x) 0 0) (bind-A false x v k z (more (pair x v) h))
 
-  new-A : (o : Option ℕ) (x v k : ℕ) {beyond : List Seen} {s : State} → 0 < s.cur → Shows [] beyond s → Shows [] beyond (bind_new w o x v k s)
+  new-A : (o : Option Hit) (x v k : ℕ) {beyond : List Seen} {s : State} → 0 < s.cur → Shows [] beyond s → Shows [] beyond (bind_new w o x v k s)
   unfolding bind_new
   new-A None x v k z h = bind-A false x v k z (more (pair x v) h)
   new-A (Some u) x v k z h = h

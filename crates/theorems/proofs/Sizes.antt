@@ -26,7 +26,7 @@ use Rattle.sheet.proofs.Accepted.{accepted-words}
 use Rattle.scope.specs.Graph.{comprehension_scope, return_scope, with_barrier, call_scope, unwind_scope, root_scope, scope, carried}
 use Rattle.semantics.specs.Log.{e1001, e1002, finding, found, missing, bound, Write, write, Event, open', bind, carry, answer, find, scopes_in, binds_in, carries_in, answers_in, finds_in, logs}
 use Rattle.semantics.specs.World.{World, hush, variable, opens, yield_name, name_of, kind_of, world_of}
-use Rattle.semantics.specs.Resolve.{Pair, pair, State, lookup, binds, say, say_if, enter, bind_name, bind_over, leave, standing, use_var, use_name, visit, bind_anew, bind_new, bind_path, bind_elem, resolve, resolves, bind_pattern, carried_by, carry_all, bind_all, barrier, fresh, yields, aliases, sort_by, clause, clauses, arms, start, run, log}
+use Rattle.semantics.specs.Resolve.{Hit, hit, Pair, pair, State, lookup, binds, say, say_if, enter, bind_name, bind_over, leave, standing, use_var, use_name, visit, bind_anew, bind_new, bind_path, bind_elem, resolve, resolves, bind_pattern, carried_by, carry_all, bind_all, barrier, fresh, yields, aliases, sort_by, clause, clauses, arms, start, run, log}
 use Rattle.semantics.specs.Kinds.{pattern_type, string_type, int_type, no_type, Setting, general, arithmetic, property, boolean, listed, both, plain, type_of, settings, at_type, at_row, misplaced, row_for, kinds_e, kinds_es, kinds_s, kinds_c, kinds}
 use Rattle.semantics.specs.Kinds as Walk
 use Rattle.semantics.specs.Lists.{note, notes, lists}
@@ -119,13 +119,13 @@ module _ (w : World) where
   var-few v None s = omega arith
   var-few v (Some (row i x k a b)) s = omega (arith, one_more (answer (write v (found v k 0))) s.log)
 
-  name-few : (x : ℕ) (o : Option ℕ) (s : State) → said (use_name w x o s) ≤ suc (suc (said s))
+  name-few : (x : ℕ) (o : Option Hit) (s : State) → said (use_name w x o s) ≤ suc (suc (said s))
   unfolding use_name
-  name-few x (Some v) s = omega (arith, one_more (answer (write (w.id x) (found v (kind_of w v) 0))) s.log)
+  name-few x (Some (hit v u)) s = omega (arith, one_more (answer (write (w.id x) (found v (kind_of w v) u))) s.log)
   name-few x None s = omega (arith, one_more (answer (write (w.id x) missing)) s.log, if-few (not (w.is_star x)) (find (finding e1001 0 0 (suc x) 0 0)) (say (answer (write (w.id x) missing)) s))
 
   -- a hushed name says nothing
-  visit-few : (hushed : Bool) (x : ℕ) (o : Option ℕ) (s : State) → said (visit w hushed x o s) ≤ suc (suc (said s))
+  visit-few : (hushed : Bool) (x : ℕ) (o : Option Hit) (s : State) → said (visit w hushed x o s) ≤ suc (suc (said s))
   unfolding visit
   visit-few true x o s = omega arith
   visit-few false x o s = name-few x o s
@@ -139,7 +139,7 @@ module _ (w : World) where
   path-few (Some v) s = omega (arith, anew-few 0 0 (name_of w v) v path_kind s)
   path-few None s = omega arith
 
-  new-few : (o : Option ℕ) (x v k : ℕ) (s : State) → said (bind_new w o x v k s) ≤ 1 + said s
+  new-few : (o : Option Hit) (x v k : ℕ) (s : State) → said (bind_new w o x v k s) ≤ 1 + said s
   unfolding bind_new
   new-few None x v k s = omega (arith, bind-few x v k s)
   new-few (Some u) x v k s = omega arith

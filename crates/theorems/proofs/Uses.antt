@@ -21,7 +21,7 @@ use Rattle.sheet.specs.Statement.{Statement}
 use Rattle.semantics.specs.Log
 use Rattle.semantics.specs.Log.{e1002, Finding, finding, missing, Write, write, Bound, bound, Event, open', bind, carry, answer, find, answer_of, find_of, answers_in, finds_in}
 use Rattle.semantics.specs.World.{World, hush, variable, opens, yield_name, name_of, kind_of, star_name, bytes_of, world_of}
-use Rattle.semantics.specs.Resolve.{Seen, seen, Pair, pair, State, lookup, say, say_if, enter, bind_name, bind_over, leave, standing, use_var, use_name, visit, bind_anew, bind_new, bind_path, bind_elem, resolve, resolves, bind_pattern, carried_by, carry_all, bind_all, barrier, fresh, yields, aliases, sort_by, clause, clauses, arms, start, run, log}
+use Rattle.semantics.specs.Resolve.{Hit, hit, Seen, seen, Pair, pair, State, lookup, say, say_if, enter, bind_name, bind_over, leave, standing, use_var, use_name, visit, bind_anew, bind_new, bind_path, bind_elem, resolve, resolves, bind_pattern, carried_by, carry_all, bind_all, barrier, fresh, yields, aliases, sort_by, clause, clauses, arms, start, run, log}
 use Rattle.semantics.specs.Kinds.{kinds}
 use Rattle.semantics.specs.Lists.{findings}
 use Rattle.theorems.specs.Uses.{Use, by_var, by_name, Lacks, lacks, uses_e, uses_es, uses_s, sort_at, uses_c, uses_cs, uses_as, e1001, answer_by, of_row, record_of, unresolved_of, uses, coded, with_code, unresolved_as, unresolved_in, Arises, OfUses}
@@ -96,7 +96,7 @@ module _ {B : Type 0} {f : Event → List B} (q : Quiet f) (w : World) where
   unfolding bind_anew
   sees-anew i j x v k s = then (quiet _ (q.binds _ _ (bound s.cur x v k))) (quiet_if _ i j (suc x) (bind_name x v k s))
 
-  sees-new : (o : Option ℕ) (x v k : ℕ) (s : State) → Seen' s.log (bind_new w o x v k s).log []
+  sees-new : (o : Option Hit) (x v k : ℕ) (s : State) → Seen' s.log (bind_new w o x v k s).log []
   unfolding bind_new
   sees-new None x v k s = quiet _ (q.binds _ _ _)
   sees-new (Some u) x v k s = none'
@@ -121,9 +121,9 @@ module _ {B : Type 0} {f : Event → List B} (q : Quiet f) (w : World) where
   sees-if true a e s = simp (append-nil, append_assoc)
   sees-if false a e s = simp append-nil
 
-  sees-name : (x : ℕ) (o : Option ℕ) (s : State) → view f (use_name w x o s).log ≡ view f s.log ++ (view f (use_name w x o nought).log ++ [])
+  sees-name : (x : ℕ) (o : Option Hit) (s : State) → view f (use_name w x o s).log ≡ view f s.log ++ (view f (use_name w x o nought).log ++ [])
   unfolding use_name view
-  sees-name x (Some v) s = rw append-nil refl
+  sees-name x (Some (hit v u)) s = rw append-nil refl
   sees-name x None s = sees-if (not (w.is_star x)) _ _ s
 
   sees-visit : (hushed : Bool) (x : ℕ) (s : State) → Seen' s.log (visit w hushed x (lookup x s.visible) s).log (cond hushed [] (by_name x s.visible ∷ []))
@@ -206,7 +206,7 @@ sees f q warns s =
     ∙ ((then (sees-Cs q w s.head (start s)) (sees-As q w s.arms _)).same ∙ rw (q.opens _) refl)
 
 -- The visible list: what the lookup finds none for, it lacks.
-unfoldable is_none : Option ℕ → Bool
+unfoldable is_none : Option Hit → Bool
 is_none None = true
 is_none (Some v) = false
 
@@ -219,7 +219,7 @@ lacks-lookup x (seen y v r ∷ vis) = go (eqb x y) (lacks-lookup x vis)
     go true ih = refl
     go false ih = ih
 
-is-none : (o : Option ℕ) → (is_none o ≡ true) ↔ (o ≡ None)
+is-none : (o : Option Hit) → (is_none o ≡ true) ↔ (o ≡ None)
 unfolding is_none
 is-none None = (λ e. refl, λ e. refl)
 is-none (Some v) = (λ e. never (cc), λ e. never (cc))
@@ -292,18 +292,18 @@ module _ (warns : Bool) (st : Statement) (x : ℕ) (vis : List Seen) where
   said-is true a e = refl
   said-is false a e = refl
 
-  same_log : (o : Option ℕ) (cur last : ℕ) → (use_name w x o (record { visible = vis; cur = cur; last = last; log = [] })).log ≡ (use_name w x o nought).log
+  same_log : (o : Option Hit) (cur last : ℕ) → (use_name w x o (record { visible = vis; cur = cur; last = last; log = [] })).log ≡ (use_name w x o nought).log
   unfolding use_name
-  same_log (Some v) cur last = refl
+  same_log (Some (hit v u)) cur last = refl
   same_log None cur last = either (not (w.is_star x)) _ _
     where
       either : (b : Bool) (a e : Event) → (say_if b e (say a (record { visible = vis; cur = cur; last = last; log = [] }))).log ≡ (say_if b e (say a nought)).log
       either true a e = unfold say_if in refl
       either false a e = unfold say_if in refl
 
-  arises-at : (o : Option ℕ) → (o ≡ None) ↔ Lacks x vis → Arises st x vis (reverse (use_name w x o nought).log)
+  arises-at : (o : Option Hit) → (o ≡ None) ↔ Lacks x vis → Arises st x vis (reverse (use_name w x o nought).log)
   unfolding use_name world_of
-  arises-at (Some v) h = record {
+  arises-at (Some (hit v u)) h = record {
     finds = λ f. (λ m. never (let e = Memᴰ.eq_of_singleton m in cc), λ p. never (let e = h.1 p.1 in cc));
     records = λ i. (λ m. never (let e = Memᴰ.eq_of_singleton m in cc), λ p. never (let e = h.1 p.1 in cc));
   }
@@ -355,9 +355,9 @@ module _ (w : World) where
       unless-star true a = unfold say_if in refl
       unless-star false a = unfold say_if in refl
 
-      go : (o : Option ℕ) → view finds_of (use_name w x o nought).log ≡ cond (is_none o && not (w.is_star x)) (its-finding x ∷ []) []
+      go : (o : Option Hit) → view finds_of (use_name w x o nought).log ≡ cond (is_none o && not (w.is_star x)) (its-finding x ∷ []) []
       go None = unless-star (w.is_star x) _
-      go (Some v) = refl
+      go (Some (hit v u)) = refl
 
   recorded-at : (u : Use) → view answer_of (at_use w u) ≡ record_of w u
   unfolding at_use record_of view answer_of use_var use_name of_row answer_by
@@ -372,9 +372,9 @@ module _ (w : World) where
       no_more true a = unfold say_if in refl
       no_more false a = unfold say_if in refl
 
-      go : (o : Option ℕ) → view answer_of (use_name w x o nought).log ≡ write (w.id x) (answer_by w o) ∷ []
+      go : (o : Option Hit) → view answer_of (use_name w x o nought).log ≡ write (w.id x) (answer_by w o) ∷ []
       go None = no_more (w.is_star x) _
-      go (Some v) = refl
+      go (Some (hit v u)) = refl
 
   unresolved-at : (u : Use) → flat_map unresolved_as (record_of w u) ≡ unresolved_of w u
   unfolding record_of unresolved_of unresolved_as of_row flat_map is_none answer_by
@@ -385,9 +385,9 @@ module _ (w : World) where
       go (Some (row i x k a b)) = refl
   unresolved-at (by_name x vis) = rw (lacks-lookup x vis) (go (lookup x vis))
     where
-      go : (o : Option ℕ) → flat_map unresolved_as (write (w.id x) (answer_by w o) ∷ []) ≡ cond (is_none o) (write (w.id x) missing ∷ []) []
+      go : (o : Option Hit) → flat_map unresolved_as (write (w.id x) (answer_by w o) ∷ []) ≡ cond (is_none o) (write (w.id x) missing ∷ []) []
       go None = refl
-      go (Some v) = refl
+      go (Some (hit v u)) = refl
 
 pub of-uses : (warns : Bool) (s : Statement) → OfUses warns s
 unfolding findings finds_in answers_in with_code unresolved_in

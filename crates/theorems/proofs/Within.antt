@@ -18,7 +18,7 @@ use Rattle.clauses.specs.Tree.{Yield, yield, Clause, opening, reading, with', re
 use Rattle.tables.specs.Row.{value_kind, path_kind, Row, row}
 use Rattle.semantics.specs.Log.{e1002, e1001, Finding, finding, Write, bound, Event, open', bind, carry, answer, find, opened, logs}
 use Rattle.semantics.specs.World.{World, hush, variable, opens, yield_name, name_of, kind_of}
-use Rattle.semantics.specs.Resolve.{Seen, Pair, pair, State, lookup, binds, say, say_if, enter, bind_over, standing, use_var, use_name, visit, bind_anew, bind_new, bind_path, bind_elem, resolve, resolves, bind_pattern, carried_by, carry_all, bind_all, barrier, fresh, yields, aliases, sort_by, clause, clauses, arms}
+use Rattle.semantics.specs.Resolve.{Hit, hit, Seen, Pair, pair, State, lookup, binds, say, say_if, enter, bind_over, standing, use_var, use_name, visit, bind_anew, bind_new, bind_path, bind_elem, resolve, resolves, bind_pattern, carried_by, carry_all, bind_all, barrier, fresh, yields, aliases, sort_by, clause, clauses, arms}
 
 -- Every binding of the log stands in a scope, every carried name at a barrier, above lo and not above hi.
 unfoldable pub inside : ℕ → ℕ → Event → Type 0
@@ -104,12 +104,12 @@ module _ (w : World) (lo z : ℕ) where
   var-W v None h = still refl refl h
   var-W v (Some (row i x k a b)) h = still refl refl (answer-W _ h)
 
-  name-W : (x : ℕ) (o : Option ℕ) {s : State} → Fine s → Runs s (use_name w x o s)
+  name-W : (x : ℕ) (o : Option Hit) {s : State} → Fine s → Runs s (use_name w x o s)
   unfolding use_name
-  name-W x (Some v) h = still refl refl (answer-W _ h)
+  name-W x (Some (hit v u)) h = still refl refl (answer-W _ h)
   name-W x None {s} h = then (still refl refl (answer-W _ h)) (find-W (not (w.is_star x)) (finding e1001 0 0 (suc x) 0 0) (answer-W _ h))
 
-  visit-W : (hushed : Bool) (x : ℕ) (o : Option ℕ) {s : State} → Fine s → Runs s (visit w hushed x o s)
+  visit-W : (hushed : Bool) (x : ℕ) (o : Option Hit) {s : State} → Fine s → Runs s (visit w hushed x o s)
   unfolding visit
   visit-W true x o h = still refl refl h
   visit-W false x o h = name-W x o h
@@ -118,7 +118,7 @@ module _ (w : World) (lo z : ℕ) where
   unfolding bind_anew
   anew-W a b x v k {s} p q h = let g = bind-W false x v k p q h in then g (find-W (w.warns && binds s.cur x s.visible) (finding e1002 a b (suc x) 0 0) g.fine)
 
-  pub new-W : (o : Option ℕ) (x v k : ℕ) {s : State} → lo < s.cur → s.cur ≤ s.last → Fine s → Runs s (bind_new w o x v k s)
+  pub new-W : (o : Option Hit) (x v k : ℕ) {s : State} → lo < s.cur → s.cur ≤ s.last → Fine s → Runs s (bind_new w o x v k s)
   unfolding bind_new
   new-W None x v k p q h = bind-W false x v k p q h
   new-W (Some u) x v k p q h = still refl refl h

@@ -18,7 +18,7 @@ use Rattle.tables.specs.Row.{value_kind, path_kind, Row, row}
 use Rattle.sheet.specs.Statement.{Statement}
 use Rattle.semantics.specs.Log.{e1001, e1002, Finding, finding, Write, Bound, bound, Event, open', bind, carry, answer, find, scopes_in, binds_in, carries_in, answers_in, finds_in, logs}
 use Rattle.semantics.specs.World.{World, hush, variable, opens, yield_name, name_of, kind_of, world_of}
-use Rattle.semantics.specs.Resolve.{Seen, Pair, pair, State, lookup, binds, say, say_if, enter, bind_name, bind_over, standing, use_var, use_name, visit, bind_anew, bind_new, bind_path, bind_elem, resolve, resolves, bind_pattern, carried_by, carry_all, bind_all, barrier, fresh, yields, aliases, sort_by, clause, clauses, arms, start, run, log}
+use Rattle.semantics.specs.Resolve.{Hit, hit, Seen, Pair, pair, State, lookup, binds, say, say_if, enter, bind_name, bind_over, standing, use_var, use_name, visit, bind_anew, bind_new, bind_path, bind_elem, resolve, resolves, bind_pattern, carried_by, carry_all, bind_all, barrier, fresh, yields, aliases, sort_by, clause, clauses, arms, start, run, log}
 use Rattle.theorems.specs.Woven.{written, adopted, beyond, woven, Woven}
 use Rattle.theorems.proofs.Tests.{ne→eqb, eqb_same}
 
@@ -174,10 +174,10 @@ module _ (kind : ℕ → ℕ) (w : World) where
   var-V v None h = h
   var-V v (Some (row i x k a b)) h = answer-V _ h
 
-  visit-V : (hushed : Bool) (x : ℕ) (o : Option ℕ) {s : State} → Weaves kind s → Weaves kind (visit w hushed x o s)
+  visit-V : (hushed : Bool) (x : ℕ) (o : Option Hit) {s : State} → Weaves kind s → Weaves kind (visit w hushed x o s)
   unfolding visit use_name
   visit-V true x o h = h
-  visit-V false x (Some v) h = answer-V _ h
+  visit-V false x (Some (hit v u)) h = answer-V _ h
   visit-V false x None h = find-V (not (w.is_star x)) (finding e1001 0 0 (suc x) 0 0) (answer-V _ h)
 
   anew-V : (a b x v k : ℕ) {s : State} → Weaves kind s → Weaves kind (bind_anew w a b x v k s)
@@ -189,7 +189,7 @@ module _ (kind : ℕ → ℕ) (w : World) where
   path-V None h = h
   path-V (Some v) h = anew-V 0 0 (name_of w v) v path_kind h
 
-  new-V : (o : Option ℕ) (x v k : ℕ) {s : State} → Weaves kind s → Weaves kind (bind_new w o x v k s)
+  new-V : (o : Option Hit) (x v k : ℕ) {s : State} → Weaves kind s → Weaves kind (bind_new w o x v k s)
   unfolding bind_new
   new-V None x v k h = bind-V x v k h
   new-V (Some u) x v k h = h
