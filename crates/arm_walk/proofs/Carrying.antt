@@ -13,7 +13,7 @@ use Rattle.clauses.specs.Tree.{Yield, yield, Clause, opening, reading, with', re
 use Rattle.tables.specs.Row.{Row, row, path_kind, value_kind}
 use Rattle.semantics.specs.Log.{e1001, e1002, Finding, finding, Event, open', bind, carry, answer, find, carries_in, logs}
 use Rattle.semantics.specs.World.{World, hush, variable, opens, yield_name, name_of, kind_of}
-use Rattle.semantics.specs.Resolve.{Seen, seen, Pair, pair, State, lookup, binds, say, say_if, enter, leave, standing, bind_name, bind_over, use_var, use_name, visit, bind_anew, bind_new, bind_path, bind_elem, resolve, resolves, bind_pattern, carried_by, carry_all, bind_all, barrier, fresh, yields, aliases, sort_by, clause}
+use Rattle.semantics.specs.Resolve.{Hit, hit, Seen, seen, Pair, pair, State, lookup, binds, say, say_if, enter, leave, standing, bind_name, bind_over, use_var, use_name, visit, bind_anew, bind_new, bind_path, bind_elem, resolve, resolves, bind_pattern, carried_by, carry_all, bind_all, barrier, fresh, yields, aliases, sort_by, clause}
 use Rattle.theorems.specs.Needs.{carried_in}
 use Rattle.arm_walk.specs.Taking.{carried_as}
 
@@ -59,10 +59,10 @@ module _ (w : World) where
   var-none v None s = refl
   var-none v (Some (row i x k a b)) s = refl
 
-  visit-none : (hushed : Bool) (x : ℕ) (o : Option ℕ) (s : State) → oldest (visit w hushed x o s).log ≡ oldest s.log
+  visit-none : (hushed : Bool) (x : ℕ) (o : Option Hit) (s : State) → oldest (visit w hushed x o s).log ≡ oldest s.log
   unfolding visit use_name oldest
   visit-none true x o s = refl
-  visit-none false x (Some v) s = refl
+  visit-none false x (Some (hit v u)) s = refl
   visit-none false x None s = find_none (not (w.is_star x)) (finding e1001 0 0 (suc x) 0 0) _
 
   anew-none : (a b x v k : ℕ) (s : State) → oldest (bind_anew w a b x v k s).log ≡ oldest s.log
@@ -74,7 +74,7 @@ module _ (w : World) where
   path-none None s = refl
   path-none (Some v) s = anew-none 0 0 (name_of w v) v path_kind s
 
-  new_none : (o : Option ℕ) (x v k : ℕ) (s : State) → oldest (bind_new w o x v k s).log ≡ oldest s.log
+  new_none : (o : Option Hit) (x v k : ℕ) (s : State) → oldest (bind_new w o x v k s).log ≡ oldest s.log
   unfolding bind_new oldest
   new_none None x v k s = refl
   new_none (Some u) x v k s = refl

@@ -18,7 +18,7 @@ use Rattle.tables.specs.Row.{Row, row}
 use Rattle.semantics.specs.Log.{finding, missing, write, find}
 use Rattle.semantics.specs.Log.{answer as answer'}
 use Rattle.semantics.specs.World.{World, Direct, a_var, a_name}
-use Rattle.semantics.specs.Resolve.{State, Seen, Pair, pair, lookup, if_row, if_some, say, say_if, use_name, visit, carries, is_all}
+use Rattle.semantics.specs.Resolve.{Hit, hit, State, Seen, Pair, pair, lookup, if_row, if_some, say, say_if, use_name, visit, carries, is_all}
 use Rattle.fused.specs.Fused.{Both, name_use}
 use Rattle.fused.specs.Clauses.{takes}
 use Rattle.rows.specs.Rows.{shown}
@@ -143,28 +143,19 @@ module _ (w : World) (vis : List Seen) (v : ℕ) {alias : Option ℕ} where
       go (Some (row i y l a b)) q = cc
 
 -- ---- a name
-use-visible : (w : World) (x : ℕ) (o : Option ℕ) (s : State) → (use_name w x o s).visible ≡ s.visible
+use-visible : (w : World) (x : ℕ) (o : Option Hit) (s : State) → (use_name w x o s).visible ≡ s.visible
 unfolding use_name say_if
 use-visible w x None s = go (not (w.is_star x))
   where
     go : (b : Bool) → (say_if b (find (finding 1001 0 0 (suc x) 0 0)) (say (answer' (write (w.id x) missing)) s)).visible ≡ s.visible
     go true = refl
     go false = refl
-use-visible w x (Some v) s = refl
+use-visible w x (Some (hit v u)) s = refl
 
-visit-visible : (w : World) (b : Bool) (x : ℕ) (o : Option ℕ) (s : State) → (visit w b x o s).visible ≡ s.visible
+visit-visible : (w : World) (b : Bool) (x : ℕ) (o : Option Hit) (s : State) → (visit w b x o s).visible ≡ s.visible
 unfolding visit
 visit-visible w true x o s = refl
 visit-visible w false x o s = use-visible w x o s
-
--- what `find` tells
-pub looked : {v d : ℕ} (o : Option ℕ) (p : ℕ) → Some (v, d) ≡ answer o p → o ≡ Some v
-looked None p e = cc
-looked (Some u) p e = ap (λ (w : ℕ). Some w) (sym (same_pair e).0)
-
-pub unlooked : (o : Option ℕ) (p : ℕ) → ◌≡◌ {A = Option (ℕ × ℕ)} None (answer o p) → o ≡ None
-unlooked None p e = refl
-unlooked (Some u) p e = cc
 
 -- under its alias, or else its own name
 none-star : (c : Context) (x : ℕ) → NoStar c None x → is_the x c.star ≡ false
@@ -179,19 +170,19 @@ seen_then : (c : Context) (x : ℕ) (id : ℕ → ℕ) (s : Both) → (name_use 
 seen_then c x id s = visit-visible (world_at c id) (hushed_in c x) x (lookup x s.names.visible) s.names
 
 module _ {c : Context} {w : Walk} (x : ℕ) where
-  module _ {v : ℕ} (q : lookup x (entries w.visible) ≡ Some v) where
+  module _ {v u : ℕ} (q : lookup x (entries w.visible) ≡ Some (hit v u)) where
     pub name-found : {w' : Walk} → hushed_in c x ≡ false → Steps 1 c w w' (λ id. on_names (λ y. name_record (world_at c id) x (lookup x y.visible) y)) → Steps 1 c w w' (λ id. on_names (name_use (world_at c id) x))
     unfolding use_name visit
-    name-found e s = instead _ s (λ id t h. let z : lookup x t.names.visible ≡ Some v = ap (λ l. lookup x l) (sym h.visible) ∙ q in rw (z, e))
+    name-found e s = instead _ s (λ id t h. let z : lookup x t.names.visible ≡ Some (hit v u) = ap (λ l. lookup x l) (sym h.visible) ∙ q in rw (z, e))
 
     pub name-carried : (alias : Option ℕ) → NoStar c alias x → Given c w (λ id. on_names (name_use (world_at c id) x)) alias (a_name x) false (pair (unwrap_or alias x) v ∷ [])
     unfolding carries is_all if_some
     name-carried None e id s h =
-        let z : lookup x s.names.visible ≡ Some v = ap (λ l. lookup x l) (sym h.visible) ∙ q in
+        let z : lookup x s.names.visible ≡ Some (hit v u) = ap (λ l. lookup x l) (sym h.visible) ∙ q in
         let n : is_the x c.star ≡ false = none-star c x e in
         record { all = n; pairs = rw (n, seen_then c x id s, z) }
     name-carried (Some a) e id s h =
-        let z : lookup x s.names.visible ≡ Some v = ap (λ l. lookup x l) (sym h.visible) ∙ q in
+        let z : lookup x s.names.visible ≡ Some (hit v u) = ap (λ l. lookup x l) (sym h.visible) ∙ q in
         record { all = refl; pairs = rw (seen_then c x id s, z) }
 
   pub name-missing : (alias : Option ℕ) → NoStar c alias x → lookup x (entries w.visible) ≡ None → Given c w (λ id. on_names (name_use (world_at c id) x)) alias (a_name x) false []

@@ -18,7 +18,7 @@ use Rattle.heads.specs.declared.Form.TheVariants.{Leaf, Var, Unresolved, Prop, T
 use Rattle.tables.specs.Row.{Row, row}
 use Rattle.semantics.specs.Log.{Finding, finding, find}
 use Rattle.semantics.specs.World.{World, row_kind, kind_of}
-use Rattle.semantics.specs.Resolve.{State, lookup, say, say_if, leave, use_var, use_name, visit}
+use Rattle.semantics.specs.Resolve.{Hit, hit, State, lookup, say, say_if, leave, use_var, use_name, visit}
 use Rattle.semantics.specs.Kinds.{no_type, map_type, leaf_types, type_of, at_type, at_row}
 use Rattle.semantics.specs.Kinds as kinds
 use Rattle.theorems.specs.Needs.{made, carried_in}
@@ -27,6 +27,8 @@ use Rattle.fused.specs.Fused as fused
 use Rattle.rows.specs.Rows.{shown}
 use Rattle.rows.specs.Table.{row_in}
 use Rattle.visible.specs.Visible.{answer}
+use Rattle.visible.specs.declared.Newest.{Newest}
+use Rattle.visible.proofs.Told.{told-some, told-none}
 use Rattle.visible.specs.Stack.{entries}
 use Rattle.visible.proofs.Pairs.{same_pair}
 use Rattle.steps.specs.Types.{type_number, type_at}
@@ -192,10 +194,10 @@ module _ {c : Context} {w w1 : Walk} (m : Mode) (set : Setting) (v x k : ℕ) (o
           rw p.1 (as-steps (UsesAs c m set v (Some (row i y k a b))) (more-steps (omega arith) s) (λ id s. rw q))
 
 -- ---- a use of a name
-name-unmoved : {wants : Bool} → wants ≡ false → (W : World) (x : ℕ) (o : Option ℕ) (s : State) → Unmoved wants s (name_record W x o s)
+name-unmoved : {wants : Bool} → wants ≡ false → (W : World) (x : ℕ) (o : Option Hit) (s : State) → Unmoved wants s (name_record W x o s)
 unfolding made carried_in
 name-unmoved e W x None s = record { visible = refl; cur = refl; last = refl; log = sym (unwanted _ e (λ l. refl) s.log); made = refl; taken = refl }
-name-unmoved e W x (Some v) s = record { visible = refl; cur = refl; last = refl; log = sym (unwanted _ e (λ l. refl) s.log); made = refl; taken = refl }
+name-unmoved e W x (Some (hit v u)) s = record { visible = refl; cur = refl; last = refl; log = sym (unwanted _ e (λ l. refl) s.log); made = refl; taken = refl }
 
 -- what is recorded of a name, by what is visible
 abbrev RecordsAs : Context → ℕ → (ℕ → ℕ) → Both → Both
@@ -210,21 +212,13 @@ module _ {c : Context} {w : Walk} (x : ℕ) where
     pub missing-name : answer (lookup x (entries w.visible)) p ≡ None → Says (5 ∷ x ∷ 0 ∷ 0 ∷ 0 ∷ 0 ∷ []) w.log l → Steps 1 c w (logged w l) (RecordsAs c x)
     missing-name q s =
         instead _ (says-step s (λ id l. wanted _ e (λ r. refl) l) (λ id. no-count (λ n. refl) (λ n. refl)))
-        (λ id t h. let z : lookup x t.names.visible ≡ None = ap (λ l. lookup x l) (sym h.visible) ∙ go (lookup x (entries w.visible)) q in rw z)
-      where
-        go : (o : Option ℕ) → answer o p ≡ None → o ≡ None
-        go None e = refl
-        go (Some v) e = cc e
+        (λ id t h. let z : lookup x t.names.visible ≡ None = ap (λ l. lookup x l) (sym h.visible) ∙ told-none (lookup x (entries w.visible)) p q in rw z)
 
-    pub found_name : (v k d : ℕ) → answer (lookup x (entries w.visible)) p ≡ Some (v, d) → k ≡ row_kind (row_in c.rows v) → Says (5 ∷ x ∷ 1 ∷ v ∷ k ∷ 0 ∷ []) w.log l → Steps 1 c w (logged w l) (RecordsAs c x)
+    pub found_name : (n : Newest) (k : ℕ) → answer (lookup x (entries w.visible)) p ≡ Some n → k ≡ row_kind (row_in c.rows n.variable) → Says (5 ∷ x ∷ 1 ∷ n.variable ∷ k ∷ n.via ∷ []) w.log l → Steps 1 c w (logged w l) (RecordsAs c x)
     unfolding kind_of
-    found_name v k d q r s =
+    found_name n k q r s =
         instead _ (says-step s (λ id l. wanted _ e (λ r. refl) l) (λ id. no-count (λ n. refl) (λ n. refl)))
-        (λ id t h. let z : lookup x t.names.visible ≡ Some v = ap (λ l. lookup x l) (sym h.visible) ∙ go (lookup x (entries w.visible)) q in rw (z, r))
-      where
-        go : (o : Option ℕ) → answer o p ≡ Some (v, d) → o ≡ Some v
-        go None e = cc e
-        go (Some u) e = ap (λ (y : ℕ). Some y) (same_pair e).0
+        (λ id t h. let z : lookup x t.names.visible ≡ Some (hit n.variable n.via) = ap (λ l. lookup x l) (sym h.visible) ∙ told-some (lookup x (entries w.visible)) p q in rw (z, r))
 
 -- of a name that is no use nothing is said
 pub hushed-use : {j : ℕ} {c : Context} {w : Walk} (x : ℕ) → hushed_in c x ≡ true → Steps j c w w (λ id. on_names (name_use (world_at c id) x))
@@ -232,9 +226,9 @@ unfolding visit
 hushed-use x e = idle-step _ (λ id s k. rw e k)
 
 -- E1001, where the name is not visible after that and is not `*`
-record-visible : (W : World) (x : ℕ) (o : Option ℕ) (s : State) → (name_record W x o s).visible ≡ s.visible
+record-visible : (W : World) (x : ℕ) (o : Option Hit) (s : State) → (name_record W x o s).visible ≡ s.visible
 record-visible W x None s = refl
-record-visible W x (Some v) s = refl
+record-visible W x (Some (hit v u)) s = refl
 
 module _ {c : Context} {w w1 : Walk} (x : ℕ) (u : hushed_in c x ≡ false) (s : Steps 1 c w w1 (RecordsAs c x)) where
   sought : (id : ℕ → ℕ) (b : Both) → Holds id c w b → lookup x b.names.visible ≡ lookup x (entries w1.visible)
@@ -256,9 +250,9 @@ module _ {c : Context} {w w1 : Walk} (x : ℕ) (u : hushed_in c x ≡ false) (s 
   unfolding use_name
   seen-use e = instead _ (more-steps (omega arith) s) (λ id b k. go id b (lookup x b.names.visible) (λ q. e (sym (sought id b k) ∙ q)) ∙ use-as id b)
     where
-      go : (id : ℕ → ℕ) (b : Both) (o : Option ℕ) → (o ≡ None → ⊥) → on_names (λ y. name_record (world_at c id) x o y) b ≡ on_names (λ y. use_name (world_at c id) x o y) b
+      go : (id : ℕ → ℕ) (b : Both) (o : Option Hit) → (o ≡ None → ⊥) → on_names (λ y. name_record (world_at c id) x o y) b ≡ on_names (λ y. use_name (world_at c id) x o y) b
       go id b None n = absurd (n refl)
-      go id b (Some v) n = refl
+      go id b (Some (hit v u)) n = refl
 
 -- ---- a head by its act
 -- a type's number and its type

@@ -14,7 +14,7 @@ use Rattle.expr.specs.Binders.{all_known}
 use Rattle.tables.specs.Row.{Row}
 use Rattle.semantics.specs.Log.{bound, Event, open', bind}
 use Rattle.semantics.specs.World.{World}
-use Rattle.semantics.specs.Resolve.{State, Seen, seen, lookup, binds, say, enter, bind_name, bind_new, leave}
+use Rattle.semantics.specs.Resolve.{Hit, hit, State, Seen, seen, lookup, binds, say, enter, bind_name, bind_new, leave}
 use Rattle.theorems.specs.Needs.{made, carried_in}
 use Rattle.fused.specs.Fused.{Both, is_some, noting}
 use Rattle.rows.specs.Table.{row_in}
@@ -64,7 +64,7 @@ enters {c} {w} {w1} {k} {a} {b} p =
     then-steps x opens
 
 -- a name
-abbrev pushed : (x v : ℕ) → State → State
+abbrev pushed : ℕ → Hit → State → State
 pushed x v s = record { visible = seen x v s.cur ∷ s.visible; cur = s.cur; last = s.last; log = s.log }
 
 tail-same : (n n' t t' : ℕ) (m : List ℕ) (e : Seen) (l : List Seen) → n' ≡ n → t' ≡ suc t → seens n' t' m ≡ e ∷ l → seens n t m ≡ l
@@ -73,7 +73,7 @@ tail-same n n' t t' m e l p q h =
     let z : seens n (suc t) m ≡ e ∷ l = rw (p, q) at h in
     ap (λ r. drop 1 r) z
 
-pushes : {c : Context} {w : Walk} {vis : Visible} {x v : ℕ} → Bound x v w.cur w.visible vis → Costs 0 2 c w (record w { visible = vis }) (λ id. on_names (pushed x v))
+pushes : {c : Context} {w : Walk} {vis : Visible} {x : ℕ} {v : Hit} → Bound x v w.cur w.visible vis → Costs 0 2 c w (record w { visible = vis }) (λ id. on_names (pushed x v))
 unfolding Descends
 pushes {c} {w} {vis} {x} {v} p =
     let still : Still w (record w { visible = vis }) = record { visible = p.still; log = log-idle } in
@@ -149,14 +149,14 @@ bound-said : {c : Context} {w w1 : Walk} {x v k : ℕ} (again : Bool) → SaysBo
 bound-said true p = more-costs (omega arith) (omega arith) (says_if (p.yes refl) (λ id l. refl) (λ id l. refl) (λ id. no-count (λ n. refl) (λ n. refl)))
 bound-said false p = let y = p.no refl in rw y.counts (counts-one y.says)
 
-pub names : {c : Context} {w w1 : Walk} {vis : Visible} {x v k : ℕ} {again : Bool} → again ≡ binds w.cur x (entries w.visible) → SaysBound c.wants again x v k w w1 → Bound x v w1.cur w1.visible vis →
+pub names : {c : Context} {w w1 : Walk} {vis : Visible} {x v k : ℕ} {again : Bool} → again ≡ binds w.cur x (entries w.visible) → SaysBound c.wants again x v k w w1 → Bound x (hit v 0) w1.cur w1.visible vis →
     Binds c w (record w1 { visible = vis }) x v k again
 names {c} {w} {w1} {vis} {x} {v} {k} {again} g p q =
     let y : Costs 1 1 c w w1 (λ id. on_names (λ s. say (bind false (binds s.cur x s.visible) (bound s.cur x v k)) s)) = instead _ (bound-said again p) (λ id s h. rw (g, h.visible, h.cur)) in
     record { again = g; costs = then-steps y (pushes q) }
 
 -- a name that is not visible, and one that is
-old-one : (u : World) (x v k : ℕ) (o : Option ℕ) (s : State) → (o ≡ None → ⊥) → bind_new u o x v k s ≡ s
+old-one : (u : World) (x v k : ℕ) (o : Option Hit) (s : State) → (o ≡ None → ⊥) → bind_new u o x v k s ≡ s
 unfolding bind_new
 old-one u x v k None s z = absurd (z refl)
 old-one u x v k (Some y) s z = refl

@@ -23,7 +23,7 @@ use Rattle.sheet.specs.Write.{WellStatement}
 use Rattle.semantics.specs.Log.{Finding, Event, open', bind, carry, answer, find, finds_in, logs}
 use Rattle.semantics.specs.World as Walk
 use Rattle.semantics.specs.World.{World, row_of, row_name, variable, opens, star_name, name_of, bytes_of, yield_name, world_of}
-use Rattle.semantics.specs.Resolve.{Pair, pair, State, lookup, binds, say_if, enter, bind_over, bind_name, leave, standing, use_var, use_name, visit, bind_anew, bind_new, bind_path, bind_elem, resolve, resolves, bind_pattern, carried_by, carry_all, bind_all, barrier, fresh, yields, aliases, sort_by, clause, clauses, arms, start, run, log}
+use Rattle.semantics.specs.Resolve.{Hit, hit, Pair, pair, State, lookup, binds, say_if, enter, bind_over, bind_name, leave, standing, use_var, use_name, visit, bind_anew, bind_new, bind_path, bind_elem, resolve, resolves, bind_pattern, carried_by, carry_all, bind_all, barrier, fresh, yields, aliases, sort_by, clause, clauses, arms, start, run, log}
 use Rattle.told.specs.Pushed as pushed
 use Rattle.told.specs.Pushed.{Pushed}
 use Rattle.told.proofs.Trees.{kind_of, reading-well, done-well, row-well, keys-well}
@@ -75,12 +75,12 @@ module _ (warns : Bool) (st : Statement) where
     abbrev w' : World
     w' = record { id = w.id; is_star = w.is_star; is_id = w.is_id; hushed = hushed; row = w.row; warns = w.warns }
 
-    fine-name : (x : ℕ) (o : Option ℕ) (s : State) → x < size → Says s → Says (use_name w' x o s)
+    fine-name : (x : ℕ) (o : Option Hit) (s : State) → x < size → Says s → Says (use_name w' x o s)
     unfolding use_name world_of bytes_of
-    fine-name x (Some v) s h k = cons tt k
+    fine-name x (Some (hit v u)) s h k = cons tt k
     fine-name x None s h k = fine-if (not (star_name (bytes_of st x))) _ _ (λ e. pushed.unresolved h (not-true (star_name (bytes_of st x)) e)) (cons tt k)
 
-    fine-visit : (b : Bool) (x : ℕ) (o : Option ℕ) (s : State) → x < size → Says s → Says (visit w' b x o s)
+    fine-visit : (b : Bool) (x : ℕ) (o : Option Hit) (s : State) → x < size → Says s → Says (visit w' b x o s)
     unfolding visit
     fine-visit true x o s h k = k
     fine-visit false x o s h k = fine-name x o s h k
@@ -99,7 +99,7 @@ module _ (warns : Bool) (st : Statement) where
     fine-path (Some v) s (cons h g) k = fine-anew 0 0 (name_of w' v) v path_kind s h k
     fine-path None s g k = k
 
-    fine-new : (o : Option ℕ) (x v j : ℕ) (s : State) → Says s → Says (bind_new w' o x v j s)
+    fine-new : (o : Option Hit) (x v j : ℕ) (s : State) → Says s → Says (bind_new w' o x v j s)
     unfolding bind_new
     fine-new None x v j s k = cons tt k
     fine-new (Some u) x v j s k = k

@@ -13,7 +13,7 @@ use lib.ListN.{length, length-append}
 use Rattle.scope.specs.Graph.{root_scope, with_barrier, scope, carried}
 use Rattle.semantics.specs.Log.{Bound, bound, Event, open', bind, carry}
 use Rattle.semantics.specs.World.{World, kind_of}
-use Rattle.semantics.specs.Resolve.{Seen, seen, binds, State, Pair, pair, without, once, say, enter, standing, bind_over, bind_all, carry_all, barrier}
+use Rattle.semantics.specs.Resolve.{hit, Seen, seen, binds, State, Pair, pair, without, once, say, enter, standing, bind_over, bind_all, carry_all, barrier}
 use Rattle.theorems.specs.Needs.{made, carried_in}
 use Rattle.theorems.specs.Woven.{written}
 use Rattle.fused.specs.Fused.{Both}
@@ -120,12 +120,12 @@ rooted-quiet wants w a b below ps y =
 -- ---- a star's pairs, bound one after the other
 above-append : (c : ℕ) (ps qs : List Pair) (l : List Seen) → above c (ps ++ qs) l ≡ above c qs (above c ps l)
 above-append c [] qs l = refl
-above-append c (pair x v ∷ ps) qs l = above-append c ps qs (seen x v c ∷ l)
+above-append c (pair x v ∷ ps) qs l = above-append c ps qs (seen x (hit v 1) c ∷ l)
 
 firsts-append : (c : ℕ) (ps qs : List Pair) (l : List Seen) → firsts c (ps ++ qs) l ≡ firsts c ps l + firsts c qs (above c ps l)
 unfolding firsts
 firsts-append c [] qs l = omega arith
-firsts-append c (pair x v ∷ ps) qs l = omega (arith, firsts-append c ps qs (seen x v c ∷ l))
+firsts-append c (pair x v ∷ ps) qs l = omega (arith, firsts-append c ps qs (seen x (hit v 1) c ∷ l))
 
 above-reverse : (c : ℕ) (l acc : List Pair) → above c (reverse_aux l acc) [] ≡ above c acc (seen_once c l)
 unfolding seen_once
@@ -328,8 +328,14 @@ module _ (p : Pairs) {c : Context} {w w1 : Walk} {a b : ℕ} (ready : Ready (2 +
         cut : {e t : ℕ} → Fits e t c w2 → Fits e t c w3
         cut g = cut_fits l g still-low (below-descends w2.visible.names top w2.visible.top w2.cur w2.visible.words.now still-low g.descends) g.cur
 
-        pub spread-asks : Binding w3
-        spread-asks = let f = cut root-fit in record { sound = f.sound; descends = f.descends }
+        bound3 : Binding w3
+        bound3 = let f = cut root-fit in record { sound = f.sound; descends = f.descends }
+
+        short3 : w3.cur < 2147483648
+        short3 = let f = cut root-fit in omega (arith, f.cur, f.last, f.within, ready.fine.short)
+
+        pub spread-asks : (w3.cur < 2147483648) × Binding w3
+        spread-asks = (short3, bound3)
 
         seen3 : entries w3.visible ≡ first_seen top w
         seen3 = l.visible.same ∙ first-same
@@ -339,7 +345,7 @@ module _ (p : Pairs) {c : Context} {w w1 : Walk} {a b : ℕ} (ready : Ready (2 +
 
         module _ {w4 : Walk} {k : ℕ} (z : Spreads p.star w3 w4 k) where
           s4 : Settled p.star w3 w4 k
-          s4 = settled spread-asks z
+          s4 = settled bound3 z
 
           fit4 : {e t : ℕ} → Fits e t c w2 → Fits e t c w4
           fit4 g = settled-fits s4 (cut g)
@@ -369,7 +375,7 @@ module _ (p : Pairs) {c : Context} {w w1 : Walk} {a b : ℕ} (ready : Ready (2 +
               let r = given.room in
               let v = f.within in
               let o = f.names in
-              record { binding = record { sound = f.sound; descends = f.descends }; wide = given.wide; named = rw n given.named; few = omega arith; room = omega arith }
+              record { short = omega (arith, short3, cur4); binding = record { sound = f.sound; descends = f.descends }; wide = given.wide; named = rw n given.named; few = omega arith; room = omega arith }
 
           module _ {w5 : Walk} {r : ℕ} (u : Sees p w4 w5 r) where
             seen5 : SeesAll p.count p c w4 w5

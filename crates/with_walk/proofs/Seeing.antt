@@ -15,7 +15,7 @@ use borrow.Author.Tests.{ne_eqb}
 use Rattle.scope.specs.Graph.{root_scope, with_barrier}
 use Rattle.semantics.specs.Log.{bound, bind}
 use Rattle.semantics.specs.World.{World, kind_of}
-use Rattle.semantics.specs.Resolve.{Seen, seen, binds, State, Pair, pair, say, enter, standing, bind_all, carry_all, barrier, fresh}
+use Rattle.semantics.specs.Resolve.{hit, Seen, seen, binds, State, Pair, pair, say, enter, standing, bind_all, carry_all, barrier, fresh}
 use Rattle.fused.specs.Fused.{Both, Mode, left}
 use Rattle.fused.specs.Clauses.{beside}
 use Rattle.visible.specs.Visible.{Descends}
@@ -54,15 +54,15 @@ seen-holds e h =
 -- ---- pairs seen in the scope c, above a list
 abbrev pub above : ℕ → List Pair → List Seen → List Seen
 above c [] l = l
-above c (pair x v ∷ ps) l = above c ps (seen x v c ∷ l)
+above c (pair x v ∷ ps) l = above c ps (seen x (hit v 1) c ∷ l)
 
-above-one : (c : ℕ) (ps : List Pair) (x v : ℕ) (l : List Seen) → above c (ps ++ (pair x v ∷ [])) l ≡ seen x v c ∷ above c ps l
+above-one : (c : ℕ) (ps : List Pair) (x v : ℕ) (l : List Seen) → above c (ps ++ (pair x v ∷ [])) l ≡ seen x (hit v 1) c ∷ above c ps l
 above-one c [] x v l = refl
-above-one c (pair y u ∷ ps) x v l = above-one c ps x v (seen y u c ∷ l)
+above-one c (pair y u ∷ ps) x v l = above-one c ps x v (seen y (hit u 1) c ∷ l)
 
 pub seen_as_lem : (ps : List Pair) (s : State) → seen_by ps s ≡ standing (above s.cur ps s.visible) s.cur s
 seen_as_lem [] s = refl
-seen_as_lem (pair x v ∷ ps) s = seen_as_lem ps (standing (seen x v s.cur ∷ s.visible) s.cur s)
+seen_as_lem (pair x v ∷ ps) s = seen_as_lem ps (standing (seen x (hit v 1) s.cur ∷ s.visible) s.cur s)
 
 -- the first i pairs are seen
 pub record Seeing (i : ℕ) (p : Pairs) (w₀ w : Walk) (made : ℕ) : Type 0 where
@@ -79,7 +79,7 @@ pub none_seen : {w : Walk} (p : Pairs) → Binding w → Seeing 0 p w w 0
 unfolding pairs_in firsts
 none_seen p b = record { same = refl; still = seen-idle; top = omega arith; sound = b.sound; seen = refl; descends = b.descends; first = refl; few = omega arith }
 
-same-cur : {i : ℕ} {p : Pairs} {w₀ w : Walk} {made : ℕ} → Seeing i p w₀ w made → w.cur ≡ w₀.cur
+pub same-cur : {i : ℕ} {p : Pairs} {w₀ w : Walk} {made : ℕ} → Seeing i p w₀ w made → w.cur ≡ w₀.cur
 same-cur g = ap (λ (x : Walk). x.cur) g.same
 
 -- a pair counts as one where its name isn't bound
@@ -91,7 +91,7 @@ first-as {again = false} q e = rw (← e) q
 firsts-one : (c : ℕ) (ps : List Pair) (x v : ℕ) (l : List Seen) → firsts c (ps ++ (pair x v ∷ [])) l ≡ firsts c ps l + cond (binds c x (above c ps l)) 0 1
 unfolding firsts
 firsts-one c [] x v l = omega arith
-firsts-one c (pair y u ∷ ps) x v l = omega (arith, firsts-one c ps x v (seen y u c ∷ l))
+firsts-one c (pair y u ∷ ps) x v l = omega (arith, firsts-one c ps x v (seen y (hit u 1) c ∷ l))
 
 one_at_most : (b : Bool) → cond b 0 1 ≤ 1
 one_at_most true = omega arith
@@ -99,7 +99,7 @@ one_at_most false = omega arith
 
 -- the next one
 next-seen : {i : ℕ} {p : Pairs} {w₀ : Walk} {v v1 : Visible} {made one x u : ℕ} → Seeing i p w₀ (record w₀ { visible = v }) made → x ≡ get_or p.words.now (i * 2) 0 → u ≡ get_or p.words.now (i * 2 + 1) 0 →
-    one ≡ cond (binds w₀.cur x (entries v)) 0 1 → Bound x u w₀.cur v v1 → Seeing (i + 1) p w₀ (record w₀ { visible = v1 }) (made + one)
+    one ≡ cond (binds w₀.cur x (entries v)) 0 1 → Bound x (hit u 1) w₀.cur v v1 → Seeing (i + 1) p w₀ (record w₀ { visible = v1 }) (made + one)
 unfolding pairs_in Descends
 next-seen {i} {p} {w₀} {one = one} {x} {u} b e f o q =
     let o : one ≡ cond (binds w₀.cur x (above w₀.cur (pairs_in i p.words.now) (entries w₀.visible))) 0 1 = rw b.seen at o in
@@ -115,7 +115,7 @@ next-seen {i} {p} {w₀} {one = one} {x} {u} b e f o q =
     }
 
 pub one_seen : {i : ℕ} {p : Pairs} {w₀ w : Walk} {v : Visible} {made one x u : ℕ} → Seeing i p w₀ w made → x ≡ get_or p.words.now (i * 2) 0 → u ≡ get_or p.words.now (i * 2 + 1) 0 → one ≡ cond (binds w.cur x (entries w.visible)) 0 1 →
-    Bound x u w.cur w.visible v → Seeing (i + 1) p w₀ (record w { visible = v }) (made + one)
+    Bound x (hit u 1) w.cur w.visible v → Seeing (i + 1) p w₀ (record w { visible = v }) (made + one)
 one_seen {i} {p} {w₀} {w} {v} {made} {one} {x} {u} b e f o q =
     let z = same-cur b in
     subst (λ (y : Walk). Seeing (i + 1) p w₀ (record y { visible = v }) (made + one)) (sym b.same)
@@ -167,12 +167,12 @@ bind-above : (w : World) (ps : List Pair) (c : ℕ) (l below : List Seen) (s : S
 unfolding bind_all
 bind-above w [] c l below s q = refl
 bind-above w (pair x v ∷ ps) c l below s q =
-    rw (binds-beside c x l below (q x)) (bind-above w ps c (seen x v c ∷ l) below (say (bind true (binds c x l) (bound c x v (kind_of w v))) s) q)
+    rw (binds-beside c x l below (q x)) (bind-above w ps c (seen x (hit v 1) c ∷ l) below (say (bind true (binds c x l) (bound c x v (kind_of w v))) s) q)
 
 see-above : (w : World) (ps : List Pair) (c : ℕ) (l : List Seen) (s t : State) → seen_by ps (standing l c s) ≡ standing (bind_all w ps (standing l c t)).visible (bind_all w ps (standing l c t)).cur s
 unfolding bind_all
 see-above w [] c l s t = refl
-see-above w (pair x v ∷ ps) c l s t = see-above w ps c (seen x v c ∷ l) s (say (bind true (binds c x l) (bound c x v (kind_of w v))) t)
+see-above w (pair x v ∷ ps) c l s t = see-above w ps c (seen x (hit v 1) c ∷ l) s (say (bind true (binds c x l) (bound c x v (kind_of w v))) t)
 
 bind-cur : (w : World) (ps : List Pair) (s : State) → (bind_all w ps s).cur ≡ s.cur
 unfolding bind_all

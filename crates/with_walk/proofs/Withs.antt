@@ -228,9 +228,10 @@ module _ {m : Mode} {c : Context} {l : MutBor (List ℕ)} {w w2 : Walk} {p : Pai
         still4 : Still w w4
         still4 = still-then still3 k.still
 
-        pub again-asks : SeesAgainIn w3.visible.top w4 p
+        pub again-asks : SeesAgainIn w3.visible.top w3.cur w4 p
         again-asks =
             let f = walked-fits 0 ready.fit in
+            let g = root-fits y (omega arith) 0 ready.fit in
             let n = still-then y.still k.still in
             let e = n.visible.names in
             let d = x.paid in
@@ -241,7 +242,7 @@ module _ {m : Mode} {c : Context} {l : MutBor (List ℕ)} {w w2 : Walk} {p : Pai
             let r = f.names in
             let s = ready.fit.stack in
             let j = still4.visible.names in
-            record { sound = f.sound; low = k.goes.frame.top; wide = omega arith; named = rw e x.named; few = omega arith; room = omega arith }
+            record { short = omega (arith, g.cur, g.last, g.within, ready.fine.short); sound = f.sound; low = k.goes.frame.top; wide = omega arith; named = rw e x.named; few = omega arith; room = omega arith }
 
         module _ {w5 : Walk} {o : Unit {0}} (z : SeesAgain p w3.visible.top w3.cur w4 w5) where
           -- ---- after the keys: all that a star carries is still seen

@@ -2,7 +2,7 @@
 use mathlib.Core.Path.{◌≡◌, ap}
 use native.Mathlib.Omega.{arith}
 use Rattle.with_walk.proofs.Names.{names_at}
-use Rattle.with_walk.proofs.Seeing.{none_seen, first-as, one_seen, all_seen}
+use Rattle.with_walk.proofs.Seeing.{none_seen, same-cur, first-as, one_seen, all_seen}
 use Rattle.with_walk.proofs.see_pairs.Goals as goal
 
 pub loop-i-init : goal.loop-i-init
@@ -14,7 +14,7 @@ bind-requires c =
     let b = c.loop-i.invariant in
     let n = names_at c.args.walk.now.visible.names c.args.pairs.now.words.now _ _ c.loop-i-test.true q.named in
     let s = b.still in
-    (omega (arith, ap (λ p. p.0) c.pair-x.ensures, n, s.names), (omega (arith, q.few, b.top), (omega (arith, q.room, b.top, s.names, s.size), b.sound)))
+    (omega (arith, ap (λ p. p.0) c.pair-x.ensures, n, s.names), (omega (arith, q.short, same-cur b), (omega (arith, q.few, b.top), (omega (arith, q.room, b.top, s.names, s.size), b.sound))))
 
 pub loop-i-preserved : goal.loop-i-preserved
 loop-i-preserved c =

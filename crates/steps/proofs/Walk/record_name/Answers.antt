@@ -9,7 +9,7 @@ returns-then-not-context c =
 
 pub returns-in-Some : goal.returns-in-Some
 returns-in-Some c =
-    found_name c.args.x _ c.if-not-context.false _ _ _ (sym c.find.ensures ∙ c.in-Some.is) c.kind.ensures c.say.ensures
+    found_name c.args.x _ c.if-not-context.false _ _ (sym c.find.ensures ∙ c.in-Some.is) c.kind.ensures c.say.ensures
 
 pub returns-in-None : goal.returns-in-None
 returns-in-None c =
