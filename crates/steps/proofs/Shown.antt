@@ -14,10 +14,12 @@ use lib.Dec.{eqb}
 use Rattle.tables.specs.Row.{Row, row}
 use Rattle.semantics.specs.Log.{Finding, finding}
 use Rattle.semantics.specs.World.{row_name}
+use Rattle.semantics.specs.Resolve.{Hit, hit}
 use Rattle.semantics.specs.Kinds.{misplaced}
 use Rattle.fused.specs.Fused.{told, when}
 use Rattle.fused.specs.Fused.{is_some as has}
 use Rattle.visible.specs.Visible.{answer, is_of}
+use Rattle.visible.specs.declared.Newest.{Newest}
 use Rattle.rows.specs.Rows.{shown}
 use Rattle.steps.specs.Hold.{Ready, InRange, ShownTo, name_in, kind_in, misplaced_in}
 use Rattle.steps.specs.declared.Walk.{Walk}
@@ -28,18 +30,18 @@ pub as-shown : (o : Option Row) {r : Option (ℕ × ℕ)} → r ≡ shown o → 
 as-shown None q = rw q
 as-shown (Some (row i y l a b)) q = rw q
 
-pub unseen : (o : Option ℕ) (p : ℕ) {r : Option (ℕ × ℕ)} → r ≡ answer o p → is_some r ≡ false → o ≡ None
+pub unseen : (o : Option Hit) (p : ℕ) {r : Option Newest} → r ≡ answer o p → is_some r ≡ false → o ≡ None
 unseen None p q e = refl
-unseen (Some v) p q e = let z : true ≡ false = rw q at e in cc
+unseen (Some (hit v u)) p q e = let z : true ≡ false = rw q at e in cc
 
-pub once-seen : (o : Option ℕ) (p : ℕ) {r : Option (ℕ × ℕ)} → r ≡ answer o p → is_some r ≡ true → o ≡ None → ⊥
+pub once-seen : (o : Option Hit) (p : ℕ) {r : Option Newest} → r ≡ answer o p → is_some r ≡ true → o ≡ None → ⊥
 once-seen None p q e n = let z : false ≡ true = rw q at e in absurd (cc)
-once-seen (Some v) p q e n = absurd (cc)
+once-seen (Some (hit v u)) p q e n = absurd (cc)
 
 -- whether a name that is visible is of that scope
-pub found-of : (o : Option ℕ) (p c : ℕ) {r : Bool} (P : ℕ × ℕ → Type 0) → ((v : ℕ) → P (v, p) → r ≡ eqb p c) → MatchOption (answer o p) (r ≡ false) P → r ≡ is_of c (answer o p)
+pub found-of : (o : Option Hit) (p c : ℕ) {r : Bool} (P : Newest → Type 0) → ((n : Newest) → P n → r ≡ eqb n.scope c) → MatchOption (answer o p) (r ≡ false) P → r ≡ is_of c (answer o p)
 found-of None p c P f h = h
-found-of (Some v) p c P f h = f v h
+found-of (Some (hit v u)) p c P f h = f _ h
 
 -- the test against the name `*`
 pub spared : (x : ℕ) (o : Option ℕ) {t : Bool} → t ≡ not (option_eq eqb o (Some x)) → is_the x o ≡ not t
