@@ -11,9 +11,9 @@ use lib.Dec.{eqb, ltb}
 use lib.ListN.{length, get_or, set, length-set}
 use lib.Seq.{get_or-set_same, get_or-set_other}
 use borrow.Author.Tests.{ne_eqb, eq-eqb, eqb-true, eqb-false, ltb-true, ltb-false}
-use Rattle.semantics.specs.Resolve.{seen, pair, once}
+use Rattle.semantics.specs.Resolve.{hit, seen, pair, once}
 use Rattle.visible.specs.Visible.{place, name_at, seens, seen_once, newest, Tabled, Halfway, Turned}
-use Rattle.visible.proofs.Places.{Written, length-seens, place-le, seens-alike}
+use Rattle.visible.proofs.Places.{parted, Written, length-seens, place-le, seens-alike}
 use Rattle.visible.proofs.Once.{place-name, once-newest}
 
 module _ (n top c : ℕ) (old m : List ℕ) (i j : ℕ) (w : Tabled n top old) (lt : i < top) (f : Halfway n top c old m i j) where
@@ -45,16 +45,16 @@ module _ (n top c : ℕ) (old m : List ℕ) (i j : ℕ) (w : Tabled n top old) (
   }
 
   -- an entry that is
-  module _ (new : List ℕ) (here : place x (seens n top old) ≡ suc i) (q : Written n j x v c 0 m new) where
+  module _ (new : List ℕ) (here : place x (seens n top old) ≡ suc i) (q : Written n j x v (c * 2 + 1) 0 m new) where
     named-old : x < n
     named-old = w.named i lt
 
     below : (t : ℕ) → t ≤ j → seens n t new ≡ seens n t m
     below t h = seens-alike n t new m (λ p a b. q.keep p (omega arith) (λ e. omega (arith, named-old)))
 
-    all : seens n (suc j) new ≡ seen x v c ∷ seens n j m
+    all : seens n (suc j) new ≡ seen x (hit v 1) c ∷ seens n j m
     unfolding seens
-    all = rw (q.at0, q.at1, q.at2, below j (omega arith)) refl
+    all = rw (q.at0, q.at1, q.at2, below j (omega arith), parted x v c 1 (omega arith)) refl
 
     take-newest : newest n top old (suc i) ≡ pair x v ∷ newest n top old i
     unfolding newest
@@ -150,13 +150,13 @@ turn-pass {n} {c} {i} {j} {m} older = record {
 }
 
 pub turn-take : {n c i j : ℕ} {m new : List ℕ} → get_or m (name_at n m i) 0 ≡ i + 1 →
-    Written n j (name_at n m i) (get_or m (n + i * 4 + 1) 0) c 0 m new → Turned n c m new i j (j + 1)
+    Written n j (name_at n m i) (get_or m (n + i * 4 + 1) 0) (c * 2 + 1) 0 m new → Turned n c m new i j (j + 1)
 turn-take {n} {c} {i} {j} {m} {new} e q = record {
   kept = q.len;
   on = λ top old w lt f.
       let a = f.above (n + i * 4) (omega arith) in
       let b = f.above (n + i * 4 + 1) (omega arith) in
-      let q' : Written n j (name_at n old i) (get_or old (n + i * 4 + 1) 0) c 0 m new = rw (a, b) at q in
+      let q' : Written n j (name_at n old i) (get_or old (n + i * 4 + 1) 0) (c * 2 + 1) 0 m new = rw (a, b) at q in
       let e' : get_or m (name_at n old i) 0 ≡ suc i = (rw a at e) ∙ add-one i in
       rw (add-one i, add-one j) (take n top c old m i j w lt f new (is-newest n top c old m i j w lt f e') q');
 }
@@ -181,8 +181,8 @@ stay n i c m h r e =
     }
 
 pub turn-stay : {n c i j : ℕ} {m : List ℕ} → i ≡ j → name_at n m i < n → n + (i + 1) * 4 ≤ length m → get_or m (name_at n m i) 0 ≡ i + 1 →
-    Turned n c m (set (set m (n + i * 4 + 2) c) (n + i * 4 + 3) 0) i j (j + 1)
-turn-stay {n} {c} {i} {j} {m} z h r e = rw (← z) (turn-take e (stay n i c m h r e))
+    Turned n c m (set (set m (n + i * 4 + 2) (c * 2 + 1)) (n + i * 4 + 3) 0) i j (j + 1)
+turn-stay {n} {c} {i} {j} {m} z h r e = rw (← z) (turn-take e (stay n i (c * 2 + 1) m h r e))
 
 -- the loop begins
 pub begin : {n top c : ℕ} {m : List ℕ} → Tabled n top m → Halfway n top c m m 0 0

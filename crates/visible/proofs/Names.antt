@@ -1,6 +1,7 @@
 -- Laws of what the words say of a name: a 0 where it is not visible (`zero-unseen`, `unseen-zero`), the scope of its newest entry alone
--- where its own scope binds it (`newest-binds`; `descends-above` where a scope is opened), and words that hold nothing yet (`empty`).
-use Rattle.std.specs.Prelude.{None, Some}
+-- where its own scope binds it (`newest-binds`; `descends-above` where a scope is opened), what is looked up by what is told (`looked-up`),
+-- and words that hold nothing yet (`empty`).
+use Rattle.std.specs.Prelude.{Option, None, Some}
 use Prim.Native.Nat.{ℕ, suc, ◌<◌, ◌≤◌}
 use native.Mathlib.Omega.{arith}
 use mathlib.Core.Path.{◌≡◌, refl, sym, ◌∙◌}
@@ -9,25 +10,26 @@ use mathlib.Core.List.{List, [], ◌∷◌}
 use lib.Dec.{eqb}
 use lib.ListN.{length, get_or}
 use borrow.Author.Tests.{ne_eqb, eqb-false}
-use Rattle.semantics.specs.Resolve.{Seen, seen, lookup, binds}
+use Rattle.semantics.specs.Resolve.{Hit, hit, Seen, seen, lookup, binds}
 use Rattle.visible.specs.Visible.{scope_of, answer, place, seens, Descends, is_of, Tabled}
+use Rattle.visible.specs.declared.Newest.{Newest}
 
 -- a name without a place is not visible, and the other way round
 unplaced : (x : ℕ) (l : List Seen) → place x l ≡ 0 → lookup x l ≡ None
 unfolding place lookup
 unplaced x [] e = refl
-unplaced x (seen y v p ∷ l) e = go (eqb x y) e (unplaced x l)
+unplaced x (seen y u p ∷ l) e = go (eqb x y) e (unplaced x l)
   where
-    go : (b : Bool) → cond b (suc (length l)) (place x l) ≡ 0 → (place x l ≡ 0 → lookup x l ≡ None) → cond b (Some v) (lookup x l) ≡ None
+    go : (b : Bool) → cond b (suc (length l)) (place x l) ≡ 0 → (place x l ≡ 0 → lookup x l ≡ None) → cond b (Some u) (lookup x l) ≡ None
     go true e h = absurd (omega arith)
     go false e h = h e
 
 unseen-place : (x : ℕ) (l : List Seen) → lookup x l ≡ None → place x l ≡ 0
 unfolding place lookup
 unseen-place x [] e = refl
-unseen-place x (seen y v p ∷ l) e = go (eqb x y) e (unseen-place x l)
+unseen-place x (seen y u p ∷ l) e = go (eqb x y) e (unseen-place x l)
   where
-    go : (b : Bool) → cond b (Some v) (lookup x l) ≡ None → (lookup x l ≡ None → place x l ≡ 0) → cond b (suc (length l)) (place x l) ≡ 0
+    go : (b : Bool) → cond b (Some u) (lookup x l) ≡ None → (lookup x l ≡ None → place x l ≡ 0) → cond b (suc (length l)) (place x l) ≡ 0
     go true e h = cc e
     go false e h = h e
 
@@ -41,7 +43,7 @@ unseen-zero {n} {top} {x} {m} w h e = w.heads x h ∙ unseen-place x (seens n to
 pub descends-above : (c p : ℕ) (l : List Seen) → p ≤ c → Descends p l → Descends c l
 unfolding Descends
 descends-above c p [] h f = tt
-descends-above c p (seen y v q ∷ l) h f = (omega arith, f.1)
+descends-above c p (seen y u q ∷ l) h f = (omega arith, f.1)
 
 and-false : (b : Bool) → b && false ≡ false
 and-false true = refl
@@ -51,19 +53,28 @@ and-false false = refl
 unbound : (c p x : ℕ) (l : List Seen) → p < c → Descends p l → binds c x l ≡ false
 unfolding Descends binds
 unbound c p x [] h f = refl
-unbound c p x (seen y v q ∷ l) h f = rw (ne_eqb q c (λ e. omega arith), and-false (eqb x y)) (unbound c q x l (omega arith) f.1)
+unbound c p x (seen y u q ∷ l) h f = rw (ne_eqb q c (λ e. omega arith), and-false (eqb x y)) (unbound c q x l (omega arith) f.1)
 
 pub newest-binds : (c x : ℕ) (l : List Seen) → Descends c l → is_of c (answer (lookup x l) (scope_of x l)) ≡ binds c x l
 unfolding Descends binds lookup scope_of
 newest-binds c x [] f = refl
-newest-binds c x (seen y v p ∷ l) f = go (eqb x y) (eqb p c) refl (newest-binds c x l (descends-above c p l f.0 f.1))
+newest-binds c x (seen y (hit v o) p ∷ l) f = go (eqb x y) (eqb p c) refl (newest-binds c x l (descends-above c p l f.0 f.1))
   where
     go : (b d : Bool) → eqb p c ≡ d → is_of c (answer (lookup x l) (scope_of x l)) ≡ binds c x l →
-        is_of c (answer (cond b (Some v) (lookup x l)) (cond b p (scope_of x l))) ≡ b && d || binds c x l
+        is_of c (answer (cond b (Some (hit v o)) (lookup x l)) (cond b p (scope_of x l))) ≡ b && d || binds c x l
     go true true e h = e
     go true false e h = e ∙ sym (unbound c p x l (omega (arith, f.0, eqb-false p c e)) f.1)
     go false true e h = h
     go false false e h = h
+
+-- what is told of a name, as what is looked up
+abbrev pub hit_of : Option Newest → Option Hit
+hit_of None = None
+hit_of (Some newest) = Some (hit newest.variable newest.via)
+
+pub looked-up : (o : Option Hit) (p : ℕ) → hit_of (answer o p) ≡ o
+looked-up None p = refl
+looked-up (Some (hit v o)) p = refl
 
 -- zeros for the names, and no entries
 pub empty : (n : ℕ) (m : List ℕ) → n ≤ length m → ((x : ℕ) → x < n → get_or m x 0 ≡ 0) → Tabled n 0 m

@@ -9,7 +9,7 @@ use mathlib.Core.List.{List, [], ◌∷◌}
 use lib.Dec.{eqb}
 use lib.ListN.{length, get_or}
 use borrow.Author.Tests.{ne_eqb, eq-eqb, eqb-true, eqb-false}
-use Rattle.semantics.specs.Resolve.{Seen, seen, Pair, pair, without, once}
+use Rattle.semantics.specs.Resolve.{Seen, seen, variable_of, Pair, pair, without, once}
 use Rattle.visible.specs.Visible.{place, name_at, seens, newest}
 use Rattle.visible.proofs.Places.{length-seens}
 
@@ -25,7 +25,7 @@ length_without x (pair y v ∷ ps) = go (eqb x y) (length_without x ps)
 pub length-once : (l : List Seen) → length (once l) ≤ length l
 unfolding once
 length-once [] = omega arith
-length-once (seen x v p ∷ l) = omega (arith, length_without x (once l), length-once l)
+length-once (seen x h p ∷ l) = omega (arith, length_without x (once l), length-once l)
 
 -- the entry that a head points at is of that name
 pub place-name : (y n t i : ℕ) (m : List ℕ) → place y (seens n t m) ≡ suc i → name_at n m i ≡ y
@@ -57,7 +57,7 @@ newest-more n t m (suc i) h =
     (newest n (suc t) m i) (newest n t m i) (λ z. omega (arith, length-seens n t m)) (newest-more n t m i (omega arith)) _ _ refl refl
 
 pub once-newest : (n t : ℕ) (m : List ℕ) → once (seens n t m) ≡ newest n t m t
-unfolding once newest place seens
+unfolding variable_of once newest place seens
 once-newest n zero m = refl
 once-newest n (suc t) m =
     rw (eq-eqb (name_at n m t) (name_at n m t) refl, length-seens n t m, eq-eqb (suc t) (suc t) refl, newest-more n t m t (omega arith), once-newest n t m) refl

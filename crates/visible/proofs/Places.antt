@@ -1,7 +1,7 @@
 -- Laws of the stack of visible names: where the newest entry of a name stands and what it tells (`told`), an entry as it is written
--- (`write`), one entry more (`more-seens`, `more-tabled`), and one less (`less-seens`, `less-tabled`).
+-- (`write`) and its third word is read (`parted`), one entry more (`more-seens`, `more-tabled`), and one less (`less-seens`, `less-tabled`).
 use Rattle.std.specs.Prelude.{Option, Some, None}
-use Prim.Native.Nat.{ℕ, zero, suc, ◌+◌, ◌*◌, ◌<◌, ◌≤◌}
+use Prim.Native.Nat.{ℕ, zero, suc, ◌+◌, ◌*◌, ◌/◌, ◌%◌, ◌<◌, ◌≤◌}
 use native.Mathlib.Omega.{arith}
 use native.Mathlib.Numerals.{add-one}
 use mathlib.Core.Path.{◌≡◌, refl, ap, ◌∙◌}
@@ -12,8 +12,9 @@ use lib.Dec.{eqb, ltb}
 use lib.ListN.{length, get_or, set, length-set}
 use lib.Seq.{get_or-set_same, get_or-set_other}
 use borrow.Author.Tests.{ne_eqb, eqb-true, eqb-false, ltb-true, ltb-false}
-use Rattle.semantics.specs.Resolve.{seen, lookup}
-use Rattle.visible.specs.Visible.{scope_of, answer, place, name_at, seens, Tabled}
+use Rattle.semantics.specs.Resolve.{Hit, hit, seen, lookup}
+use Rattle.visible.specs.Visible.{scope_of, answer, place, name_at, variable_at, seens, Tabled}
+use Rattle.visible.specs.declared.Newest.{Newest}
 
 pub length-seens : (n t : ℕ) (m : List ℕ) → length (seens n t m) ≡ t
 unfolding seens
@@ -29,12 +30,16 @@ unfolding place seens
 place-le x n zero m = omega arith
 place-le x n (suc t) m = cond-le (eqb x (name_at n m t)) _ _ _ (omega (arith, length-seens n t m)) (omega (arith, place-le x n t m))
 
--- what a name's place tells: nothing where it is 0, and else the entry there
-abbrev pub Told : ℕ → List ℕ → ℕ → Option (ℕ × ℕ) → Type 0
-Told n m p r = (p ≡ 0 → r ≡ None) × ((j : ℕ) → p ≡ suc j → r ≡ Some ((get_or m (n + j * 4 + 1) 0), (get_or m (n + j * 4 + 2) 0)))
+-- what the entry j tells
+abbrev told_at : ℕ → List ℕ → ℕ → Newest
+told_at n m j = let home = get_or m (n + j * 4 + 2) 0 in record { variable = variable_at n m j; scope = home / 2; via = home % 2 }
 
-told-head : (c : Bool) (n t l q : ℕ) (m : List ℕ) (u : Option ℕ) (s : ℕ) → l ≡ t → Told n m q (answer u s) →
-    Told n m (cond c (suc l) q) (answer (cond c (Some (get_or m (n + t * 4 + 1) 0)) u) (cond c (get_or m (n + t * 4 + 2) 0) s))
+-- what a name's place tells: nothing where it is 0, and else the entry there
+abbrev pub Told : ℕ → List ℕ → ℕ → Option Newest → Type 0
+Told n m p r = (p ≡ 0 → r ≡ None) × ((j : ℕ) → p ≡ suc j → r ≡ Some (told_at n m j))
+
+told-head : (c : Bool) (n t l q : ℕ) (m : List ℕ) (u : Option Hit) (s : ℕ) → l ≡ t → Told n m q (answer u s) →
+    Told n m (cond c (suc l) q) (let e = told_at n m t in answer (cond c (Some (hit e.variable e.via)) u) (cond c e.scope s))
 told-head true n t l q m u s e k = ((λ g. absurd (omega arith)), (λ j g. let z : t ≡ j = omega (arith, e, g) in rw z))
 told-head false n t l q m u s e k = k
 
@@ -56,6 +61,13 @@ unfolding seens
 seens-alike n zero new old e = refl
 seens-alike n (suc t) new old e =
     rw (e (n + t * 4) (omega arith) (omega arith), e (n + t * 4 + 1) (omega arith) (omega arith), e (n + t * 4 + 2) (omega arith) (omega arith), seens-alike n t new old (λ i h k. e i h (omega arith)))
+
+-- a scope and whether it came over a WITH, as one word
+pub parted : (x v c o : ℕ) → o ≤ 1 → seen x (hit v ((c * 2 + o) % 2)) ((c * 2 + o) / 2) ≡ seen x (hit v o) c
+parted x v c o h =
+    let p : (c * 2 + o) % 2 ≡ o = omega arith in
+    let q : (c * 2 + o) / 2 ≡ c = omega arith in
+    rw (p, q)
 
 -- an entry is written over the height top, and the head of its name
 pub record Written (n top x v c before : ℕ) (m new : List ℕ) : Type 0 where
@@ -93,14 +105,14 @@ write n top x v c before m h r =
     }
 
 -- one entry more
-module _ (n top x v c : ℕ) (old new : List ℕ) (w : Tabled n top old) (xn : x < n) (room : n + (top + 1) * 4 ≤ length old)
-    (q : Written n top x v c (get_or old x 0) old new) where
+module _ (n top x v c o : ℕ) (bit : o ≤ 1) (old new : List ℕ) (w : Tabled n top old) (xn : x < n) (room : n + (top + 1) * 4 ≤ length old)
+    (q : Written n top x v (c * 2 + o) (get_or old x 0) old new) where
   below : (t : ℕ) → t ≤ top → seens n t new ≡ seens n t old
   below t h = seens-alike n t new old (λ i a b. q.keep i (omega arith) (λ e. omega arith))
 
-  all : seens n (suc top) new ≡ seen x v c ∷ seens n top old
+  all : seens n (suc top) new ≡ seen x (hit v o) c ∷ seens n top old
   unfolding seens
-  all = rw (q.at0, q.at1, q.at2, below top (omega arith))
+  all = rw (q.at0, q.at1, q.at2, below top (omega arith), parted x v c o bit)
 
   heads : (y : ℕ) → y < n → get_or new y 0 ≡ place y (seens n (suc top) new)
   unfolding place
@@ -139,7 +151,7 @@ module _ (n top x v c : ℕ) (old new : List ℕ) (w : Tabled n top old) (xn : x
           let z : i ≡ top = omega arith in
           rw (z, q.at0) xn
 
-  pub more-seens : seens n (top + 1) new ≡ seen x v c ∷ seens n top old
+  pub more-seens : seens n (top + 1) new ≡ seen x (hit v o) c ∷ seens n top old
   more-seens = rw (add-one top) all
 
   pub more-tabled : Tabled n (top + 1) new
