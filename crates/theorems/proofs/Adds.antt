@@ -92,7 +92,7 @@ module _ (w : World) (l : List Event) where
   unfolding fresh
   fresh-after b ps s = bind-after ps _
 
-  yields-after : (a b : ℕ) (ys : List Yield) (s : State) → yields w a b ys (after l s) ≡ after l (yields w a b ys s)
+  pub yields-after : (a b : ℕ) (ys : List Yield) (s : State) → yields w a b ys (after l s) ≡ after l (yields w a b ys s)
   unfolding yields bind_anew
   yields-after a b [] s = refl
   yields-after a b (yield x y v ∷ ys) s = ap (yields w a b ys) (say-after _ _ _) ∙ yields-after a b ys _

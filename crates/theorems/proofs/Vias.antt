@@ -1,8 +1,8 @@
--- Each visible binding is marked as document 02 (CR 3) has it: 1 exactly where its scope has a WithBarrier as its parent, in the finished list
--- of scopes (`Marks`; `marked-answer`: so what is recorded of a name is by that list). `Marked` says it in a state of the walk, whose current
--- scope is no barrier; `Binds over`, that it may also bind there, over a WITH or not. Each step keeps it: `enter-V`, `path-V`, `elem-V`,
--- `pattern-V`, `yields-V`, `bind-V`, `kept` where only things are said; `root-V`, in a WITH's new Root; `ahead-V`, in its sort keys.
--- L is the finished log, newest first, and the log so far its beginning (`Pre`).
+-- The marks of what is visible are right (`Marks`): via is 1 exactly where the scope of the binding has a WithBarrier as its parent, in the
+-- finished list of scopes (document 02, CR 3); so a name's record is the one by that list (`marked-answer`). `Marked` says it of a state, whose
+-- current scope is no barrier; `Binds over`, of one that may also bind there, over a WITH or not. Each step keeps it: `kept` and `still`, what
+-- binds nothing; `enter-V`, `bind-V`, `path-V`, `elem-V`, `pattern-V`, `yields-V`; `root-V`, a WITH's new Root; `ahead-V`, its sort keys;
+-- `start-V`, where head and arms begin. L is the finished log, newest first; what was said so far is its beginning (`Pre`).
 use Rattle.std.specs.Prelude.{Option, None, Some}
 use Prim.Native.Nat.{ℕ, suc}
 use mathlib.Core.Path.{◌≡◌, refl, sym, ◌∙◌, ap, subst}
@@ -15,9 +15,10 @@ use Rattle.scope.specs.Lookup.{at, parent_at, kind_at}
 use Rattle.expr.specs.Tree.{Steps, end, part, elem}
 use Rattle.clauses.specs.Tree.{Yield, yield}
 use Rattle.tables.specs.Row.{value_kind, path_kind}
+use Rattle.sheet.specs.Statement.{Statement}
 use Rattle.semantics.specs.Log.{e1002, finding, found, Event, open', find, scopes_in, logs}
-use Rattle.semantics.specs.World.{World, variable, yield_name, name_of, kind_of}
-use Rattle.semantics.specs.Resolve.{Hit, hit, variable_of, Seen, seen, Pair, pair, State, lookup, binds, enter, bind_name, bind_over, standing, bind_anew, bind_new, bind_path, bind_elem, resolves, bind_pattern, carry_all, bind_all, barrier, fresh, yields}
+use Rattle.semantics.specs.World.{World, hush, variable, yield_name, name_of, kind_of}
+use Rattle.semantics.specs.Resolve.{Hit, hit, variable_of, Seen, seen, Pair, pair, State, lookup, binds, enter, bind_name, bind_over, standing, bind_anew, bind_new, bind_path, bind_elem, bind_pattern, carry_all, bind_all, barrier, fresh, yields, start}
 use Rattle.theorems.specs.Site.{silent}
 use Rattle.theorems.specs.Uses.{answer_by}
 use Rattle.theorems.specs.Agree.{seen_as, under_barrier, via_at, recorded_as}
@@ -43,12 +44,13 @@ module _ (L : List Event) where
   marks-join [] b m n = n
   marks-join (seen x (hit v o) p ∷ a) b m n = (m.0, marks-join a b m.1 n)
 
-  pub marked-answer : (w : World) (x : ℕ) (vis : List Seen) → Marks vis → recorded_as w ss (seen_as x vis) ≡ answer_by w (lookup x vis)
-  unfolding Marks recorded_as seen_as variable_of lookup answer_by
-  marked-answer w x [] m = refl
-  marked-answer w x (seen y (hit v o) p ∷ vis) m = go (eqb x y) (marked-answer w x vis m.1)
+  pub marked-answer : (w : World) (xs : List ℕ) (x : ℕ) (vis : List Seen) → Marks vis → recorded_as w ss (seen_as x vis) ≡ answer_by (hush xs w) (lookup x vis)
+  unfolding Marks recorded_as seen_as variable_of lookup answer_by kind_of
+  marked-answer w xs x [] m = refl
+  marked-answer w xs x (seen y (hit v o) p ∷ vis) m = go (eqb x y) (marked-answer w xs x vis m.1)
     where
-      go : (b : Bool) → recorded_as w ss (seen_as x vis) ≡ answer_by w (lookup x vis) → recorded_as w ss (cond b (at v p) (seen_as x vis)) ≡ answer_by w (cond b (Some (hit v o)) (lookup x vis))
+      go : (b : Bool) → recorded_as w ss (seen_as x vis) ≡ answer_by (hush xs w) (lookup x vis)
+          → recorded_as w ss (cond b (at v p) (seen_as x vis)) ≡ answer_by (hush xs w) (cond b (Some (hit v o)) (lookup x vis))
       go true e = ap (found v (kind_of w v)) m.0
       go false e = e
 
@@ -63,11 +65,11 @@ module _ (L : List Event) where
   pub kept : {s t : State} → Keeps s t → Marked s → Marked t
   kept k h = record { marks = subst Marks (sym k.visible) h.marks; kind = ap (λ c. eqb (kind_at ss c) with_barrier) k.cur ∙ h.kind }
 
-  still : {over : Bool} {s t : State} → Keeps s t → Binds over s → Binds over t
+  pub still : {over : Bool} {s t : State} → Keeps s t → Binds over s → Binds over t
   still k h = record { marked = kept k h.marked; via = ap (via_at ss) k.cur ∙ h.via }
 
   -- the scope that was just opened
-  pub opened-at : (k a b : ℕ) {s : State} → Well 0 0 s → Pre L (enter k a b s).log → (parent_at ss (suc s.last) ≡ Some s.cur) × (kind_at ss (suc s.last) ≡ k)
+  opened-at : (k a b : ℕ) {s : State} → Well 0 0 s → Pre L (enter k a b s).log → (parent_at ss (suc s.last) ≡ Some s.cur) × (kind_at ss (suc s.last) ≡ k)
   unfolding logs
   opened-at k a b {s} f p =
       let l = scopes_in (reverse s.log) in
@@ -139,3 +141,8 @@ module _ (L : List Event) where
         let i = opened-at with_barrier a b f p3 in
         let o = opened-at root_scope b b (standing-W w 0 0 [] u.cur (barrier-W w 0 0 a b cs f)) p1 in
         (pairs-V cs {s = r} (record { marked = record { marks = tt; kind = ap (λ j. eqb j with_barrier) o.1 }; via = rw (o.0, (carry-is w cs n).2, i.1) refl })).marked
+
+  -- where the head and the arms begin
+  pub start-V : (st : Statement) → Pre L (start st).log → (s : State) → Marked (standing [] 0 s)
+  unfolding start Marks logs kind_at
+  start-V st p s = record { marks = tt; kind = rw (cut L _ [] p) refl }
