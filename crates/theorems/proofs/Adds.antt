@@ -74,7 +74,7 @@ module _ (w : World) (l : List Event) where
     pattern-after (part p r) s = ap (bind_pattern w r) (path-after (variable p) s) ∙ pattern-after r _
     pattern-after (elem k a b v es r) s = ap (λ t. bind_pattern w r (resolves w es t)) (elem-after k (variable v) s) ∙ ap (bind_pattern w r) (resolves-after es _) ∙ pattern-after r _
 
-  carry-after : (ps : List Pair) (s : State) → carry_all w ps (after l s) ≡ after l (carry_all w ps s)
+  pub carry-after : (ps : List Pair) (s : State) → carry_all w ps (after l s) ≡ after l (carry_all w ps s)
   unfolding carry_all
   carry-after [] s = refl
   carry-after (pair x v ∷ ps) s = carry-after ps _
@@ -92,7 +92,7 @@ module _ (w : World) (l : List Event) where
   unfolding fresh
   fresh-after b ps s = bind-after ps _
 
-  yields-after : (a b : ℕ) (ys : List Yield) (s : State) → yields w a b ys (after l s) ≡ after l (yields w a b ys s)
+  pub yields-after : (a b : ℕ) (ys : List Yield) (s : State) → yields w a b ys (after l s) ≡ after l (yields w a b ys s)
   unfolding yields bind_anew
   yields-after a b [] s = refl
   yields-after a b (yield x y v ∷ ys) s = ap (yields w a b ys) (say-after _ _ _) ∙ yields-after a b ys _

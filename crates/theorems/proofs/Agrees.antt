@@ -1,4 +1,4 @@
--- Lookup on the finished lists agrees with the walk: between clauses, from a barrier, from every comprehension's scope.
+-- Lookup on the finished lists agrees with the walk: between clauses, from a barrier, at each record, from every comprehension's scope.
 use mathlib.Core.Path.{◌∙◌, ap}
 use mathlib.Core.Bool.{Bool}
 use mathlib.Core.List.{◌∷◌, ◌++◌}
@@ -10,7 +10,7 @@ use Rattle.theorems.specs.Agree.{Agrees}
 use Rattle.theorems.proofs.Placed.{clauses-append, arms-append}
 use Rattle.theorems.proofs.Shows.{clauses-A, root-A, arm-A, settle}
 use Rattle.theorems.proofs.Barriers.{barriers}
-use Rattle.theorems.proofs.Mets.{inners}
+use Rattle.theorems.proofs.Mets.{inners, used}
 
 pub agrees : (warns : Bool) (s : Statement) → Agrees warns s
 unfolding run arms
@@ -22,5 +22,6 @@ agrees warns s =
           settle warns s (clauses-A w before (arm-A warns s earlier)) after later x
           (ap (λ h. arms w h (clauses w s.head (start s))) q ∙ arms-append w earlier (arm a b (before ++ after) ∷ later) _ ∙ ap (arms w later) (clauses-append w before after _));
       barrier = barriers warns s;
+      used = used warns s;
       inner = inners warns s;
     }

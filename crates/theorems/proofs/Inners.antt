@@ -199,7 +199,7 @@ module _ (L : List Event) where
     pub rest : List Event
     pub goes : L ≡ rest ++ l
 
-  back : (f : State → State) (s : State) → f s ≡ after s.log (f (silent s)) → Pre (f s).log → Pre s.log
+  pub back : (f : State → State) (s : State) → f s ≡ after s.log (f (silent s)) → Pre (f s).log → Pre s.log
   back f s e h =
       let m = (f (silent s)).log in
       record { rest = h.rest ++ m; goes = h.goes ∙ ap (λ (t : State). h.rest ++ t.log) e ∙ sym (append_assoc h.rest m s.log) }
@@ -215,7 +215,7 @@ module _ (L : List Event) where
   }
 
   -- the log in three pieces: before the scope, its opening, and what follows
-  cut : (o : Event) (l : List Event) (h : Pre (o ∷ l)) → reverse L ≡ reverse l ++ o ∷ reverse h.rest
+  pub cut : (o : Event) (l : List Event) (h : Pre (o ∷ l)) → reverse L ≡ reverse l ++ o ∷ reverse h.rest
   cut o l h = ap reverse h.goes ∙ reverse-append h.rest (o ∷ l) ∙ ap (λ z. z ++ reverse h.rest) (reverse-cons o l) ∙ append_assoc (reverse l) (o ∷ []) (reverse h.rest)
 
 module _ (L : List Event) (w : World) where

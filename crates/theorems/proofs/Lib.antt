@@ -21,6 +21,7 @@ pub mod Looks
 pub mod Shows
 pub mod Barriers
 pub mod Inners
+pub mod Vias
 pub mod Mets
 pub mod Agrees
 pub mod Needs

@@ -120,12 +120,12 @@ kind-append [] m s h = absurd (omega arith)
 kind-append (scope k p a b ∷ l) m zero h = refl
 kind-append (scope k p a b ∷ l) m (suc s) h = kind-append l m s (omega arith)
 
-parent-at : (l m : List Scope) (k : ℕ) (p : Option ℕ) (a b : ℕ) → parent_at (l ++ scope k p a b ∷ m) (length l) ≡ p
+pub parent-at : (l m : List Scope) (k : ℕ) (p : Option ℕ) (a b : ℕ) → parent_at (l ++ scope k p a b ∷ m) (length l) ≡ p
 unfolding parent_at
 parent-at [] m k p a b = refl
 parent-at (scope j o c d ∷ l) m k p a b = parent-at l m k p a b
 
-kind-at : (l m : List Scope) (k : ℕ) (p : Option ℕ) (a b : ℕ) → kind_at (l ++ scope k p a b ∷ m) (length l) ≡ k
+pub kind-at : (l m : List Scope) (k : ℕ) (p : Option ℕ) (a b : ℕ) → kind_at (l ++ scope k p a b ∷ m) (length l) ≡ k
 unfolding kind_at
 kind-at [] m k p a b = refl
 kind-at (scope j o c d ∷ l) m k p a b = kind-at l m k p a b

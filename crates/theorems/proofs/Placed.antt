@@ -102,7 +102,7 @@ part-after : (w : World) (ts : List Clause) (later : List Arm) (l : List Event) 
 unfolding part
 part-after w ts later l s = rw (clauses-after w l ts, arms-after w l later)
 
-carry-is : (w : World) (cs : List Pair) (s : State) → ((carry_all w cs s).log ≡ reverse_aux (map (carry_at s.cur) cs) s.log) × ((carry_all w cs s).last ≡ s.last) × ((carry_all w cs s).cur ≡ s.cur)
+pub carry-is : (w : World) (cs : List Pair) (s : State) → ((carry_all w cs s).log ≡ reverse_aux (map (carry_at s.cur) cs) s.log) × ((carry_all w cs s).last ≡ s.last) × ((carry_all w cs s).cur ≡ s.cur)
 unfolding carry_all
 carry-is w [] s = (refl, refl, refl)
 carry-is w (pair x v ∷ cs) s = carry-is w cs _
