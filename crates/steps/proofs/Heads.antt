@@ -28,7 +28,7 @@ use Rattle.rows.specs.Rows.{shown}
 use Rattle.rows.specs.Table.{row_in}
 use Rattle.visible.specs.Visible.{answer}
 use Rattle.visible.specs.declared.Newest.{Newest}
-use Rattle.visible.proofs.Told.{told-some, told-none}
+use Rattle.visible.proofs.Names.{hit_of, looked-up}
 use Rattle.visible.specs.Stack.{entries}
 use Rattle.visible.proofs.Pairs.{same_pair}
 use Rattle.steps.specs.Types.{type_number, type_at}
@@ -212,13 +212,13 @@ module _ {c : Context} {w : Walk} (x : ℕ) where
     pub missing-name : answer (lookup x (entries w.visible)) p ≡ None → Says (5 ∷ x ∷ 0 ∷ 0 ∷ 0 ∷ 0 ∷ []) w.log l → Steps 1 c w (logged w l) (RecordsAs c x)
     missing-name q s =
         instead _ (says-step s (λ id l. wanted _ e (λ r. refl) l) (λ id. no-count (λ n. refl) (λ n. refl)))
-        (λ id t h. let z : lookup x t.names.visible ≡ None = ap (λ l. lookup x l) (sym h.visible) ∙ told-none (lookup x (entries w.visible)) p q in rw z)
+        (λ id t h. let z : lookup x t.names.visible ≡ None = ap (λ l. lookup x l) (sym h.visible) ∙ sym (looked-up (lookup x (entries w.visible)) p) ∙ ap hit_of q in rw z)
 
     pub found_name : (n : Newest) (k : ℕ) → answer (lookup x (entries w.visible)) p ≡ Some n → k ≡ row_kind (row_in c.rows n.variable) → Says (5 ∷ x ∷ 1 ∷ n.variable ∷ k ∷ n.via ∷ []) w.log l → Steps 1 c w (logged w l) (RecordsAs c x)
     unfolding kind_of
     found_name n k q r s =
         instead _ (says-step s (λ id l. wanted _ e (λ r. refl) l) (λ id. no-count (λ n. refl) (λ n. refl)))
-        (λ id t h. let z : lookup x t.names.visible ≡ Some (hit n.variable n.via) = ap (λ l. lookup x l) (sym h.visible) ∙ told-some (lookup x (entries w.visible)) p q in rw (z, r))
+        (λ id t h. let z : lookup x t.names.visible ≡ Some (hit n.variable n.via) = ap (λ l. lookup x l) (sym h.visible) ∙ sym (looked-up (lookup x (entries w.visible)) p) ∙ ap hit_of q in rw (z, r))
 
 -- of a name that is no use nothing is said
 pub hushed-use : {j : ℕ} {c : Context} {w : Walk} (x : ℕ) → hushed_in c x ≡ true → Steps j c w w (λ id. on_names (name_use (world_at c id) x))

@@ -3,4 +3,3 @@ pub mod Names
 pub mod Once
 pub mod Halves
 pub mod Pairs
-pub mod Told
