@@ -6,7 +6,6 @@ use native.Mathlib.Omega.{arith}
 use mathlib.Core.Path.{◌≡◌, refl, ap, subst, sym}
 use mathlib.Core.Bool.{Bool, true, false}
 use mathlib.Core.List.{List, []}
-use lib.ListN.{get_or}
 use Rattle.semantics.specs.Resolve.{State, standing}
 use Rattle.fused.specs.Fused.{Both, Mode, step, told}
 use Rattle.visible.specs.Visible.{seens, Descends}
@@ -27,7 +26,7 @@ lower-descends n t zero u c m e h =
     let z : u ≡ t = omega arith in
     rw z at h
 lower-descends n t (suc d) zero c m e h = absurd (omega arith)
-lower-descends n t (suc d) (suc u) c m e h = lower-descends n t d u c m (omega arith) (descends-above c (get_or m (n + u * 4 + 2) 0) (seens n u m) h.0 h.1)
+lower-descends n t (suc d) (suc u) c m e h = lower-descends n t d u c m (omega arith) (descends-above c _ (seens n u m) h.0 h.1)
 
 pub below-descends : (n t u c : ℕ) (m : List ℕ) → t ≤ u → Descends c (seens n u m) → Descends c (seens n t m)
 below-descends n t u c m h d = lower-descends n t (u - t) u c m (omega arith) d

@@ -18,7 +18,7 @@ use Rattle.tables.specs.Row.{Row, row}
 use Rattle.semantics.specs.Log.{finding, missing, write, find}
 use Rattle.semantics.specs.Log.{answer as answer'}
 use Rattle.semantics.specs.World.{World, Direct, a_var, a_name}
-use Rattle.semantics.specs.Resolve.{Hit, hit, State, Seen, Pair, pair, lookup, if_row, if_some, say, say_if, use_name, visit, carries, is_all}
+use Rattle.semantics.specs.Resolve.{Hit, hit, variable_of, State, Seen, Pair, pair, lookup, if_row, if_some, say, say_if, use_name, visit, carries, is_all}
 use Rattle.fused.specs.Fused.{Both, name_use}
 use Rattle.fused.specs.Clauses.{takes}
 use Rattle.rows.specs.Rows.{shown}
@@ -176,7 +176,7 @@ module _ {c : Context} {w : Walk} (x : ℕ) where
     name-found e s = instead _ s (λ id t h. let z : lookup x t.names.visible ≡ Some (hit v u) = ap (λ l. lookup x l) (sym h.visible) ∙ q in rw (z, e))
 
     pub name-carried : (alias : Option ℕ) → NoStar c alias x → Given c w (λ id. on_names (name_use (world_at c id) x)) alias (a_name x) false (pair (unwrap_or alias x) v ∷ [])
-    unfolding carries is_all if_some
+    unfolding carries is_all if_some variable_of
     name-carried None e id s h =
         let z : lookup x s.names.visible ≡ Some (hit v u) = ap (λ l. lookup x l) (sym h.visible) ∙ q in
         let n : is_the x c.star ≡ false = none-star c x e in

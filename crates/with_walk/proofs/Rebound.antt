@@ -3,7 +3,7 @@
 -- what the star's pairs are when they are bound (`spread-seen`), and all of them are first (`spread-first`). The whole: `rebinds`; what each step
 -- asks: `root-asks`, `leave-asks`, `spread-asks`, `pairs-ask`, `count-asks`.
 use Rattle.std.specs.Prelude.{Some}
-use Prim.Native.Nat.{ℕ, zero, suc, ◌+◌, ◌*◌, ◌≤◌}
+use Prim.Native.Nat.{ℕ, zero, suc, ◌+◌, ◌*◌, ◌<◌, ◌≤◌}
 use native.Mathlib.Omega.{arith}
 use mathlib.Core.Path.{◌≡◌, refl, ap, sym, ◌∙◌}
 use mathlib.Core.Bool.{Bool, true, false, cond, ◌&&◌, ◌||◌}

@@ -4,7 +4,7 @@
 // and the pairs borrow it).
 #![tactic(auto)]
 
-ghost use Rattle.std.specs.Prelude.{◌≡◌, ◌+◌, length};
+ghost use Rattle.std.specs.Prelude.{◌≡◌, ◌+◌, ◌<◌, length};
 ghost use Rattle.steps.specs.Modes.{mode_of};
 ghost use Rattle.steps.specs.Hold.{Binding, Ready};
 ghost use Rattle.clause_parts.specs.Passes.{Held, Passes};

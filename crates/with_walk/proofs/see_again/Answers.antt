@@ -9,4 +9,4 @@ see_pairs-requires c =
     let q = c.requires in
     let v = c.leave-2.ensures.visible in
     let n = v.still.names in
-    record { short = q.short; binding = record { sound = v.sound; descends = rw v.same tt }; wide = q.wide; named = rw n q.named; few = omega (arith, q.few, v.back); room = omega (arith, q.room, v.back, n, v.still.size) }
+    record { short = rw c.leave-2.ensures.same q.short; binding = record { sound = v.sound; descends = rw v.same tt }; wide = q.wide; named = rw n q.named; few = omega (arith, q.few, v.back); room = omega (arith, q.room, v.back, n, v.still.size) }
