@@ -256,9 +256,9 @@ fn starred_growth(jobs: &mut Jobs, family: &Family) -> String {
     let columns = KILOBYTES.map(|kilobytes| {
         let bytes = family.sheet(kilobytes);
         jobs.compare(&bytes);
-        let answers = Answers::new(&sheet::read(&bytes).expect("an accepted sheet"), true);
+        let sheet = sheet::read(&bytes).expect("an accepted sheet");
         let mut lists = Lists::default();
-        lists.lend(in_words(needed(bytes.len(), answers.entries())));
+        lists.lend(in_words(needed(bytes.len(), Answers::new(&sheet, true).entries())));
         let row = vec![bytes.as_slice(); TURN / bytes.len() / 8];
         let mut least = [f64::INFINITY; 4];
         for _ in 0..REPEATED {

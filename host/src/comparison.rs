@@ -21,6 +21,8 @@ pub struct Tally {
     refused: [usize; 8],
     keyed: usize,
     entries: [usize; 5],
+    /// Recorded uses that came over a WITH.
+    over_with: usize,
     messages: usize,
     bytes: usize,
     lookups: usize,
@@ -47,6 +49,7 @@ impl Tally {
         );
         println!("{} of the accepted have sort keys and are compared with the model, the others with the Rust", self.keyed);
         println!("entries: {:?} (scopes, bindings, carried, recorded, findings)", self.entries);
+        println!("{} of the recorded uses came over a WITH", self.over_with);
         println!("listings: {} messages in {} bytes; {} lookups, {} offsets", self.messages, self.bytes, self.lookups, self.offsets);
         println!("a page a byte short: {}, a list a word short: {}", self.tens, self.eights);
         println!("a list with a word for each of the sheet's, and too short for its answer: {}", self.needs);
@@ -139,6 +142,7 @@ impl Comparison {
         for (sum, count) in self.tally.entries.iter_mut().zip(self.lists.entries()) {
             *sum += count;
         }
+        self.tally.over_with += self.lists.over_with();
         self.graph(&answers, &read.names)
     }
 
@@ -191,10 +195,15 @@ impl Comparison {
         let step = (scopes * names.len()).div_ceil(asked).max(1);
         for at in (0..scopes * names.len()).step_by(step) {
             let (scope, name) = ((at % scopes) as u32, at / scopes);
-            holds("a lookup", self.lists.lookup(scope, name as u32) == Ok(answers.lookup(scope, &names[name])))?;
+            let (found, kept) = self.lists.lookup(scope, name as u32);
+            let expected = answers.lookup(scope, &names[name]);
+            let variable = |found: Option<(u32, u32)>| found.map(|(variable, _)| variable);
+            holds("a lookup's variable", found.map(variable) == Ok(variable(expected)))?;
+            holds("a lookup's scope", found == Ok(expected))?;
+            holds("a lookup altered a word that it may not", kept)?;
             self.tally.lookups += 1;
         }
-        holds("a lookup from a scope that isn't there", self.lists.lookup(scopes as u32, 0) == Err(9))?;
+        holds("a lookup from a scope that isn't there", self.lists.lookup(scopes as u32, 0) == (Err(9), true))?;
         for (start, end) in spans.into_iter().step_by(scopes.div_ceil(ASKED / 4)) {
             for offset in [start, end, start.wrapping_sub(1), end.wrapping_add(1)] {
                 holds("an offset", self.lists.scope_at_offset(offset) == Ok(answers.scope_at_offset(offset)))?;

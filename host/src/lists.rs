@@ -1,10 +1,12 @@
-//! What program `lists` writes for a sheet, from the Rust's answers.
+//! What program `lists` writes for a sheet, from the Rust's answers; but via_projection, which is false throughout in the Rust, is the model's.
+use crate::model::Recorded;
 use crate::record::record;
 use crate::sheet::KINDS;
 use cyrs_diag::{Diagnostic, DiagnosticsSink};
-use cyrs_hir::{BindingKind, HirSpan, Resolution, ResolvedNames, ScopeGraph, ScopeKind, ScopeNode, Statement, VarId, VarKind};
+use cyrs_hir::{BindingKind, HirSpan, Resolution, ResolvedNames, ScopeGraph, ScopeKind, Statement, VarId, VarKind};
 use cyrs_sema::kinds::check_kinds;
 use cyrs_sema::resolve::{ResolveResult, resolve};
+use smol_str::SmolStr;
 use std::collections::HashMap;
 use std::fmt::{Display, Write};
 
@@ -26,21 +28,29 @@ pub fn run(statement: &Statement, warnings: bool) -> Ran {
 pub fn entries(ran: &Ran) -> [usize; 5] {
     let graph = &ran.resolved.scope_graph;
     let bindings = graph.iter().map(|scope| scope.bindings.len()).sum();
-    let carried = |scope: &ScopeNode| if let ScopeKind::WithBarrier { projected } = &scope.kind { projected.len() } else { 0 };
-    [graph.len(), bindings, graph.iter().map(carried).sum(), ran.resolved.resolved_names.len(), ran.findings.len()]
+    let carried = barriers(ran).map(<[_]>::len).sum();
+    [graph.len(), bindings, carried, ran.resolved.resolved_names.len(), ran.findings.len()]
+}
+
+/// What each WITH carries.
+pub fn barriers(ran: &Ran) -> impl Iterator<Item = &[(SmolStr, VarId)]> {
+    ran.resolved.scope_graph.iter().filter_map(|scope| match &scope.kind {
+        ScopeKind::WithBarrier { projected } => Some(projected.as_slice()),
+        _ => None,
+    })
 }
 
 /// The index of each name of a sheet.
 pub type Names<'a> = HashMap<&'a str, usize>;
 
-pub fn lists(ran: &Ran, names: &[String]) -> String {
+pub fn lists(ran: &Ran, names: &[String], model: &Recorded) -> String {
     let names: &Names = &names.iter().enumerate().map(|(at, name)| (name.as_str(), at)).collect();
     let graph = &ran.resolved.scope_graph;
     [
         list("scopes", scopes(graph)),
         list("bindings", bindings(graph, names)),
         list("carried", carried(graph, names)),
-        list("recorded", recorded(&ran.resolved.resolved_names)),
+        list("recorded", recorded(&ran.resolved.resolved_names, model)),
         list("records", ran.findings.iter().map(|d| record(d, names)).collect()),
     ]
     .concat()
@@ -113,13 +123,13 @@ fn carried(graph: &ScopeGraph, names: &Names) -> Vec<String> {
     entries
 }
 
-fn recorded(names: &ResolvedNames) -> Vec<String> {
-    names.iter().map(|(id, answer)| format!("{} {}", id.0, resolution(answer))).collect()
+fn recorded(names: &ResolvedNames, model: &Recorded) -> Vec<String> {
+    names.iter().map(|(id, answer)| format!("{} {}", id.0, resolution(answer, model.via_projection(id.0)))).collect()
 }
 
-fn resolution(answer: &Resolution) -> String {
+fn resolution(answer: &Resolution, via_projection: bool) -> String {
     match answer {
-        Resolution::Resolved(b) => format!("resolved {} {} {}", b.defining_var.0, binding_kind(&b.kind), u32::from(b.via_projection)),
+        Resolution::Resolved(b) => format!("resolved {} {} {}", b.defining_var.0, binding_kind(&b.kind), u32::from(via_projection)),
         Resolution::Unresolved => "unresolved".to_owned(),
     }
 }

@@ -1,6 +1,6 @@
 //! A sheet's answers by a definition of its own, written from openCypher 9 with document 01's departures and document 02's sort keys, stars
-//! and aliases. It has the sheet's tree in common with the Rust, and nothing of its two passes. A sheet with sort keys is compared with
-//! this; on sheets without, this is compared with the Rust (README.md).
+//! and aliases, and what it says of names that came over a WITH. It has the sheet's tree in common with the Rust, and nothing of its two
+//! passes. A sheet with sort keys is compared with this; on sheets without, this is compared with the Rust (README.md).
 mod finding;
 mod graph;
 mod kinds;
@@ -11,7 +11,9 @@ mod starred;
 use crate::sheet::Sheet;
 use cyrs_hir::{Binding, Statement, VarId, VarKind};
 use finding::Finding;
-pub use graph::Graph;
+pub use graph::{Found, Graph};
+pub use names::Recorded;
+use names::Resolved;
 pub use starred::{SAID, Starred};
 use std::collections::HashMap;
 use std::fmt::{Display, Write};
@@ -19,7 +21,7 @@ use std::fmt::{Display, Write};
 pub struct Model {
     pub graph: Graph,
     pub findings: Vec<Finding>,
-    recorded: names::Recorded,
+    pub recorded: Recorded,
     pub starred: Starred,
 }
 
@@ -83,7 +85,9 @@ impl Model {
         put(&mut text, format_args!("recorded {}", self.recorded.in_order().len()));
         for (id, answer) in self.recorded.in_order() {
             match answer {
-                Some((variable, kind)) => put(&mut text, format_args!("{id} resolved {variable} {} 0", number(*kind))),
+                Some(Resolved { variable, kind, via_projection }) => {
+                    put(&mut text, format_args!("{id} resolved {variable} {} {}", number(*kind), u32::from(*via_projection)));
+                }
                 None => put(&mut text, format_args!("{id} unresolved")),
             }
         }

@@ -1,8 +1,9 @@
 //! Compares the model with the Rust, on sheets from a seed; see README.md.
-use cyrs_hir::{Clause, Expr, Projection, ScopeId, ScopeKind, ScopeNode, Statement, VarId, YieldItem};
+use cyrs_hir::{Clause, Expr, Projection, Resolution, ScopeId, ScopeKind, ScopeNode, Statement, VarId, YieldItem};
 use generator::{Random, one};
 use std::collections::HashSet;
 use theirs::answers::Answers;
+use theirs::lists::{self, Ran};
 use theirs::model::{SAID, Starred};
 use theirs::sheet::{self, Sheet};
 use theirs::twin::{Keys, called, twin, written_out};
@@ -20,6 +21,9 @@ struct Tally {
     longer: usize,
     too_long: usize,
     written_out: usize,
+    /// Recorded uses, and those of them that came over a WITH.
+    uses: usize,
+    over_with: usize,
     differ: usize,
 }
 
@@ -65,6 +69,7 @@ fn main() {
     );
     println!("{} need more entries in a list than they have words, {} more than the listing has", tally.longer, tally.too_long);
     println!("{} have WITHs that are written out for the Rust as variables under aliases", tally.written_out);
+    println!("{} recorded uses, {} of which the Rust knows by a variable that WITHs alone carry", tally.uses, tally.over_with);
     for (what, sheets) in SAID.iter().zip(tally.starred) {
         println!("{sheets} have {what}");
     }
@@ -96,7 +101,8 @@ fn compare(bytes: &[u8], tally: &mut Tally) -> Result<(), String> {
                 same(&rust, &Answers::model(&read, warnings), &sheet.names).map_err(|what| what + " with empty sort keys")?;
             }
         }
-        return if carries { plainly(sheet, tally) } else { Ok(()) };
+        over_with(&sheet, free(&sheet), &Answers::model(&sheet, true), tally)?;
+        return if carries { plainly(&sheet, tally) } else { Ok(()) };
     }
     tally.keyed += 1;
     let keyed = [false, true].map(|warnings| Answers::model(&sheet, warnings));
@@ -110,6 +116,7 @@ fn compare(bytes: &[u8], tally: &mut Tally) -> Result<(), String> {
             let (rust, model) = (Answers::rust(&made, warnings), Answers::model(&returned, warnings));
             same(&rust, &model, &made.names).map_err(|what| what + " with a RETURN's sort keys as projections")?;
         }
+        over_with(&made, free(&made), &Answers::model(&returned, true), tally)?;
     }
     let sheet = returned.without_keys(true);
     for (warnings, keyed) in [false, true].into_iter().zip(&keyed) {
@@ -118,26 +125,33 @@ fn compare(bytes: &[u8], tally: &mut Tally) -> Result<(), String> {
         same(&rust, &Answers::rust(&out, warnings), &sheet.names).map_err(|what| what + " with the sort keys taken out")?;
         around_keys(&rust, keyed, &sheet)?;
     }
-    if carries { plainly(sheet, tally) } else { Ok(()) }
+    over_with(&sheet, free(&sheet), &Answers::model(&sheet, true), tally)?;
+    if carries { plainly(&sheet, tally) } else { Ok(()) }
 }
 
 /// WITHs that are looked at in a head or an arm.
 const WITHS: usize = 8;
 
 /// A WITH's sort keys see what the Rust shows to a Delete after a Call, in place of the WITH, that yields the carried pairs: these first,
-/// and then what was visible before. All other answers must be equal too, but for the barrier.
+/// and then what was visible before. All other answers must be equal too, but for the barrier, and for what came over it.
 fn with_a_call(sheet: &Sheet, tally: &mut Tally) -> Result<(), String> {
     for clauses in std::iter::once(&sheet.statement.clauses).chain(sheet.statement.unions.iter().map(|arm| &arm.clauses)) {
         let sorted = |clause: &Clause| matches!(clause, Clause::With { order_by, .. } if !order_by.is_empty());
         for at in (0..clauses.len()).filter(|at| sorted(&clauses[*at])).take(WITHS) {
             let before = part(sheet, &clauses[..at]).without_keys(true).statement.clauses;
             let with = part(sheet, &[&before[..], &clauses[at..=at]].concat());
-            let call = part(sheet, &[before, called(&clauses[at], carried(&with))].concat());
+            let yields = carried(&with);
+            let call = part(sheet, &[&before[..], &called(&clauses[at], yields.clone())].concat());
+            let free = free(&call);
+            let yields = yields.into_iter().map(|column| YieldItem { var: free, ..column }).collect();
+            let marked = part(sheet, &[before, called(&clauses[at], yields)].concat());
+            over_with(&marked, free, &Answers::model(&with, true), tally)?;
             tally.called += 1;
             let (rust, model) = (Answers::rust(&call, true), Answers::model(&with, true));
             holds("the listing with a Call for a WITH", rust.listing() == model.listing())?;
             let (rust, model) = (rust.lists(&sheet.names), model.lists(&sheet.names));
-            holds("the recorded uses with a Call for a WITH", entries(&rust, "recorded").eq(entries(&model, "recorded")))?;
+            let uses = |text| -> Vec<&str> { entries(text, "recorded").map(without_via).collect() };
+            holds("the recorded uses with a Call for a WITH", uses(&rust) == uses(&model))?;
             let barrier = entries(&model, "scopes").enumerate().filter(|(_, scope)| scope.starts_with("7 ")).last().expect("a barrier").0;
             let moved = |list| moved(&rust, list, barrier, 0) == moved(&model, list, barrier, 1);
             holds("the scopes with a Call for a WITH", moved("scopes"))?;
@@ -149,9 +163,9 @@ fn with_a_call(sheet: &Sheet, tally: &mut Tally) -> Result<(), String> {
 
 /// What the Rust says of a sheet's WITHs it says too where these have nothing but variables under aliases, one for each carried pair, and
 /// their projections and filters are a Delete before; but that such a variable is recorded. A star carries what can be found before it.
-fn plainly(mut sheet: Sheet, tally: &mut Tally) -> Result<(), String> {
-    let rust = Answers::rust(&sheet, true);
-    let Answers::Rust(ran) = &rust else { return Ok(()) };
+fn plainly(sheet: &Sheet, tally: &mut Tally) -> Result<(), String> {
+    let rust = Answers::rust(sheet, true);
+    let Answers::Rust(ran, _) = &rust else { return Ok(()) };
     let with = |scope: &ScopeNode| match &scope.kind {
         ScopeKind::WithBarrier { projected } => Some((scope.parent.expect("a scope before a WITH"), projected.clone())),
         _ => None,
@@ -163,14 +177,16 @@ fn plainly(mut sheet: Sheet, tally: &mut Tally) -> Result<(), String> {
         _ => None,
     });
     for ((before, pairs), _) in before.iter().zip(&pairs).zip(starred).filter(|(_, starred)| *starred) {
-        let found: Vec<_> = sheet.names.iter().filter_map(|name| Some((name.as_str(), rust.lookup(before.0, name)?))).collect();
+        let found: Vec<_> = sheet.names.iter().filter_map(|name| Some((name.as_str(), rust.lookup(before.0, name)?.0))).collect();
         let mut all: Vec<_> = pairs.iter().take(found.len()).map(|(name, variable)| (name.as_str(), variable.0)).collect();
         all.sort_by_key(|(name, _)| sheet.names.iter().position(|other| other == name));
         holds("what a star carries", all == found)?;
     }
-    written_out(&mut sheet.statement, &pairs);
+    let mut plain = part(sheet, &[]);
+    plain.statement = sheet.statement.clone();
+    written_out(&mut plain.statement, &pairs);
     tally.written_out += 1;
-    let other = Answers::rust(&sheet, true);
+    let other = Answers::rust(&plain, true);
     holds("the listing with WITHs written out", rust.listing() == other.listing())?;
     let (rust, other) = (rust.lists(&sheet.names), other.lists(&sheet.names));
     for list in ["scopes", "bindings", "carried"] {
@@ -187,6 +203,32 @@ fn is_star(projection: &Projection) -> bool {
     projection.alias.is_none() && matches!(&projection.expr, Expr::Unresolved(name) if name == "*")
 }
 
+/// A variable that the Rust binds to no name of a sheet, and that the table lacks.
+fn free(sheet: &Sheet) -> VarId {
+    let ran = lists::run(&sheet.statement, false);
+    let bound = ran.resolved.scope_graph.iter().flat_map(|scope| &scope.order).map(|(_, variable)| variable.0);
+    let taken: HashSet<u32> = bound.chain(sheet.statement.bindings.iter().map(|(variable, _)| variable.0)).collect();
+    VarId((0..).find(|variable| !taken.contains(variable)).expect("a sheet has fewer words than there are variables"))
+}
+
+/// The Rust answers with a variable that WITHs alone carry, and they nothing else, exactly the uses of which the model says that they came
+/// over a WITH. The sheet's WITHs are written out for that; it may be one with a Call for a WITH.
+fn over_with(sheet: &Sheet, free: VarId, model: &Answers, tally: &mut Tally) -> Result<(), String> {
+    let ran = lists::run(&sheet.statement, false);
+    let pairs: Vec<Vec<_>> = lists::barriers(&ran).map(|pairs| pairs.iter().map(|(name, _)| (name.clone(), free)).collect()).collect();
+    let mut statement = sheet.statement.clone();
+    written_out(&mut statement, &pairs);
+    let ran = lists::run(&statement, false);
+    let by_free = |answer: &Resolution| matches!(answer, Resolution::Resolved(binding) if binding.defining_var == free);
+    let rust: Vec<(u32, bool)> = ran.resolved.resolved_names.iter().map(|(id, answer)| (id.0, by_free(answer))).collect();
+    tally.uses += rust.len();
+    tally.over_with += rust.iter().filter(|(_, over)| *over).count();
+    let text = model.lists(&sheet.names);
+    let via =
+        |entry: &str| (entry.split(' ').next().and_then(|id| id.parse().ok()).expect("a use id"), entry.split(' ').nth(4) == Some("1"));
+    holds("what came over a WITH", rust.into_iter().eq(entries(&text, "recorded").map(via)))
+}
+
 /// A statement of some clauses with a sheet's tables.
 fn part(sheet: &Sheet, clauses: &[Clause]) -> Sheet {
     let mut statement = Statement::new(sheet.statement.span);
@@ -197,13 +239,9 @@ fn part(sheet: &Sheet, clauses: &[Clause]) -> Sheet {
 
 /// What the last WITH carries in the Rust, each name once, with its last variable.
 fn carried(sheet: &Sheet) -> Vec<YieldItem> {
-    let Answers::Rust(ran) = Answers::rust(sheet, false) else { return Vec::new() };
-    let barriers = ran.resolved.scope_graph.iter().filter_map(|scope| match &scope.kind {
-        ScopeKind::WithBarrier { projected } => Some(projected),
-        _ => None,
-    });
+    let ran = lists::run(&sheet.statement, false);
     let mut yields: Vec<YieldItem> = Vec::new();
-    for (name, variable) in barriers.last().expect("a barrier") {
+    for (name, variable) in lists::barriers(&ran).last().expect("a barrier") {
         match yields.iter_mut().find(|other| other.name == *name) {
             Some(other) => other.var = VarId(variable.0),
             None => yields.push(YieldItem { name: name.clone(), alias: None, var: *variable }),
@@ -249,6 +287,9 @@ fn same(rust: &Answers, model: &Answers, names: &[String]) -> Result<(), String>
     for at in (0..spans.len() * names.len()).step_by(step) {
         let (scope, name) = ((at % spans.len()) as u32, &names[at / spans.len()]);
         holds("a lookup", rust.lookup(scope, name) == model.lookup(scope, name))?;
+        if let Answers::Rust(ran, _) = rust {
+            holds("a lookup's scope", model.lookup(scope, name).map(|(_, scope)| scope) == binds(ran, scope, name))?;
+        }
     }
     for (start, end) in spans.into_iter().take(128) {
         for offset in [start, end, start.wrapping_sub(1), end.wrapping_add(1)] {
@@ -256,6 +297,14 @@ fn same(rust: &Answers, model: &Answers, names: &[String]) -> Result<(), String>
         }
     }
     Ok(())
+}
+
+/// The first scope of the Rust's graph, from a scope up, that binds a name, if the name is found.
+fn binds(ran: &Ran, scope: u32, name: &str) -> Option<u32> {
+    let graph = &ran.resolved.scope_graph;
+    graph.resolve_at(ScopeId(scope), name)?;
+    let mut up = std::iter::successors(Some(ScopeId(scope)), |scope| graph.scope(*scope).parent);
+    up.find(|scope| graph.scope(*scope).bindings.contains_key(name)).map(|scope| scope.0)
 }
 
 /// Sort keys add to the answers and change none of the others: without them there are the same findings, scopes but for numbers, bindings
@@ -276,6 +325,11 @@ fn entries<'a>(text: &'a str, list: &str) -> impl Iterator<Item = &'a str> {
     let mut lines = text.lines().skip_while(move |line| line.split(' ').next() != Some(list));
     let count = lines.next().and_then(|line| line.split(' ').nth(1)).map_or(0, |count| count.parse().expect("a count"));
     lines.take(count)
+}
+
+/// A recorded use without its last field.
+fn without_via(entry: &str) -> &str {
+    entry.rsplit_once(' ').expect("more than one field").0
 }
 
 /// An entry without the scope numbers in it, which keys move.

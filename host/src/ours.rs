@@ -31,7 +31,8 @@ unsafe extern "C" {
         carried_count: usize,
         scope: u32,
         name: u32,
-    ) -> u64;
+        found: *mut u32,
+    ) -> u32;
     fn cenguatu_scope_at_offset(scopes: *const u32, scopes_len: usize, count: usize, offset: u32) -> u64;
 }
 
@@ -123,20 +124,38 @@ impl Lists {
         self.counts
     }
 
-    /// The variable, or none, or the refusal's number.
-    pub fn lookup(&self, scope: u32, name: u32) -> Result<Option<u32>, u64> {
+    /// How many recorded uses came over a WITH.
+    pub fn over_with(&self) -> usize {
+        self.list(3).chunks_exact(WIDTHS[3]).take(self.counts[3]).filter(|entry| entry[4] == 1).count()
+    }
+
+    /// The variable of a name and the scope that binds it, or none, or the refusal's number; and whether no word was altered but these two,
+    /// where the name is found.
+    pub fn lookup(&self, scope: u32, name: u32) -> (Result<Option<(u32, u32)>, u32>, bool) {
         let [a, b, c] = [0, 1, 2].map(|list| self.list(list));
         let [i, j, k, ..] = self.counts;
-        // Safety: the lists are valid for their lengths.
-        let answer = unsafe { cenguatu_lookup(a.as_ptr(), a.len(), i, b.as_ptr(), b.len(), j, c.as_ptr(), c.len(), k, scope, name) };
-        found(answer)
+        let mut room = [BLANK; 6];
+        let found = room[2..4].as_mut_ptr();
+        // Safety: the lists are valid for their lengths, and two words are lent.
+        let answer = unsafe { cenguatu_lookup(a.as_ptr(), a.len(), i, b.as_ptr(), b.len(), j, c.as_ptr(), c.len(), k, scope, name, found) };
+        let [before @ .., variable, scope, _, _] = room;
+        let around = blank(&before) && blank(&room[4..]);
+        match answer {
+            256 => (Ok(Some((variable, scope))), around),
+            0 => (Ok(None), blank(&room)),
+            refused => (Err(refused), blank(&room)),
+        }
     }
 
     /// The scope, or none, or the refusal's number.
     pub fn scope_at_offset(&self, offset: u32) -> Result<Option<u32>, u64> {
         let scopes = self.list(0);
         // Safety: the list is valid for its length.
-        found(unsafe { cenguatu_scope_at_offset(scopes.as_ptr(), scopes.len(), self.counts[0], offset) })
+        match unsafe { cenguatu_scope_at_offset(scopes.as_ptr(), scopes.len(), self.counts[0], offset) } {
+            0 => Ok(None),
+            answer @ 256.. => Ok(Some((answer - 256) as u32)),
+            refused => Err(refused),
+        }
     }
 
     /// As `crate::lists::lists` writes the Rust's.
@@ -155,14 +174,6 @@ impl Lists {
 /// Looks at all of the words, which is faster than to stop at the first other one.
 fn blank(words: &[u32]) -> bool {
     words.iter().fold(0, |other, word| other | (word ^ BLANK)) == 0
-}
-
-fn found(answer: u64) -> Result<Option<u32>, u64> {
-    match answer {
-        0 => Ok(None),
-        256.. => Ok(Some((answer - 256) as u32)),
-        refused => Err(refused),
-    }
 }
 
 fn line(text: &mut String, list: usize, e: &[u32]) {

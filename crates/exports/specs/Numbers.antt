@@ -29,11 +29,17 @@ abbrev pub with_counts : Sheet Counts → List ℕ → List ℕ
 with_counts (accepted c) l = c.scopes ∷ c.bindings ∷ c.carried ∷ c.recorded ∷ c.findings ∷ []
 with_counts (sheets.refused n) l = l
 
--- 256 and the variable, or 0 for nothing
+-- 256 where a name is found, or 0 for nothing
 abbrev pub looked_number : Looked → ℕ
-looked_number (at v) = 256 + v
+looked_number (at v s) = 256
 looked_number nothing = 0
 looked_number (refused n) = n
+
+-- the variable, and the scope that binds the name; nothing and a refusal alter nothing
+abbrev pub with_found : Looked → List ℕ → List ℕ
+with_found (at v s) l = v ∷ s ∷ []
+with_found nothing l = l
+with_found (refused n) l = l
 
 -- 256 and the scope, or 0 for none
 abbrev pub offset_number : Offset → ℕ

@@ -4,7 +4,7 @@
 ghost use Rattle.std.specs.Prelude.{◌≡◌};
 ghost use Rattle.scope.specs.Lookup.{lookup};
 ghost use Rattle.scope.specs.Offset.{offset};
-ghost use Rattle.exports.specs.Numbers.{flat, answer_by, left_by, checked_number, with_counts, looked_number, offset_number};
+ghost use Rattle.exports.specs.Numbers.{flat, answer_by, left_by, checked_number, with_counts, looked_number, with_found, offset_number};
 
 use checker::{Lists, check_words};
 use scope::{lookup, scope_at_offset};
@@ -42,7 +42,8 @@ pub extern "C" fn cenguatu_check(
     }
 }
 
-// 256 and the variable, 0 for nothing, or the refusal's number. Eight parameters: C gives each list with its count.
+// 256 where a name is found, whose variable and the scope that binds it go into `found`; 0 for nothing, or the refusal's number. Nine
+// parameters: C gives each list with its count.
 #[unsafe(no_mangle)]
 pub extern "C" fn cenguatu_lookup(
     scopes: &[u32],
@@ -53,17 +54,22 @@ pub extern "C" fn cenguatu_lookup(
     c: usize,
     scope: u32,
     name: u32,
-) -> u64
-    ensures { result ≡ looked_number (lookup a scopes.now b bindings.now c carried.now scope name) }
+    found: &mut [u32; 2],
+) -> u32
+    ensures number { result ≡ looked_number (lookup a scopes.now b bindings.now c carried.now scope name) }
+    ensures found { found.new ≡ with_found (lookup a scopes.now b bindings.now c carried.now scope name) found.old }
 {
     match lookup(scopes, a, bindings, b, carried, c, scope, name) {
-        Ok(Some(variable)) => 256 + u64::from(variable),
+        Ok(Some(looked)) => {
+            *found = [looked.variable, looked.scope];
+            256
+        }
         Ok(None) => 0,
-        Err(cause) => u64::from(u32::from(cause)),
+        Err(cause) => u32::from(cause),
     }
 }
 
-// 256 and the scope, 0 for none, or the refusal's number. The same match as in cenguatu_lookup, since each has a definition of its own.
+// 256 and the scope, 0 for none, or the refusal's number.
 #[unsafe(no_mangle)]
 pub extern "C" fn cenguatu_scope_at_offset(scopes: &[u32], n: usize, o: u32) -> u64
     ensures { result ≡ offset_number (offset n scopes.now o) }

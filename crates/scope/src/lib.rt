@@ -100,8 +100,7 @@ impl Graph<'_> {
     }
 
     // The variable that a name has in a scope, and the scope that binds it: the first binding on the way up; a WithBarrier lets through only
-    // names that it carries.
-    // Asked where there is no such scope, or a parent on the way is not below its child.
+    // names that it carries. Asked where there is no such scope, or a parent on the way is not below its child.
     #[tactic(auto, using(crate::proofs::Listed::counted), unfolding(crate::specs::Lookup::lookup_in))]
     pub fn lookup(&self, scope: u32, name: u32) -> Result<Option<Found>, Refusal>
         ensures { looked_as result ≡ lookup_in (scopes_in self.now) (bindings_in self.now) (carried_in self.now) scope name }

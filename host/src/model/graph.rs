@@ -38,6 +38,13 @@ pub struct Bound {
     since: usize,
 }
 
+/// The binding that answers a name: its variable, and the scope that has it.
+#[derive(Clone, Copy)]
+pub struct Found {
+    pub variable: u32,
+    pub scope: usize,
+}
+
 #[derive(Default)]
 pub struct Graph {
     pub scopes: Vec<Scope>,
@@ -81,14 +88,19 @@ impl Graph {
         self.scopes[scope].bound.iter().copied().find(|at| self.bindings[*at].name == name)
     }
 
-    /// The variable that a name has from a scope: its own, or its parent's, but past a barrier only for a name that is carried.
-    pub fn lookup(&self, scope: usize, name: &str) -> Option<u32> {
+    /// What a name is bound to from a scope: its own binding, or its parent's, but past a barrier only for a name that is carried.
+    pub fn lookup(&self, scope: usize, name: &str) -> Option<Found> {
         if let Some(at) = self.own(scope, name) {
-            return Some(self.bindings[at].variable);
+            return Some(Found { variable: self.bindings[at].variable, scope });
         }
         let Scope { kind, parent, carries, .. } = &self.scopes[scope];
         let passes = *kind != Kind::WithBarrier || carries.iter().any(|(carried, _)| carried == name);
         parent.filter(|_| passes).and_then(|parent| self.lookup(parent, name))
+    }
+
+    /// Whether what a scope binds came over a WITH: its parent is a barrier.
+    pub fn is_over_with(&self, scope: usize) -> bool {
+        self.scopes[scope].parent.is_some_and(|parent| self.scopes[parent].kind == Kind::WithBarrier)
     }
 
     /// A scope and those around it, up to the Root after a barrier, which has all that its barrier carries.

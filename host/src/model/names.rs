@@ -1,20 +1,28 @@
 //! The name walk: scopes, bindings, uses, and the findings E1001 and E1002.
 use super::finding::{Finding, NOWHERE};
-use super::graph::{Graph, Kind, ends};
+use super::graph::{Found, Graph, Kind, ends};
 use super::parts::{elements, parts};
 use super::row;
 use super::starred::{Said, Starred};
 use cyrs_hir::{Clause, Expr, HirSpan, OrderItem, Pattern, Projection, RemoveItem, SetItem, Statement, VarId, VarKind};
 use std::collections::HashMap;
 
-/// The answers by use id, in order of first use, each with the last use's answer: variable and kind, or none.
+/// The answers by use id, in order of first use, each with the last use's answer, or none.
 #[derive(Default)]
 pub struct Recorded {
     answers: Vec<(u32, Answer)>,
     places: HashMap<u32, usize>,
 }
 
-type Answer = Option<(u32, VarKind)>;
+type Answer = Option<Resolved>;
+
+#[derive(Clone, Copy)]
+pub struct Resolved {
+    pub variable: u32,
+    pub kind: VarKind,
+    /// Whether the scope of the binding that answered is right under a barrier. A Var's record never says so.
+    pub via_projection: bool,
+}
 
 impl Recorded {
     fn put(&mut self, id: u32, answer: Answer) {
@@ -27,6 +35,11 @@ impl Recorded {
 
     pub fn in_order(&self) -> &[(u32, Answer)] {
         &self.answers
+    }
+
+    /// Whether the answer of a use id came over a WITH.
+    pub fn via_projection(&self, id: u32) -> bool {
+        self.places.get(&id).and_then(|place| self.answers[*place].1).is_some_and(|answer| answer.via_projection)
     }
 }
 
@@ -176,7 +189,7 @@ impl<'a> Names<'a> {
         let alias = projection.alias.as_deref();
         let (own, variable) = match &projection.expr {
             Expr::Var(variable) => (row(self.statement, *variable).map(|row| row.name.as_str()), variable.0),
-            Expr::Unresolved(name) => (Some(name.as_str()), self.graph.lookup(current, name)?),
+            Expr::Unresolved(name) => (Some(name.as_str()), self.graph.lookup(current, name)?.variable),
             _ => (None, use_id(alias?)),
         };
         Some((alias.or(own)?.to_owned(), variable))
@@ -225,7 +238,7 @@ impl<'a> Names<'a> {
         }
     }
 
-    fn visible(&self, name: &str, place: Place) -> Option<u32> {
+    fn visible(&self, name: &str, place: Place) -> Option<Found> {
         self.graph.lookup(place.scope, name).or_else(|| self.graph.lookup(place.before?, name))
     }
 
@@ -253,12 +266,16 @@ impl<'a> Names<'a> {
         match expr {
             Expr::Var(variable) => {
                 if let Some(row) = row(self.statement, *variable) {
-                    self.recorded.put(variable.0, Some((variable.0, row.kind)));
+                    self.recorded.put(variable.0, Some(Resolved { variable: variable.0, kind: row.kind, via_projection: false }));
                 }
             }
             Expr::Unresolved(name) if place.columns.contains(&name.as_str()) => (),
             Expr::Unresolved(name) => {
-                let answer = self.visible(name, place).map(|variable| (variable, self.kind_of(VarId(variable))));
+                let answer = self.visible(name, place).map(|Found { variable, scope }| Resolved {
+                    variable,
+                    kind: self.kind_of(VarId(variable)),
+                    via_projection: self.graph.is_over_with(scope),
+                });
                 self.recorded.put(use_id(name), answer);
                 if answer.is_none() && name != "*" {
                     self.findings.push(Finding::of_name(1001, NOWHERE, name));
