@@ -13,7 +13,7 @@ use Rattle.clauses.specs.Tree.{Yield, yield, Clause, opening, reading, with', re
 use Rattle.tables.specs.Row.{Row, row, path_kind, value_kind}
 use Rattle.semantics.specs.Log.{e1001, e1002, Finding, finding, Event, open', bind, carry, answer, find, carries_in, logs}
 use Rattle.semantics.specs.World.{World, hush, variable, opens, yield_name, name_of, kind_of}
-use Rattle.semantics.specs.Resolve.{Hit, hit, Seen, seen, Pair, pair, State, lookup, binds, say, say_if, enter, leave, standing, bind_name, bind_over, use_var, use_name, visit, bind_anew, bind_new, bind_path, bind_elem, resolve, resolves, bind_pattern, carried_by, carry_all, bind_all, barrier, fresh, yields, aliases, sort_by, clause}
+use Rattle.semantics.specs.Resolve.{Hit, hit, variable_of, Seen, seen, Pair, pair, State, lookup, binds, say, say_if, enter, leave, standing, bind_name, bind_over, use_var, use_name, visit, bind_anew, bind_new, bind_path, bind_elem, resolve, resolves, bind_pattern, carried_by, carry_all, bind_all, barrier, fresh, yields, aliases, sort_by, clause}
 use Rattle.theorems.specs.Needs.{carried_in}
 use Rattle.arm_walk.specs.Taking.{carried_as}
 
@@ -124,7 +124,7 @@ module _ (w : World) where
 
   -- pairs that are carried behind cs are what they are seen as where they are bound
   carry-all : (ps : List Pair) (cs : List Carried) (s t : State) → oldest s.log ≡ cs ++ carried_as s.cur t.visible → oldest (carry_all w ps s).log ≡ cs ++ carried_as s.cur (bind_all w ps t).visible
-  unfolding carry_all bind_all oldest carried_as
+  unfolding carry_all bind_all oldest carried_as variable_of
   carry-all [] cs s t e = e
   carry-all (pair x v ∷ ps) cs s t e =
       let c = carried s.cur x v in

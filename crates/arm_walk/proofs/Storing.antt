@@ -8,6 +8,7 @@ use mathlib.Core.Path.{◌≡◌, refl, ◌∙◌}
 use mathlib.Core.List.{List, ◌++◌, append_assoc, append-nil}
 use lib.ListN.{length, get_or}
 use Rattle.scope.specs.Graph.{Carried, carried}
+use Rattle.semantics.specs.Resolve.{variable_of}
 use Rattle.visible.specs.Visible.{seens}
 use Rattle.steps.specs.declared.Walk.{Walk}
 use Rattle.entries.specs.Filled.{carried_words}
@@ -26,7 +27,7 @@ module _ {w : Walk} {out : List ℕ} {b from : ℕ} where
 
   pub one-stored : {new new' : List ℕ} {i : ℕ} → (from + i + 1) * 3 ≤ length out → Stored w out b from new i →
       Carries (carried b (get_or w.visible.words.now (w.visible.names + i * 4) 0) (get_or w.visible.words.now (w.visible.names + i * 4 + 1) 0)) new new' (from + i) → Stored w out b from new' (i + 1)
-  unfolding seens carried_as
+  unfolding seens carried_as variable_of
   one-stored {new} {new'} {i} l o x =
       let z : from + i + 1 ≡ from + (i + 1) = omega arith in
       record {
