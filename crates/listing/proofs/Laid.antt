@@ -30,7 +30,7 @@ kept-finds (find f ∷ l) = ap (λ k. find f ∷ k) (kept-finds l)
 is-find : (id : ℕ → ℕ) (tag a b c d e : ℕ) (f : Finding) → event_of id tag a b c d e ≡ find f → finding tag a b c d e ≡ f
 is-find id tag a b c d e f q = go (eqb tag 1) (eqb tag 2) (eqb tag 3) (eqb tag 4) (eqb tag 5) q
   where
-    go : (i j k m n : Bool) → cond i (open' (scope a (parent_of b) c d)) (cond j (bind false false (bound a b c d)) (cond k (bind false true (bound a b c d)) (cond m (answer (write a (found a b 0))) (cond n (answer (write (id a) (answered b c d))) (find (finding tag a b c d e)))))) ≡ find f → finding tag a b c d e ≡ f
+    go : (i j k m n : Bool) → cond i (open' (scope a (parent_of b) c d)) (cond j (bind false false (bound a b c d)) (cond k (bind false true (bound a b c d)) (cond m (answer (write a (found a b 0))) (cond n (answer (write (id a) (answered b c d e))) (find (finding tag a b c d e)))))) ≡ find f → finding tag a b c d e ≡ f
     go true j k m n q = never (cc)
     go false true k m n q = never (cc)
     go false false true m n q = never (cc)
