@@ -205,7 +205,7 @@ class Tree:
             by_variable.setdefault(variable, {})[scope] = True
         several, nowhere, missing = [], [], []
         for use in self.uses:
-            is_var = use.id in variables and use.id == use.variable
+            is_var = use.id in variables and use.id == use.variable and not use.via
             what = [self.name(name) for name in names.get(use.id, [])] + ["Var %d" % use.id] * is_var
             if not what:
                 raise Bad("no name of the sheet has the use id %d" % use.id)
@@ -216,11 +216,11 @@ class Tree:
             line.append((", " if is_var and len(what) == 1 else ", variable %d, " % use.variable) + KINDS[use.kind - 1])
             if use.via:
                 line.append(Mark("via_projection"))
-            scopes = dict(by_name.get((use.id, use.variable), {}))
+            # A Var's record says nothing of WITHs; a name's says whether the scope that answered is right under a WithBarrier.
             if is_var:
-                scopes.update(by_variable.get(use.variable, {}))
-            if use.via:
-                scopes = {scope: True for scope in scopes if self.barrier(scope) is not None}
+                scopes = {**by_name.get((use.id, use.variable), {}), **by_variable.get(use.variable, {})}
+            else:
+                scopes = [scope for scope in by_name.get((use.id, use.variable), {}) if (self.barrier(scope) is not None) == bool(use.via)]
             if len(scopes) == 1:
                 self.lines[next(iter(scopes))].append(line)
             elif scopes:

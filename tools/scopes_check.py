@@ -118,7 +118,8 @@ def check_text(text, printed, names):
         told[key] = end
         must((end == ENDS[2]) == (kind is None) and (end == ENDS[0]) == (len(where) > 1) and (end == ENDS[1]) == (bool(kind) and not where), "the wrong list", key)
         binding = [s for s in sorted(bindings) if any(v == variable and (name in found or var == v) for name, v, k, r in bindings[s])]
-        must(where == [s for s in binding if not via or made[made[s][1]][0] == 7], "other scopes of a use", key, where)
+        over = [s for s in binding if made[s][1] is not None and made[made[s][1]][0] == 7]
+        must(where == [s for s in binding if var is not None or (s in over) == via], "other scopes of a use", key, where)
     must(set(told) == {(r[0], None, None, 0) if r[1] == "unresolved" else (r[0], *r[2:]) for r in lists["recorded"]}, "other uses")
 
 

@@ -257,8 +257,9 @@ fn starred_growth(jobs: &mut Jobs, family: &Family) -> String {
         let bytes = family.sheet(kilobytes);
         jobs.compare(&bytes);
         let sheet = sheet::read(&bytes).expect("an accepted sheet");
+        let entries = Answers::new(&sheet, true).entries();
         let mut lists = Lists::default();
-        lists.lend(in_words(needed(bytes.len(), Answers::new(&sheet, true).entries())));
+        lists.lend(in_words(needed(bytes.len(), entries)));
         let row = vec![bytes.as_slice(); TURN / bytes.len() / 8];
         let mut least = [f64::INFINITY; 4];
         for _ in 0..REPEATED {
@@ -270,8 +271,8 @@ fn starred_growth(jobs: &mut Jobs, family: &Family) -> String {
             ];
             least = std::array::from_fn(|job| least[job].min(times[job]));
         }
-        assert!(lists.entries() == answers.entries(), "as many entries as are needed");
-        (answers.entries()[1], least.map(|time| time / row.len() as f64 / 1000.0))
+        assert!(lists.entries() == entries, "as many entries as are needed");
+        (entries[1], least.map(|time| time / row.len() as f64 / 1000.0))
     });
     let micro = |job: usize| columns.map(|(_, times)| format!("{:.1}", times[job])).join(" ");
     let ratios = columns.map(|(_, times)| ratio(times[3], times[1])).join(" ");

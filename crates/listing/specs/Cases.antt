@@ -1,5 +1,5 @@
--- Document 01's cases that are marked +, and its traps, and a sort key (CR 1), a star and an alias (CR 2) of document 02, one table: from bytes
--- to use ids, refusals, lists and the listing.
+-- Document 01's cases that are marked +, and its traps, and of document 02 a sort key (CR 1), a star and an alias (CR 2), and a name that came
+-- over a WITH beside a fresh one (CR 3), one table: from bytes to use ids, refusals, lists and the listing.
 use Rattle.std.specs.Prelude.{ℕ, ◌≡◌, refl, true, false, List, [], ◌∷◌, map, replicate, Option, None, Some}
 use Rattle.words.specs.Words.{words}
 use Rattle.words.specs.Fnv.{use_id, fnv1_of, fnv_from, fnv_step}
@@ -23,10 +23,10 @@ use Rattle.sheet.specs.Write.{bytes_of}
 use Rattle.scope.specs.Graph.{Scope, scope, Entry, entry, Carried, carried}
 use Rattle.scope.specs.Lookup.{Looked, at, nothing, bound_in, carries as carries_name, parent_at, kind_at, answer_at, passes, climb, lookup_in}
 use Rattle.scope.specs.Offset.{covers, width, better, narrowest, scope_at_offset}
-use Rattle.semantics.specs.Log.{Finding, finding, logs}
+use Rattle.semantics.specs.Log.{Finding, finding, found, missing, Write, write, logs}
 use Rattle.semantics.specs.Resolve.{walk}
 use Rattle.semantics.specs.Kinds.{kind_walk}
-use Rattle.semantics.specs.Lists.{scopes, bindings, carried_list, findings, lists}
+use Rattle.semantics.specs.Lists.{scopes, bindings, carried_list, recorded, findings, lists}
 use Rattle.texts.specs.Bytes.{bytes}
 use Rattle.texts.specs.Texts.{type_name, kind_name, text_of}
 use Rattle.texts.specs.Codes.{of2007, of2008, of5010, unused, text_for}
@@ -40,6 +40,7 @@ pub data Shown : Type 0 where
   scope_list : List Scope → Shown
   binding_list : List Entry → Shown
   carries : List Carried → Shown
+  records : List Write → Shown
   finds : List Finding → Shown
   in_scope : Option ℕ → Shown  -- the scope at an offset
   looked : Looked → Shown  -- what a lookup gives
@@ -65,6 +66,9 @@ its_bindings s = ask (λ st. binding_list (bindings true st)) (read_sheet s)
 
 abbrev pub its_carried : List ℕ → Shown
 its_carried s = ask (λ st. carries (carried_list true st)) (read_sheet s)
+
+abbrev pub its_recorded : List ℕ → Shown
+its_recorded s = ask (λ st. records (recorded true st)) (read_sheet s)
 
 abbrev pub its_findings : List ℕ → Shown
 its_findings s = ask (λ st. finds (findings true st)) (read_sheet s)
@@ -196,6 +200,17 @@ computed =
     ∷ 4 ∷ 24 ∷ 32 ∷ 1 ∷ 0 ∷ 8 ∷ 2
     ∷ 41 ∷ 3 ∷ 35 ∷ 1 ∷ 30 ∷ 3 ∷ 0 ∷ 0 ∷ 0 ∷ 32 ∷ []
 
+-- `MATCH (a) WITH a MATCH (b) RETURN a, b`, the last two being names
+abbrev pub carried_and_fresh : List ℕ
+carried_and_fresh =
+    1 ∷ 97 ∷ 1 ∷ 98
+    ∷ 1 ∷ 0 ∷ 1 ∷ 7 ∷ 8 ∷ 2 ∷ 1 ∷ 1 ∷ 24 ∷ 25
+    ∷ 1 ∷ 0 ∷ 9 ∷ 0 ∷ 1 ∷ 0 ∷ 1 ∷ 1 ∷ 6 ∷ 9 ∷ 1 ∷ 1 ∷ 0
+    ∷ 3 ∷ 10 ∷ 16 ∷ 1 ∷ 0 ∷ 7 ∷ 1 ∷ 0
+    ∷ 1 ∷ 17 ∷ 26 ∷ 0 ∷ 1 ∷ 0 ∷ 1 ∷ 1 ∷ 23 ∷ 26 ∷ 1 ∷ 2 ∷ 0
+    ∷ 4 ∷ 27 ∷ 38 ∷ 2 ∷ 0 ∷ 8 ∷ 0 ∷ 0 ∷ 8 ∷ 1
+    ∷ 58 ∷ 2 ∷ 54 ∷ 2 ∷ 44 ∷ 4 ∷ 0 ∷ 0 ∷ 0 ∷ 38 ∷ []
+
 abbrev pub cases : List Case
 cases =
     -- 40 zero bytes are accepted; 36, 42 and 8,196 bytes are not
@@ -213,7 +228,7 @@ cases =
     ∷ case (bytes_of example) (scope_at 16) (in_scope (Some 2))
     ∷ case (bytes_of example) (scope_at 26) (in_scope None)
     -- from the barrier, which carries `a` and lets it through
-    ∷ case (bytes_of example) (looks_up 2 0) (looked (at 1))
+    ∷ case (bytes_of example) (looks_up 2 0) (looked (at 1 1))
     ∷ case (bytes_of example) its_findings (finds (finding 1001 0 0 2 0 0 ∷ []))
     ∷ case (bytes_of example) its_listing (text (bytes "findings 1\nE1001 0 0 unresolved variable `b`\n"))
     -- two yields `t`, and an Unwind of a visible name
@@ -227,7 +242,7 @@ cases =
     ∷ case (bytes_of replaces) its_bindings (binding_list (entry 1 0 0 1 None ∷ entry 1 1 1 1 None ∷ entry 3 2 1 1 (Some 0) ∷ []))
     ∷ case (bytes_of replaces) its_carried (carries (carried 2 2 0 ∷ carried 2 2 1 ∷ []))
     -- from the new Root `t` is there, and the barrier stops `a`
-    ∷ case (bytes_of replaces) (looks_up 3 2) (looked (at 1))
+    ∷ case (bytes_of replaces) (looks_up 3 2) (looked (at 1 3))
     ∷ case (bytes_of replaces) (looks_up 3 0) (looked nothing)
     -- a path's property `id`, and another
     ∷ case (bytes_of path_id) its_listing (text (bytes "findings 0\n"))
@@ -252,6 +267,13 @@ cases =
     -- the alias of a computed expression has its use id as its variable
     ∷ case (bytes_of computed) its_carried (carries (carried 2 2 0xFAF3A299 ∷ []))
     ∷ case (bytes_of computed) its_listing (text (bytes "findings 0\n"))
+    -- of the names after a star both came over the WITH, as did a computed alias
+    ∷ case (bytes_of star) its_recorded (records (write 0xFAF3A2CA missing ∷ write 0xFAF3A281 (found 2 4 1) ∷ write 0xFAF3A282 (found 1 1 1) ∷ []))
+    ∷ case (bytes_of computed) its_recorded (records (write 1 (found 1 1 0) ∷ write 0xFAF3A299 (found 0xFAF3A299 4 1) ∷ []))
+    -- `a` came over the WITH, `b` is fresh, and a Var says nothing; from the Return's scope they are found in the new Root and in the second Match
+    ∷ case (bytes_of carried_and_fresh) its_recorded (records (write 1 (found 1 1 0) ∷ write 0xFAF3A281 (found 1 1 1) ∷ write 0xFAF3A282 (found 2 1 0) ∷ []))
+    ∷ case (bytes_of carried_and_fresh) (looks_up 5 0) (looked (at 1 3))
+    ∷ case (bytes_of carried_and_fresh) (looks_up 5 1) (looked (at 2 4))
     ∷ []
 
 pub cases-hold : map given cases ≡ map expected cases
