@@ -1,7 +1,7 @@
 -- Laws of names in chains: whether a text is a name, by the newest that is the same (`named`), and whether each is new (`fresh-next`); one name
 -- more is hung up (`one_more`), none yet (`none-hung`), and those that hang are the first (`first-hung`). The words of a text, four bytes each
 -- (`words_chunks`, `next-word`).
-use Prim.Native.Nat.{ℕ, zero, suc, ◌+◌, ◌<◌, ◌≤◌}
+use Prim.Native.Nat.{ℕ, zero, suc, ◌+◌, ◌%◌, ◌<◌, ◌≤◌}
 use native.Mathlib.Omega.{arith}
 use native.Mathlib.Nat.{mod-lt}
 use mathlib.Core.Path.{◌≡◌, refl, ap, sym, ◌∙◌}
@@ -20,13 +20,16 @@ use Rattle.tables.specs.Distinct.{same_bytes, name_in, fresh_after}
 use Rattle.std.specs.Prelude.{None, Some, Option, is_some}
 use Rattle.rows.specs.Rows.{newest, seek, number_of, Hangs}
 use Rattle.rows.proofs.Chains.{none-chained}
-use Rattle.name_chains.specs.Slot.{slot_of}
+use Rattle.name_chains.specs.Slot.{hash_of, slot_of}
 use Rattle.tables.specs.Answer.{names_at}
 use Rattle.name_chains.specs.Hung.{text_in, itself, slot_in, Cleared, Hung}
 
 pub slot-below : (mult m : ℕ) → 0 < m → (x : List ℕ) → slot_of mult m x < m
 unfolding slot_of
-slot-below mult m h x = mod-lt _ h
+slot-below mult m h x =
+    let t = hash_of mult x % 4294967296 in
+    let p : t < 4294967296 = mod-lt _ (omega arith) in
+    grind (arith, p, h)
 
 -- whether there is one, by its number + 1
 abbrev pub some : ℕ → Bool

@@ -50,6 +50,7 @@ struct Slots {
     mult: u32,
     count: usize,
     ghost some: { 0 < count },
+    ghost few: { count < 4294967296 },
 }
 
 impl Slots {
@@ -59,7 +60,7 @@ impl Slots {
         ensures slot { result ≡ slot_of self.mult self.count text.now }
         ensures below { result < self.count }
     {
-        hash(text, self.mult) as usize % self.count
+        (u64::from(hash(text, self.mult)) * self.count as u64 / 4294967296) as usize
     }
 }
 
@@ -137,7 +138,7 @@ pub fn distinct_by_chains(s: &[u8], places: &[u32], chains: &mut [u32]) -> bool
     };
     let slots = Slots {
         mult: multiplier(words, |i| word(s, i as usize)),
-        // One for each name, or as many as there is room for: the remainder of a hash spreads over any number of slots.
+        // One for each name, or as many as there is room for: a hash scaled down spreads over any number of slots.
         count: n.clamp(1, chains.len() - n),
     };
     clear(chains, slots.count);
