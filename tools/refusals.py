@@ -13,7 +13,7 @@ import random
 import struct
 import sys
 
-DEPTH = 48
+DEPTH = 19
 
 
 # ---- a decoder written from document 01, and from document 02 (CR 1) for sort keys
@@ -390,40 +390,40 @@ def made():
             yield 5, placed([sorted_clause + [1, 22, 1, 0, 0, 0] + NULL])
             yield 5, placed([sorted_clause + [0]] + [NULL], counts={2: 1} if where_it_stands == "head" else None)
             yield 5, placed([sorted_clause + [2**32 - 1] + NULL * 3])
-            yield 6, placed([sorted_clause + [2**32 - 1] + NULL * 3 + deep(49)])
-            yield 6, placed([sorted_clause + [2] + deep(49) + [99]])
-            yield 5, placed([sorted_clause + [2, 99] + deep(49)])
+            yield 6, placed([sorted_clause + [2**32 - 1] + NULL * 3 + deep(DEPTH + 1)])
+            yield 6, placed([sorted_clause + [2] + deep(DEPTH + 1) + [99]])
+            yield 5, placed([sorted_clause + [2, 99] + deep(DEPTH + 1)])
         yield 5, placed([[11, 0, 0, 0, 1, 2, 0, 0]])
         yield 5, placed([[11, 0, 0, 0, 1, 0, 3, 0]])
-        # 6: by each way down; a missing word at depth 49 is 5; an unknown code there is 6; the earlier word decides
-        yield 0, placed([where(deep(48))])
-        yield 6, placed([where(deep(49))])
-        yield 6, placed([where([18] * 48 + [99])])
-        yield 5, placed([where([18] * 48)])
-        yield 6, placed([where([10] + deep(48) + [99])])
-        yield 5, placed([where([10] + [99] + deep(48))])
-        yield 6, placed([where([12, 2**32 - 1] + deep(48))])
+        # 6: by each way down; a missing word one level too deep is 5; an unknown code there is 6; the earlier word decides
+        yield 0, placed([where(deep(DEPTH))])
+        yield 6, placed([where(deep(DEPTH + 1))])
+        yield 6, placed([where([18] * DEPTH + [99])])
+        yield 5, placed([where([18] * DEPTH)])
+        yield 6, placed([where([10] + deep(DEPTH) + [99])])
+        yield 5, placed([where([10] + [99] + deep(DEPTH))])
+        yield 6, placed([where([12, 2**32 - 1] + deep(DEPTH))])
         for head in ([9, 0], [11, 0], [12, 1], [13, 1], [14, 1], [16, 0], [18], [23, 0], [24, 0]):
-            yield 0, placed([where(head + deep(47))])
-            yield 6, placed([where(head + deep(48))])
+            yield 0, placed([where(head + deep(DEPTH - 1))])
+            yield 6, placed([where(head + deep(DEPTH))])
         for head in ([10], [15, 0], [19], [17, 1, 0], [17, 2, 0], [11, 1], [21, 0]):
             tail = NULL if head[0] in (10, 15, 19, 21) or head == [11, 1] else []
-            yield 0, placed([where(head + deep(47) + tail)])
-            yield 6, placed([where(head + deep(48) + tail)])
-        inner = pattern((None, [node(None, deep(47))]))
-        outer = pattern((None, [node(None, deep(48))]))
+            yield 0, placed([where(head + deep(DEPTH - 1) + tail)])
+            yield 6, placed([where(head + deep(DEPTH) + tail)])
+        inner = pattern((None, [node(None, deep(DEPTH - 1))]))
+        outer = pattern((None, [node(None, deep(DEPTH))]))
         yield 0, placed([where([20] + inner)])
         yield 6, placed([where([20] + outer)])
         yield 0, placed([where([22, 0, 0, 0] + inner + NULL)])
         yield 6, placed([where([22, 0, 0, 0] + outer + NULL)])
-        yield 6, placed([where([22, 0, 0, 0] + pattern() + deep(48))])
-        yield 6, placed([where([24, 1] + NULL + [1] + deep(48))])
+        yield 6, placed([where([22, 0, 0, 0] + pattern() + deep(DEPTH))])
+        yield 6, placed([where([24, 1] + NULL + [1] + deep(DEPTH))])
         yield 0, placed([[6, 0, 0] + outer])
-        yield 6, placed([[6, 0, 0] + pattern((None, [node(None, deep(49))]))])
+        yield 6, placed([[6, 0, 0] + pattern((None, [node(None, deep(DEPTH + 1))]))])
         for clause in ([5, 0, 0, 1], [10, 0, 0, 1], [4, 0, 0, 1, 0], [3, 0, 0, 0, 1], [9, 0, 0, 1, 1], [8, 0, 0, 1, 3], [12, 0, 0, 0, 0, 1],
                        [12, 0, 0, 0, 1] + NULL + [1], [13, 0, 0, 0, 1], [13, 0, 0, 0, 2] + NULL):
-            yield 0, placed([clause + deep(48)])
-            yield 6, placed([clause + deep(49)])
+            yield 0, placed([clause + deep(DEPTH)])
+            yield 6, placed([clause + deep(DEPTH + 1)])
         # 7: each binder, also where the walks don't look; yields and Var are free; 5 and 6 anywhere come first
         unbound = pattern((None, [node(2)]))
         for clause in ([6, 0, 0] + unbound, [7, 0, 0] + unbound, [1, 0, 0, 0] + unbound, [1, 0, 0, 1] + pattern((2, [])),
@@ -438,15 +438,15 @@ def made():
             yield 7, placed([clause])
             yield 7, placed([clause, where(NULL)])
             yield 5, placed([clause, where([99])])
-            yield 6, placed([clause, where(deep(49))])
+            yield 6, placed([clause, where(deep(DEPTH + 1))])
         yield 0, placed([where([7, 2**32 - 1])])
         yield 0, placed([[11, 0, 0, 0, 1, 0, 0, 2**32 - 1]])
     # head and arms together: an unread word of the head comes before the arms; 7 in the head after 5 and 6 in an arm
-    yield 5, sheet(head=[where(NULL), [1]], counts={2: 1}, arms=[(0, 0, [where(deep(49))])])
-    yield 6, sheet(head=[where(NULL)], arms=[(0, 0, [where(deep(49))])])
+    yield 5, sheet(head=[where(NULL), [1]], counts={2: 1}, arms=[(0, 0, [where(deep(DEPTH + 1))])])
+    yield 6, sheet(head=[where(NULL)], arms=[(0, 0, [where(deep(DEPTH + 1))])])
     yield 5, sheet(head=[[5, 0, 0, 3] + NULL], arms=[(0, 0, [where([0])])])
-    yield 6, sheet(head=[[5, 0, 0, 3] + NULL], arms=[(0, 0, [where(deep(49))])])
-    yield 7, sheet(head=[[5, 0, 0, 3] + NULL], arms=[(0, 0, [where(deep(48))])])
+    yield 6, sheet(head=[[5, 0, 0, 3] + NULL], arms=[(0, 0, [where(deep(DEPTH + 1))])])
+    yield 7, sheet(head=[[5, 0, 0, 3] + NULL], arms=[(0, 0, [where(deep(DEPTH))])])
     yield 7, sheet(arms=[(0, 0, []), (0, 0, [[5, 0, 0, 3] + NULL])])
     yield 5, sheet(arms=[(1, 0, [])])
     yield 5, sheet(arms=[(0, 0, [])], counts={3: 2})
@@ -464,9 +464,9 @@ def made():
 # ---- random sheets
 
 def random_expr(rng, depth):
-    if depth >= 46 or rng.random() < 0.35:
+    if depth >= DEPTH - 2 or rng.random() < 0.35:
         return rng.choice([[1], [2], [3], [4], [5], [6], [25], [7, rng.randrange(5)], [8, rng.randrange(3)]])
-    sub = lambda n: [w for _ in range(n) for w in random_expr(rng, depth + 1 if rng.random() < 0.9 else depth + 40)]
+    sub = lambda n: [w for _ in range(n) for w in random_expr(rng, depth + 1 if rng.random() < 0.9 else depth + DEPTH - 8)]
     code = rng.choice([9, 10, 11, 12, 13, 14, 15, 16, 17, 18, 19, 20, 21, 22, 23, 24])
     if code == 9:
         return [9, rng.randrange(3)] + sub(1)

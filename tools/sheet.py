@@ -11,7 +11,7 @@ import re
 import struct
 import sys
 
-WORD, LONGEST_NAME, LONGEST_SHEET, DEPTH = 2**32, 255, 8192, 48
+WORD, LONGEST_NAME, LONGEST_SHEET, DEPTH = 2**32, 255, 8192, 19
 
 LEAVES = {"Null": 1, "Bool": 2, "Int": 3, "Float": 4, "String": 5, "Param": 6, "ExistsSubqueryDeferred": 25}
 COUNTED = {"List": 12, "Map": 13, "Call": 14}

@@ -2,7 +2,8 @@
 use crate::random::Random;
 use crate::tables::{Row, span};
 
-pub const DEPTH: u32 = 48;
+/// The deepest expression of an accepted sheet.
+pub const DEPTH: u32 = 19;
 
 /// How an expression grows: to about so many words, or down to a depth.
 #[derive(Clone, Copy)]

@@ -7,6 +7,7 @@ mod sheet;
 mod tables;
 pub mod worst;
 
+pub use clauses::DEPTH;
 pub use damage::to_bytes;
 pub use noise::noise;
 pub use random::Random;

@@ -94,7 +94,7 @@ fn depth(random: &mut Random) -> Option<u32> {
     match random.below(64) {
         0..=2 => Some(DEPTH),
         3 => Some(DEPTH + 1 + random.below(2)),
-        4 => Some(2 + random.below(46)),
+        4 => Some(2 + random.below(DEPTH - 2)),
         _ => None,
     }
 }

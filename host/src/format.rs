@@ -6,7 +6,7 @@ use cyrs_hir::{
 };
 use smol_str::SmolStr;
 
-const DEPTH: u32 = 48;
+const DEPTH: u32 = 19;
 
 /// The refusal's number.
 pub type Read<T> = Result<T, u32>;

@@ -1,6 +1,6 @@
 //! Families of sheets with deep expressions or several clauses.
 use crate::families::{Each, MAX, product, put, sheet, tables, up_to};
-use generator::Sheet;
+use generator::{DEPTH, Sheet};
 
 /// What stands before and after an expression within another.
 const AROUND: [(&[u32], &[u32]); 30] = [
@@ -50,13 +50,13 @@ pub fn key_depths(each: Each) {
     }
 }
 
-/// A clause that begins so and goes on with an expression at depth 47 to 50.
+/// A clause that begins so and goes on with an expression at the deepest depth, one less, one more or two more.
 fn deep(clause: &[u32], outer: (&[u32], &[u32]), inner: (&[u32], &[u32]), each: Each) {
     let mut leaves: Vec<Vec<u32>> = vec![Vec::new(), vec![7, 0], vec![8, 0]];
     leaves.extend([up_to(26), vec![MAX]].concat().iter().map(|code| vec![*code]));
     let mut deep = tables();
     deep.counts[2] = 1;
-    for depth in 47..=50 {
+    for depth in DEPTH as usize - 1..=DEPTH as usize + 2 {
         for leaf in &leaves {
             let before = [clause, &outer.0.repeat(depth - 2), inner.0].concat();
             deep.sections[2] = [&before[..], leaf, inner.1, &outer.1.repeat(depth - 2)].concat();

@@ -2,6 +2,7 @@
 #![tactic(auto)]
 
 ghost use Rattle.std.specs.Prelude.{◌+◌, ◌≤◌, length};
+ghost use Rattle.clauses.specs.Read.{max_depth};
 ghost use Rattle.steps.specs.Modes.{mode_of};
 ghost use Rattle.steps.specs.Memory.{words_in, names_in};
 ghost use Rattle.steps.specs.Hold.{Ready};
@@ -59,7 +60,7 @@ pub fn next_alias(walk: &mut Walk, context: &Context) -> Result<Option<u32>, Ref
 // A count, and as many expressions.
 pub fn walk_counted(walk: &mut Walk, context: &Context, mode: Mode) -> Result<(), Refusal>
     requires { Ready 0 context.now walk.old }
-    ensures { Walked 48 context.now walk.old walk.new (counted_at context.now (mode_of mode)) result }
+    ensures { Walked max_depth context.now walk.old walk.new (counted_at context.now (mode_of mode)) result }
 {
     let n = next_any(walk, context)?;
     walk_many(

@@ -6,9 +6,9 @@ use Rattle.expr.specs.Tree.{Exprs}
 use Rattle.expr.specs.Read.{Reader, read_expr, times, no_more, marks, pattern}
 use Rattle.clauses.specs.Tree.{Projection, projection, Yield, yield, Opening, match, create, merge, Reading, where', set, remove, delete, Keys, unsorted, sorted, Clause, opening, reading, with', return, unwind, call, Arm, arm}
 
--- "depth over 48"
+-- "depth 19 is accepted and 20 gets refusal 6"
 abbrev pub max_depth : ℕ
-max_depth = 48
+max_depth = 19
 
 -- "alias + 1 or 0"
 abbrev pub alias_of : ℕ → Option ℕ

@@ -17,8 +17,8 @@ use heads::{Item, MarkKind, Section, counted};
 pub use kind::ClauseKind;
 use refusal::Refusal;
 
-// The deepest expression that is read.
-pub const MAX_DEPTH: u32 = 48;
+// The depth of the deepest expression that is read, `max_depth` of the definitions.
+pub const MAX_DEPTH: u32 = 19;
 
 // A projection: an alias or none, and an expression.
 pub struct Projection;

@@ -12,7 +12,7 @@ use Rattle.expr.specs.Read.{read_expr}
 use Rattle.expr.specs.Write.{write_e}
 use Rattle.expr.proofs.Accepted.{ok-inverse, ok-left}
 use Rattle.clauses.specs.Tree.{Clause, arm}
-use Rattle.clauses.specs.Read.{read_clause, read_arm}
+use Rattle.clauses.specs.Read.{max_depth, read_clause, read_arm}
 use Rattle.clauses.specs.Write.{write_clause, write_arm}
 use Rattle.clauses.proofs.WrittenClause.{clause-written, arm_written}
 use Rattle.condition_text.specs.Tree.{printed_at}
@@ -50,21 +50,21 @@ module _ (ws : List ℕ) (t : Tables) (at k : ℕ) (old : List ℕ) (h : Ready (
     -- its condition stands at the word q
     module _ (q : ℕ) (s : Stands ws t at q) where
       abbrev condition : Expr
-      condition = (ok-inverse (read_expr t 48 (drop q ws)) s.fine).0
+      condition = (ok-inverse (read_expr t max_depth (drop q ws)) s.fine).0
 
       abbrev behind : List ℕ
-      behind = (ok-inverse (read_expr t 48 (drop q ws)) s.fine).1.0
+      behind = (ok-inverse (read_expr t max_depth (drop q ws)) s.fine).1.0
 
-      condition-is : read_expr t 48 (drop q ws) ≡ ok condition behind
-      condition-is = (ok-inverse (read_expr t 48 (drop q ws)) s.fine).1.1
+      condition-is : read_expr t max_depth (drop q ws) ≡ ok condition behind
+      condition-is = (ok-inverse (read_expr t max_depth (drop q ws)) s.fine).1.1
 
       begun : Stage ws at k old [] q 15 old k
       begun = begin q 15 h (omega (arith, s.from)) s.within (omega (arith, s.from))
 
-      pub line-ready : Ready (read_expr t 48 (drop q ws)) ws q k (length old)
-      line-ready = ready begun (read_expr t 48 (drop q ws)) s.fine h.few
+      pub line-ready : Ready (read_expr t max_depth (drop q ws)) ws q k (length old)
+      line-ready = ready begun (read_expr t max_depth (drop q ws)) s.fine h.few
 
-      module _ {x j : ℕ} {mid : List ℕ} (u : Put (read_expr t 48 (drop q ws)) write_e (printed_at 0 q) ws q k old mid x j) where
+      module _ {x j : ℕ} {mid : List ℕ} (u : Put (read_expr t max_depth (drop q ws)) write_e (printed_at 0 q) ws q k old mid x j) where
         pub line-fits : j + 1 ≤ length mid
         line-fits = fits (part begun u condition behind condition-is) 1 1 (omega arith) (omega arith)
 

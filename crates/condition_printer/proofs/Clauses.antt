@@ -25,7 +25,7 @@ use Rattle.clauses.specs.Kind.{code_of, Decodes}
 use Rattle.clauses.specs.declared.kind.ClauseKind.{ClauseKind}
 use Rattle.clauses.specs.declared.kind.ClauseKind.TheVariants.{Match, Where, With, Return, Unwind, Create, Merge, Set, Remove, Delete, Call, SortedWith, SortedReturn}
 use Rattle.clauses.specs.Tree.{Projection, where', set, remove, delete, Keys, unsorted, sorted, Clause, opening, reading, with', return, unwind, call, arm}
-use Rattle.clauses.specs.Read.{clause_expr, read_projection, counted_exprs, no_keys, some_keys, read_where, read_with, read_body, read_clause, read_arm}
+use Rattle.clauses.specs.Read.{max_depth, clause_expr, read_projection, counted_exprs, no_keys, some_keys, read_where, read_with, read_body, read_clause, read_arm}
 use Rattle.clauses.specs.Write.{write_projection, counted_words, write_clause, reading_code, key_code, write_keys}
 use Rattle.clauses.proofs.WrittenClause.{clause-written}
 use Rattle.condition_text.specs.Tree.{cond_e}
@@ -117,7 +117,7 @@ module _ (t : Tables) {kind : ℕ} where
   keys-give : (k : IsWith kind) (l : List ℕ) → Gives (keys_read k l) (λ ks r. l ≡ write_keys ks ++ r)
   unfolding no_keys some_keys counted_exprs write_keys
   keys-give (inl k) l = gave refl
-  keys-give (inr k) l = after (after (word-gives 0 4294967296 l) (λ n r p. so (row_gives t 48 (clause_expr t) (expr-gives t 48) n r) (λ es u q. cc))) (λ es r p. gave p)
+  keys-give (inr k) l = after (after (word-gives 0 4294967296 l) (λ n r p. so (row_gives t max_depth (clause_expr t) (expr-gives t max_depth) n r) (λ es u q. cc))) (λ es r p. gave p)
 
 module _ (ws : List ℕ) (t : Tables) (at : ℕ) (o : is_ok (read_clause t (drop at ws)) ≡ true) where
   abbrev P : Reader
@@ -203,7 +203,7 @@ module _ (ws : List ℕ) (t : Tables) (at : ℕ) (o : is_ok (read_clause t (drop
             within = omega (arith, flag_is.0);
             is = λ c r e u x y. (
                 let w = (keyed (more e done) u).given c r (rw (s, one-row P (drop (q + 1) ws) y) at x) in
-                let n = filter-begins ws at q (get_or ws (at + 1) 0) (get_or ws (at + 2) 0) ps e w.0 r (omega (arith, projections-begin)) flag_is.0 (clause-written t (drop at ws) _ r (rw w.1.0 at x)).0 (rw w.1.1 at (written t 48 (drop (q + 1) ws) e u y).0) in
+                let n = filter-begins ws at q (get_or ws (at + 1) 0) (get_or ws (at + 2) 0) ps e w.0 r (omega (arith, projections-begin)) flag_is.0 (clause-written t (drop at ws) _ r (rw w.1.0 at x)).0 (rw w.1.1 at (written t max_depth (drop (q + 1) ws) e u y).0) in
                 (ap (λ (z : Clause). of_clause z at) w.1.0 ∙ ap (λ (i : ℕ). cond_e e i ∷ []) n, omega (arith, ap length w.1.1, length-append (write_keys w.0) r)));
           }
 

@@ -8,7 +8,7 @@ use Rattle.heads.specs.Head.{Tables}
 use Rattle.expr.specs.Tree.{Expr}
 use Rattle.expr.specs.Read.{read_expr}
 use Rattle.clauses.specs.Tree.{Clause}
-use Rattle.clauses.specs.Read.{read_clause, read_arm}
+use Rattle.clauses.specs.Read.{max_depth, read_clause, read_arm}
 use Rattle.clauses.specs.Write.{write_clause, write_arm}
 use Rattle.sheet.specs.Trailer.{places_of}
 use Rattle.sheet.specs.Read.{Sheet, accepted, refused}
@@ -76,10 +76,10 @@ IsWith kind = (kind ≡ 3) ⊎ (kind ≡ 12)
 
 -- where the condition of a clause stands: the tree there is the clause's, and ends no later
 pub record Stands (ws : List ℕ) (t : Tables) (at q : ℕ) : Type 0 where
-  pub fine : is_ok (read_expr t 48 (drop q ws)) ≡ true
+  pub fine : is_ok (read_expr t max_depth (drop q ws)) ≡ true
   pub from : at < q
   pub within : q ≤ length ws
-  pub is : (c : Clause) (r : List ℕ) (e : Expr) (u : List ℕ) → read_clause t (drop at ws) ≡ ok c r → read_expr t 48 (drop q ws) ≡ ok e u → (of_clause c at ≡ cond_e e q ∷ []) × (length r ≤ length u)
+  pub is : (c : Clause) (r : List ℕ) (e : Expr) (u : List ℕ) → read_clause t (drop at ws) ≡ ok c r → read_expr t max_depth (drop q ws) ≡ ok e u → (of_clause c at ≡ cond_e e q ∷ []) × (length r ≤ length u)
 
 -- the condition of a clause stands here, or it has none
 abbrev pub Placed : List ℕ → Tables → ℕ → Option ℕ → Type 0

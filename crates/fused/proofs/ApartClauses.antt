@@ -2,7 +2,7 @@
 -- `apart-clauses`, `apart-arms`). `projections-law` is for whatever is kept of projections (`taken-all`: what a WITH takes of them), `keys-law` for sort keys: a WITH's see what was
 -- visible before it (`with-step`), a RETURN's are hushed (`return-step`), which says nothing of kinds (`kinds-hush`).
 use Rattle.std.specs.Prelude.{Option}
-use Prim.Native.Nat.{ℕ, zero, suc}
+use Prim.Native.Nat.{ℕ, zero, suc, ◌-◌}
 use mathlib.Core.Path.{◌≡◌, refl, ap, ap₂, sym, ◌∙◌}
 use mathlib.Core.Bool.{Bool, true, false, cond, ◌&&◌, ◌||◌, or_assoc, or-false}
 use mathlib.Core.List.{List, [], ◌∷◌, ◌++◌, flat_map, append_assoc, append-nil}
@@ -238,7 +238,7 @@ module _ (w : World) where
 
           word : Projected n → (g : Got ℕ) → bind (bind (bind g (λ a r1. bind (clause_expr t r1) (λ e r2. ok (projection (alias_of a) e) r2))) (λ x r2. bind (many (read_projection t) n r2) (λ xs r3. ok (x ∷ xs) r3))) F
               ≡ bind (bind g (λ a r1. bind (within w t m general s r1) (λ u r2. projections_go w t keep m n (keep (alias_of a) (direct_of (read_form t.names r1)) u.names.visible q) u r2))) (λ x r3. K x.0 x.1 r3)
-          word ih (ok a r1) = rw (apart w t free max_depth m general s r1) (one ih a (clause_expr t r1) ∙ direct-read t 47 r1 (M a) ∙ back a (direct_of (read_form t.names r1)) (clause_expr t r1))
+          word ih (ok a r1) = rw (apart w t free max_depth m general s r1) (one ih a (clause_expr t r1) ∙ direct-read t (max_depth - 1) r1 (M a) ∙ back a (direct_of (read_form t.names r1)) (clause_expr t r1))
           word ih (no c) = refl
 
     module _ (m : Mode) (a b : ℕ) where

@@ -10,6 +10,7 @@ use mathlib.Core.List.{List}
 use Rattle.refusal.specs.declared.Refusal.{Refusal}
 use Rattle.refusal.proofs.Handed.{handed}
 use Rattle.heads.specs.Got.{Got, ok, bind, word_in}
+use Rattle.clauses.specs.Read.{max_depth}
 use Rattle.fused.specs.Fused.{Both}
 use Rattle.fused.specs.Clauses.{Taken}
 use Rattle.steps.specs.Hold.{Ready}
@@ -91,7 +92,7 @@ module _ {c : Context} {w : Walk} {p : Pairs} {w' : Walk} {p' : Pairs} {P : Proj
 
 -- nothing is held of a walk of expressions
 module _ {j : ℕ} {c : Context} {w : Walk} {p : Pairs} {w' : Walk} {H : Goer} where
-  pub walked-passes : (r : Result (Unit {0}) Refusal) → Walked 48 c w w' H r → Carries j c w p w' p (λ id q s t. bind (H id s t) (λ u t2. ok (u, q) t2)) r
+  pub walked-passes : (r : Result (Unit {0}) Refusal) → Walked max_depth c w w' H r → Carries j c w p w' p (λ id q s t. bind (H id s t) (λ u t2. ok (u, q) t2)) r
   walked-passes (Ok u) x =
       let y = x.goes in
       record {

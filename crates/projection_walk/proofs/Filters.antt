@@ -6,6 +6,7 @@ use native.Mathlib.Omega.{arith}
 use mathlib.Core.Path.{◌≡◌}
 use Rattle.refusal.specs.declared.Refusal.{Refusal}
 use Rattle.heads.specs.Got.{ok, bind, flag}
+use Rattle.clauses.specs.Read.{max_depth}
 use Rattle.semantics.specs.Kinds.{plain}
 use Rattle.fused.specs.Fused.{Mode, row_go}
 use Rattle.fused.specs.Clauses.{within}
@@ -40,5 +41,5 @@ module _ {c : Context} {w w1 : Walk} {p : Pairs} (m : Mode) {k : ℕ} (n : Next 
     pub filter-asks : Ready (kept_of p) c w → Ready 0 c w3
     filter-asks h = word-ready f (omega arith) (carried-ready x (word-ready n (omega arith) h))
 
-    pub filter_passes : {w4 : Walk} (a : Result (Unit {0}) Refusal) → Walked 48 c w3 w4 (row_at c 48 m g plain) a → Carries 0 c w p w4 p2 (filtered_at c m) a
+    pub filter_passes : {w4 : Walk} (a : Result (Unit {0}) Refusal) → Walked max_depth c w3 w4 (row_at c max_depth m g plain) a → Carries 0 c w p w4 p2 (filtered_at c m) a
     filter_passes a y = word-passes n (omega arith) (later_at c m) a (then-passes x a (word-passes f (omega arith) (filter_at c m) a (walked-passes {j = 0} a y)))

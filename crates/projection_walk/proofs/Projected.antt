@@ -20,7 +20,7 @@ use Rattle.heads.specs.Answer.{Ans}
 use Rattle.heads.specs.Form.{read_form}
 use Rattle.heads.specs.declared.Form.{Form}
 use Rattle.heads.specs.declared.Form.TheVariants.{Var, Unresolved, Leaf, Prop, Two, Slice, Many, BinOp, UnaryOp, Case, IsNull, PatternPredicate, ListComprehension, PatternComprehension, ListPredicate, MapProjection}
-use Rattle.clauses.specs.Read.{alias_of}
+use Rattle.clauses.specs.Read.{max_depth, alias_of}
 use Rattle.clauses.specs.Write.{alias_word}
 use Rattle.semantics.specs.World.{World, Direct, other}
 use Rattle.semantics.specs.Resolve.{carries, is_all, use_var}
@@ -53,10 +53,10 @@ module _ (w : World) (t : Tables) (m : Mode) (s : Both) (r : List ℕ) {r2 : Lis
   name-at d {x} live q = rw q (ap (λ (u : Both). ok u r2) (names-step m (name_use w x) s live))
 
   pub var-within : {v : ℕ} → read_form t.names r ≡ ok (Var v) r2 → within w t m general s r ≡ ok (step m (use_var w v (w.row v)) (at_row general (w.row v)) s) r2
-  var-within q = var-at 47 q
+  var-within q = var-at (max_depth - 1) q
 
   pub name-within : {x : ℕ} → m.resolves ≡ true → read_form t.names r ≡ ok (Unresolved x) r2 → within w t m general s r ≡ ok (on_names (name_use w x) s) r2
-  name-within live q = name-at 47 live q
+  name-within live q = name-at (max_depth - 1) live q
 
 none_within : (w : World) (t : Tables) (m : Mode) (s : Both) (r : List ℕ) {n : ℕ} → read_form t.names r ≡ no n → within w t m general s r ≡ no n
 unfolding expr_go
@@ -126,7 +126,7 @@ other-form (PatternComprehension a b g) p q = refl
 other-form (ListPredicate g) p q = refl
 other-form (MapProjection n) p q = refl
 
-module _ {c : Context} {w w' : Walk} {p : Pairs} {u v : Unit {0}} (m : Mode) (x : Walked 48 c w w' (expr_at c 48 m general) (Ok u)) where
+module _ {c : Context} {w w' : Walk} {p : Pairs} {u v : Unit {0}} (m : Mode) (x : Walked max_depth c w w' (expr_at c max_depth m general) (Ok u)) where
   pub other-passes : {p' : Pairs} (alias : Option ℕ) → Within (names_in c) alias → Ready 1 c w → KeptOther c alias p p' → direct_of (read_form (names_in c) (rest_in c w)) ≡ other → Carries 1 c w p w' p' (carried_at c m alias) (Ok v)
   unfolding carries is_all
   other-passes None l h k d =

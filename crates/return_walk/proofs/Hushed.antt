@@ -5,6 +5,7 @@ use Prim.Native.Nat.{ℕ}
 use mathlib.Core.Path.{◌≡◌, ap, sym, ◌∙◌}
 use mathlib.Core.List.{List}
 use Rattle.refusal.specs.declared.Refusal.{Refusal}
+use Rattle.clauses.specs.Read.{max_depth}
 use Rattle.semantics.specs.World.{World}
 use Rattle.fused.specs.Fused.{Both, Mode, Go}
 use Rattle.fused.specs.Clauses.{counted_row}
@@ -43,7 +44,7 @@ module _ {c : Context} (h : Bor (List ℕ)) {k : ℕ} {held marks : List ℕ} (c
   same-go : (mode : Mode) (id : ℕ → ℕ) → counted_at (hushing c h) mode id ≡ hushed_at c mode (aliases_in k held) id
   same-go mode id = ap (λ (w : World). counted_row w (tables_in c) mode) (hushed-world h clear o id)
 
-  pub hushed-walk : {w w' : Walk} (mode : Mode) (r : Result (Unit {0}) Refusal) → Walked 48 (hushing c h) w w' (counted_at (hushing c h) mode) r → Walked 48 c w w' (hushed_at c mode (aliases_in k held)) r
+  pub hushed-walk : {w w' : Walk} (mode : Mode) (r : Result (Unit {0}) Refusal) → Walked max_depth (hushing c h) w w' (counted_at (hushing c h) mode) r → Walked max_depth c w w' (hushed_at c mode (aliases_in k held)) r
   hushed-walk {w} mode (Ok u) x =
       let y = x.goes in
       record {

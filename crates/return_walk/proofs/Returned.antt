@@ -11,7 +11,7 @@ use lib.ListN.{drop}
 use Rattle.refusal.specs.declared.Refusal.{Refusal}
 use Rattle.heads.specs.Got.{Got, ok, no, bind, word_in, any_word}
 use Rattle.heads.specs.Head.{Tables}
-use Rattle.clauses.specs.Read.{alias_of}
+use Rattle.clauses.specs.Read.{max_depth, alias_of}
 use Rattle.semantics.specs.World.{World}
 use Rattle.semantics.specs.Resolve.{Seen, enter, leave, standing, alias_in}
 use Rattle.semantics.specs.Kinds.{general}
@@ -111,7 +111,7 @@ module _ {c : Context} {w w1 w2 : Walk} {a b : ℕ} (ready : Ready 3 c w) (x : S
       ∙ rw (names-step m (λ y. leave y (enter 8 a b y)) s live) (ap (λ (k : ℕ). bind (outside_at c m sorts id (on_names (λ y. leave y (enter 8 a b y)) s) (drop k (words_in c))) (ended c m a b id s)) (sym inner-at))
 
   module _ (m : Mode) (sorts : Bool) (live : m.resolves ≡ true) {w3 : Walk} where
-    pub return_refused : {e : Refusal} (r : Result (Unit {0}) Refusal) → Walked 48 c w2 w3 (outside_at c m sorts) (Err e) → IsErr r × IsErrAnd r (λ y. y ≡ e) → Passes 3 c w w3 (return_at c m sorts a b) r
+    pub return_refused : {e : Refusal} (r : Result (Unit {0}) Refusal) → Walked max_depth c w2 w3 (outside_at c m sorts) (Err e) → IsErr r × IsErrAnd r (λ y. y ≡ e) → Passes 3 c w w3 (return_at c m sorts a b) r
     return_refused (Err e) y q =
         record {
           still = still-then inner-still y.still;
@@ -119,13 +119,13 @@ module _ {c : Context} {w w1 w2 : Walk} {a b : ℕ} (ready : Ready 3 c w) (x : S
         }
     return_refused (Ok u) y q = absurd q.1
 
-    pub leave-asks : {u : Unit {0}} → Walked 48 c w2 w3 (outside_at c m sorts) (Ok u) → (w.visible.top ≤ w3.visible.top) × Sound w3.visible
+    pub leave-asks : {u : Unit {0}} → Walked max_depth c w2 w3 (outside_at c m sorts) (Ok u) → (w.visible.top ≤ w3.visible.top) × Sound w3.visible
     leave-asks y = (omega (arith, inner-frame.top, y.goes.frame.top), (y.goes.fit 2 (inner-fits 0 ready.fit)).sound)
 
-    pub return-passes : {w4 : Walk} {u : Unit {0}} → Walked 48 c w2 w3 (outside_at c m sorts) (Ok u) → Left w3 w4 w.visible.top w1.cur → Passes 3 c w w4 (return_at c m sorts a b) (Ok u)
+    pub return-passes : {w4 : Walk} {u : Unit {0}} → Walked max_depth c w2 w3 (outside_at c m sorts) (Ok u) → Left w3 w4 w.visible.top w1.cur → Passes 3 c w w4 (return_at c m sorts a b) (Ok u)
     return-passes {w4} {u} y l =
         let z = y.goes in
-        let frame = framed {room = 48} inner-still (frame-more {j = 48} (omega arith) inner-frame) z.frame in
+        let frame = framed {room = max_depth} inner-still (frame-more {j = max_depth} (omega arith) inner-frame) z.frame in
         let still = still-then inner-still y.still in
         let see : seens w3.visible.names w.visible.top w3.visible.words.now ≡ entries w.visible = rw still.visible.names frame.below in
         record {

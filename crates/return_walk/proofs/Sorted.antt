@@ -12,7 +12,7 @@ use lib.ListN.{length}
 use Rattle.refusal.specs.declared.Refusal.{Refusal}
 use Rattle.heads.specs.Got.{Got, ok, no, bind, word_in}
 use Rattle.heads.proofs.Chain.{Chain, step, last, run}
-use Rattle.clauses.specs.Read.{alias_of}
+use Rattle.clauses.specs.Read.{max_depth, alias_of}
 use Rattle.semantics.specs.Resolve.{alias_in}
 use Rattle.semantics.specs.Kinds.{general}
 use Rattle.fused.specs.Fused.{Both, Mode}
@@ -63,7 +63,7 @@ module _ (c : Context) (mode : Mode) where
       alias (no e) = refl
 
 pub record Sorting (c : Context) (w₀ : Walk) (held₀ : List ℕ) (mode : Mode) (n : ℕ) (w : Walk) (held : List ℕ) (k i : ℕ) : Type 0 where
-  pub stage : Stage (Some 48) 0 c w₀ (keyed_at c mode n) 0 w (Remaining c mode (n - i) (aliases_in k held))
+  pub stage : Stage (Some max_depth) 0 c w₀ (keyed_at c mode n) 0 w (Remaining c mode (n - i) (aliases_in k held))
   pub few : k ≤ w.at
   pub named : AllNamed (names_in c) k held
   pub kept : length held ≡ length held₀
@@ -86,23 +86,23 @@ alias-in (suc a) h x q = let z : a ≡ x = cc in omega arith
 
 module _ {c : Context} {w₀ : Walk} {held₀ : List ℕ} {mode : Mode} {n : ℕ} {w : Walk} {held : List ℕ} {k i : ℕ} (o : Sorting c w₀ held₀ mode n w held k i) where
   -- none is left: the sort keys are
-  pub ended : n ≤ i → Stage (Some 48) 0 c w₀ (keyed_at c mode n) 0 w (λ id s t. last (hushed_at c mode (aliases_in k held) id t))
+  pub ended : n ≤ i → Stage (Some max_depth) 0 c w₀ (keyed_at c mode n) 0 w (λ id s t. last (hushed_at c mode (aliases_in k held) id t))
   unfolding projections_go
   ended h =
       let z : n - i ≡ 0 = omega arith in
       recast (λ id s t. last (hushed_at c mode (aliases_in k held) id t)) o.stage (λ id s t r. ap (λ (l : ℕ). run (Remaining c mode l (aliases_in k held) id s t) r) z)
 
   module _ (h : i < n) where
-    unrolled : Stage (Some 48) 0 c w₀ (keyed_at c mode n) 0 w (OneMore c mode (n - (i + 1)) (aliases_in k held))
+    unrolled : Stage (Some max_depth) 0 c w₀ (keyed_at c mode n) 0 w (OneMore c mode (n - (i + 1)) (aliases_in k held))
     unrolled =
         let z : n - i ≡ suc (n - (i + 1)) = omega arith in
         recast (OneMore c mode (n - (i + 1)) (aliases_in k held)) o.stage (λ id s t r. unroll c mode (n - i) (n - (i + 1)) (aliases_in k held) id s t r z)
 
-    pub no-alias : {w1 : Walk} {e : Refusal} (r : Result (Unit {0}) Refusal) → Next c 0 (names_in c + 1) w w1 (Err e) → IsErr r × IsErrAnd r (λ y. y ≡ e) → Walked 48 c w₀ w1 (keyed_at c mode n) r
+    pub no-alias : {w1 : Walk} {e : Refusal} (r : Result (Unit {0}) Refusal) → Next c 0 (names_in c + 1) w w1 (Err e) → IsErr r × IsErrAnd r (λ y. y ≡ e) → Walked max_depth c w₀ w1 (keyed_at c mode n) r
     no-alias r x q = no_word r unrolled x q
 
     module _ {w1 : Walk} {a : ℕ} (x : Next c 0 (names_in c + 1) w w1 (Ok a)) where
-      alias-stage : Stage (Some 48) 0 c w₀ (keyed_at c mode n) 1 w1
+      alias-stage : Stage (Some max_depth) 0 c w₀ (keyed_at c mode n) 1 w1
           (λ id s t. step (within (world_at c id) (tables_in c) mode general t) (λ u. Remaining c mode (n - (i + 1)) (aliases_in k held ++ alias_in (alias_of a)) id s u))
       alias-stage = past unrolled x
 
@@ -113,10 +113,10 @@ module _ {c : Context} {w₀ : Walk} {held₀ : List ℕ} {mode : Mode} {n : ℕ
       alias-at = ap (λ (v : Walk). v.at) x.now
 
       module _ {w' : Walk} where
-        pub fell-expr : {e : Refusal} (r : Result (Unit {0}) Refusal) → Walked 48 c w1 w' (expr_at c 48 mode general) (Err e) → IsErr r × IsErrAnd r (λ y. y ≡ e) → Walked 48 c w₀ w' (keyed_at c mode n) r
+        pub fell-expr : {e : Refusal} (r : Result (Unit {0}) Refusal) → Walked max_depth c w1 w' (expr_at c max_depth mode general) (Err e) → IsErr r × IsErrAnd r (λ y. y ≡ e) → Walked max_depth c w₀ w' (keyed_at c mode n) r
         fell-expr r y q = fell r alias-stage y q
 
-        pub turned : {held' : List ℕ} {k' : ℕ} {u : Unit {0}} → HeldAlias k (alias_of a) held held' k' → Walked 48 c w1 w' (expr_at c 48 mode general) (Ok u) → Sorting c w₀ held₀ mode n w' held' k' (i + 1)
+        pub turned : {held' : List ℕ} {k' : ℕ} {u : Unit {0}} → HeldAlias k (alias_of a) held held' k' → Walked max_depth c w1 w' (expr_at c max_depth mode general) (Ok u) → Sorting c w₀ held₀ mode n w' held' k' (i + 1)
         turned d y =
             record {
               stage = rw d.same (fewer 0 (omega arith) (go alias-stage y (omega arith)));

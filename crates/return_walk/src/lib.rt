@@ -6,6 +6,7 @@
 #![tactic(auto)]
 
 ghost use Rattle.std.specs.Prelude.{◌≡◌, true, length};
+ghost use Rattle.clauses.specs.Read.{max_depth};
 ghost use Rattle.steps.specs.Modes.{mode_of};
 ghost use Rattle.steps.specs.Memory.{names_in};
 ghost use Rattle.steps.specs.Hold.{Ready};
@@ -27,7 +28,7 @@ use walk::walk_expr;
 // A projection of a RETURN.
 fn walk_output(walk: &mut Walk, context: &Context, mode: Mode) -> Result<(), Refusal>
     requires { Ready 0 context.now walk.old }
-    ensures { Walked 48 context.now walk.old walk.new (output_at context.now (mode_of mode)) result }
+    ensures { Walked max_depth context.now walk.old walk.new (output_at context.now (mode_of mode)) result }
 {
     next_alias(walk, context)?;
     walk_expr(walk, context, MAX_DEPTH, mode, Setting::General)
@@ -36,7 +37,7 @@ fn walk_output(walk: &mut Walk, context: &Context, mode: Mode) -> Result<(), Ref
 // n projections of a RETURN. A loop of its own: one over a closure would need a contract over every state that it leaves.
 fn walk_outputs(walk: &mut Walk, context: &Context, n: u32, mode: Mode) -> Result<(), Refusal>
     requires { Ready 0 context.now walk.old }
-    ensures { Walked 48 context.now walk.old walk.new (outputs_at context.now (mode_of mode) n) result }
+    ensures { Walked max_depth context.now walk.old walk.new (outputs_at context.now (mode_of mode) n) result }
 {
     for _ in 0..n {
         walk_output(walk, context, mode)?;
@@ -47,7 +48,7 @@ fn walk_outputs(walk: &mut Walk, context: &Context, n: u32, mode: Mode) -> Resul
 // A count, and as many projections of a RETURN.
 fn walk_returned(walk: &mut Walk, context: &Context, mode: Mode) -> Result<(), Refusal>
     requires { Ready 0 context.now walk.old }
-    ensures { Walked 48 context.now walk.old walk.new (returned_at context.now (mode_of mode)) result }
+    ensures { Walked max_depth context.now walk.old walk.new (returned_at context.now (mode_of mode)) result }
 {
     let n = next_any(walk, context)?;
     walk_outputs(walk, context, n, mode)
@@ -63,7 +64,7 @@ fn walk_hushed(
 ) -> Result<(), Refusal>
     requires { (Clear context.now marks.old × InRange (names_in context.now) aliases.now) × Ready 0 context.now walk.old }
     ensures same { marks.new ≡ marks.old }
-    ensures walked { Walked 48 context.now walk.old walk.new (hushed_at context.now (mode_of mode) (aliases_of aliases.now)) result }
+    ensures walked { Walked max_depth context.now walk.old walk.new (hushed_at context.now (mode_of mode) (aliases_of aliases.now)) result }
 {
     aliases.mark(marks, 1);
     let hushing = Context {
@@ -86,7 +87,7 @@ fn walk_sorted(
     requires { (Held context.now held.old (mode_of mode) × Clear context.now marks.old) × Ready 0 context.now walk.old }
     ensures same { marks.new ≡ marks.old }
     ensures kept { length held.new ≡ length held.old }
-    ensures walked { Walked 48 context.now walk.old walk.new (sorted_at context.now (mode_of mode)) result }
+    ensures walked { Walked max_depth context.now walk.old walk.new (sorted_at context.now (mode_of mode)) result }
 {
     let n = next_any(walk, context)?;
     let mut aliases = Aliases {

@@ -14,6 +14,7 @@ mod mode;
 ghost use Rattle.std.specs.Prelude.{◌≡◌};
 ghost use Rattle.steps.specs.Hold.{restarted};
 
+use clauses::MAX_DEPTH;
 pub use bound::name_in;
 pub use context::{Context, operator_settings, property_settings};
 pub use head::leaf_type;
@@ -30,7 +31,7 @@ pub struct Level {
 
 // Where both walks stand: the next word, what is visible, the current scope and the last one, what was said and told, whether every binder so
 // far had a row, how many bindings were made and how many names carried; and what waits at each level of a row, in an array, since there is no heap:
-// one for each room from 0 to 48.
+// one for each room from 0 to the limit.
 #[derive(Drop)]
 pub struct Walk<'a> {
     pub at: usize,
@@ -41,7 +42,7 @@ pub struct Walk<'a> {
     pub known: bool,
     pub made: u32,
     pub taken: u32,
-    pub levels: [Level; 49],
+    pub levels: [Level; MAX_DEPTH as usize + 1],
 }
 
 impl<'a> Walk<'a> {
@@ -70,7 +71,7 @@ impl<'a> Walk<'a> {
             levels: [Level {
                 left: 0,
                 later: Setting::General,
-            }; 49],
+            }; MAX_DEPTH as usize + 1],
         }
     }
 }

@@ -18,6 +18,7 @@ use Rattle.refusal.specs.declared.Refusal.{Refusal}
 use Rattle.heads.specs.Got.{Got, ok, no, bind}
 use Rattle.heads.proofs.Chain.{Chain, step, last}
 use Rattle.heads.proofs.Shapes.{bind-each, bind-bind}
+use Rattle.clauses.specs.Read.{max_depth}
 use Rattle.semantics.specs.Kinds.{both, settings}
 use Rattle.semantics.specs.Kinds as kinds
 use Rattle.fused.specs.Fused.{Both, Go, row_go, expr_go}
@@ -88,7 +89,7 @@ after_head c room mode left now later d t code a level id s u =
 
 pub record Rowing (c : Context) (w₀ : Walk) (room : ℕ) (mode : Mode) (n : ℕ) (settings : Settings) (w : Walk) (left : ℕ) (now later : Setting) (d : ℕ) : Type 0 where
   pub le : d ≤ room
-  pub low : room ≤ 48
+  pub low : room ≤ max_depth
   pub count : left < 4294967296
   pub stage : Stage (Some room) 0 c w₀ (row_at c room (mode_of mode) n (pair_of settings)) 0 w
       (λ id s t. step (row_go (within c mode id d) left (both (setting_of now) (setting_of later)) t) (waits c room mode (level_of w) d id))
@@ -96,14 +97,14 @@ pub record Rowing (c : Context) (w₀ : Walk) (room : ℕ) (mode : Mode) (n : �
 -- a plain head was read, and did what it does
 pub record Heading (c : Context) (w₀ : Walk) (room : ℕ) (mode : Mode) (n : ℕ) (settings : Settings) (w : Walk) (left : ℕ) (now later : Setting) (d t code a : ℕ) : Type 0 where
   pub le : d ≤ room
-  pub low : room ≤ 48
+  pub low : room ≤ max_depth
   pub count : left < 4294967296
   pub more : 0 < left
   pub deep : 0 < d
   pub few : parts_of t a ≤ 524287
   pub stage : Stage (Some room) 0 c w₀ (row_at c room (mode_of mode) n (pair_of settings)) 0 w (after_head c room mode left now later d t code a (level_of w))
 
-pub row-begin : {c : Context} {w : Walk} (room : ℕ) (mode : Mode) (n : ℕ) (settings : Settings) → room ≤ 48 → n ≤ 524287 → Ready 0 c w → Rowing c w room mode n settings w n settings.first settings.later room
+pub row-begin : {c : Context} {w : Walk} (room : ℕ) (mode : Mode) (n : ℕ) (settings : Settings) → room ≤ max_depth → n ≤ 524287 → Ready 0 c w → Rowing c w room mode n settings w n settings.first settings.later room
 unfolding climb
 row-begin {c} {w} room mode n settings b l h =
     let z : room - room ≡ 0 = omega arith in

@@ -1,14 +1,15 @@
 // Expressions and patterns, read and walked in one over any words: the refusal, or where both walks stand then. The expression walk and the
 // pattern walk call each other, an expression for the pattern within it and a pattern for its properties, and the words that are left fall.
 // A row of expressions is a loop: the parts of a plain head are counted with the row, on a stack of what is left at each level.
-// `room` is at most 48, since the stack has 49 places. It is a number, and functions have up to six parameters: a type for it, or a struct of what
+// `room` is at most the limit, since the stack has a place for each room up to it. It is a number, and functions have up to six parameters: a type for it, or a struct of what
 // goes with each call, would be built and opened at each call.
 #![tactic(auto)]
 
 mod plain;
 
-ghost use Rattle.std.specs.Prelude.{ℕ, ◌≤◌};
+ghost use Rattle.std.specs.Prelude.{ℕ, ◌<◌, ◌≤◌};
 ghost use Rattle.heads.specs.Answer.{kind_of};
+ghost use Rattle.clauses.specs.Read.{max_depth};
 ghost use Rattle.steps.specs.Modes.{mode_of, setting_of, pair_of};
 ghost use Rattle.steps.specs.Memory.{world_at};
 ghost use Rattle.steps.specs.Hold.{Ready, Steps, path_step};
@@ -30,7 +31,7 @@ pub fn walk_expr(
     mode: Mode,
     set: Setting,
 ) -> Result<(), Refusal>
-    requires { (room ≤ 48) × Ready 0 context.now walk.old }
+    requires { (room ≤ max_depth) × Ready 0 context.now walk.old }
     ensures { Walked room context.now walk.old walk.new (expr_at context.now room (mode_of mode) (setting_of set)) result }
 {
     if room == 0 {
@@ -56,7 +57,7 @@ fn walk_rest(
     mode: Mode,
     set: Setting,
 ) -> Result<(), Refusal>
-    requires { (room ≤ 47) × Ready 0 context.now walk.old }
+    requires { (room < max_depth) × Ready 0 context.now walk.old }
     ensures { Walked room context.now walk.old walk.new (rest_at context.now room (mode_of mode) f (setting_of set)) result }
 {
     walk_inner(walk, context, room, f, mode)?;
@@ -74,7 +75,7 @@ fn walk_inner(
     f: Form,
     mode: Mode,
 ) -> Result<(), Refusal>
-    requires { (room ≤ 47) × Ready 0 context.now walk.old }
+    requires { (room < max_depth) × Ready 0 context.now walk.old }
     ensures { Walked room context.now walk.old walk.new (inner_at context.now room (mode_of mode) f) result }
 {
     match f {
@@ -95,7 +96,7 @@ pub fn walk_row(
     mode: Mode,
     settings: Settings,
 ) -> Result<(), Refusal>
-    requires { ((room ≤ 48) × (n ≤ 524287)) × Ready 0 context.now walk.old }
+    requires { ((room ≤ max_depth) × (n ≤ 524287)) × Ready 0 context.now walk.old }
     ensures { Walked room context.now walk.old walk.new (row_at context.now room (mode_of mode) n (pair_of settings)) result }
 {
     let bytes = context.section.bytes;
@@ -158,7 +159,7 @@ pub fn walk_many(
     mode: Mode,
     settings: Settings,
 ) -> Result<(), Refusal>
-    requires { (room ≤ 48) × Ready 0 context.now walk.old }
+    requires { (room ≤ max_depth) × Ready 0 context.now walk.old }
     ensures { Walked room context.now walk.old walk.new (row_at context.now room (mode_of mode) n (pair_of settings)) result }
 {
     if n <= MOST {
@@ -183,7 +184,7 @@ pub fn walk_marks(
     n: u32,
     mode: Mode,
 ) -> Result<(), Refusal>
-    requires { (room ≤ 48) × Ready 0 context.now walk.old }
+    requires { (room ≤ max_depth) × Ready 0 context.now walk.old }
     ensures { Walked room context.now walk.old walk.new (marks_at context.now room (mode_of mode) (kind_of kind) n) result }
 {
     for _ in 0..n {
@@ -200,7 +201,7 @@ fn walk_mark(
     kind: MarkKind,
     mode: Mode,
 ) -> Result<(), Refusal>
-    requires { (room ≤ 48) × Ready 0 context.now walk.old }
+    requires { (room ≤ max_depth) × Ready 0 context.now walk.old }
     ensures { Walked room context.now walk.old walk.new (mark_at context.now room (mode_of mode) (kind_of kind)) result }
 {
     let (k, at) = context.section.word_in(walk.at, kind.low(), kind.high())?;
@@ -223,7 +224,7 @@ pub fn walk_pattern(
     room: u32,
     mode: Mode,
 ) -> Result<(), Refusal>
-    requires { (room ≤ 48) × Ready 0 context.now walk.old }
+    requires { (room ≤ max_depth) × Ready 0 context.now walk.old }
     ensures { Walked room context.now walk.old walk.new (pattern_at context.now room (mode_of mode)) result }
 {
     let (n, at) = context.section.any_word(walk.at)?;
@@ -239,7 +240,7 @@ fn walk_parts(
     n: u32,
     mode: Mode,
 ) -> Result<(), Refusal>
-    requires { (room ≤ 48) × Ready 0 context.now walk.old }
+    requires { (room ≤ max_depth) × Ready 0 context.now walk.old }
     ensures { Walked room context.now walk.old walk.new (parts_at context.now room (mode_of mode) n) result }
 {
     for _ in 0..n {
@@ -251,7 +252,7 @@ fn walk_parts(
 // A part, with its elements.
 #[cycle(walks)]
 fn walk_part(walk: &mut Walk, context: &Context, room: u32, mode: Mode) -> Result<(), Refusal>
-    requires { (room ≤ 48) × Ready 0 context.now walk.old }
+    requires { (room ≤ max_depth) × Ready 0 context.now walk.old }
     ensures { Walked room context.now walk.old walk.new (part_at context.now room (mode_of mode)) result }
 {
     let (h, at) = context.section.read_part(walk.at)?;
@@ -278,7 +279,7 @@ fn walk_elems(
     n: u32,
     mode: Mode,
 ) -> Result<(), Refusal>
-    requires { (room ≤ 48) × Ready 0 context.now walk.old }
+    requires { (room ≤ max_depth) × Ready 0 context.now walk.old }
     ensures { Walked room context.now walk.old walk.new (elems_at context.now room (mode_of mode) n) result }
 {
     for _ in 0..n {
@@ -290,7 +291,7 @@ fn walk_elems(
 // An element, with its property.
 #[cycle(walks)]
 fn walk_elem(walk: &mut Walk, context: &Context, room: u32, mode: Mode) -> Result<(), Refusal>
-    requires { (room ≤ 48) × Ready 0 context.now walk.old }
+    requires { (room ≤ max_depth) × Ready 0 context.now walk.old }
     ensures { Walked room context.now walk.old walk.new (elem_at context.now room (mode_of mode)) result }
 {
     let (h, at) = context.section.read_elem(walk.at)?;

@@ -12,6 +12,7 @@ use mathlib.Core.List.{List, []}
 use lib.ListN.{length, drop}
 use Rattle.refusal.specs.declared.Refusal.{Refusal}
 use Rattle.heads.specs.Got.{Got, ok, no, bind, any_word, flag}
+use Rattle.clauses.specs.Read.{max_depth}
 use Rattle.semantics.specs.Kinds.{plain}
 use Rattle.semantics.specs.Resolve.{Seen, Pair, binds, leave, standing, barrier, fresh}
 use Rattle.fused.specs.Fused.{Both, Mode, row_go, left}
@@ -213,7 +214,7 @@ module _ {m : Mode} {c : Context} {l : MutBor (List ℕ)} {w w2 : Walk} {p : Pai
     still3 = still-then x.still y.still
 
     module _ {w4 : Walk} where
-      pub keys-refused : {e : Refusal} (r : Result (Unit {0}) Refusal) → Walked 48 c w3 w4 (counted_at c m) (Err e) → IsErr r × IsErrAnd r (λ v. v ≡ e) → Passes 3 c w w4 (with_at c m true a b) r
+      pub keys-refused : {e : Refusal} (r : Result (Unit {0}) Refusal) → Walked max_depth c w3 w4 (counted_at c m) (Err e) → IsErr r × IsErrAnd r (λ v. v ≡ e) → Passes 3 c w w4 (with_at c m true a b) r
       keys-refused (Err e) k q =
           record {
             still = still-then still3 k.still;
@@ -221,7 +222,7 @@ module _ {m : Mode} {c : Context} {l : MutBor (List ℕ)} {w w2 : Walk} {p : Pai
           }
       keys-refused (Ok u) k q = absurd q.1
 
-      module _ {u : Unit {0}} (k : Walked 48 c w3 w4 (counted_at c m) (Ok u)) where
+      module _ {u : Unit {0}} (k : Walked max_depth c w3 w4 (counted_at c m) (Ok u)) where
         walked-fits : (i : ℕ) → Fit (3 + i) c w → Fit i c w4
         walked-fits i f = k.goes.fit i (root-fits y (omega arith) i f)
 

@@ -2,6 +2,7 @@
 use Rattle.std.specs.Prelude.{Some}
 use mathlib.Core.Path.{refl}
 use native.Mathlib.Omega.{arith}
+use Rattle.clauses.specs.Read.{max_depth}
 use Rattle.fused.specs.Clauses.{within}
 use Rattle.fused.specs.Fused.{Mode, row_go}
 use Rattle.heads.proofs.Chain.{step, last}
@@ -18,7 +19,7 @@ use Rattle.clause_parts.proofs.Passing.{past, no_word}
 use Rattle.clause_parts.proofs.walk_counted.Goals as goal
 
 begun : {c : Context} {w : Walk} (m : Mode) → Ready 0 c w →
-    Stage (Some 48) 0 c w (counted_at c m) 0 w (λ id u v. step (word_in 0 4294967296) (λ n. last (row_go (within (world_at c id) (tables_in c) m) n plain v)))
+    Stage (Some max_depth) 0 c w (counted_at c m) 0 w (λ id u v. step (word_in 0 4294967296) (λ n. last (row_go (within (world_at c id) (tables_in c) m) n plain v)))
 begun m h = start _ h (λ id s r. refl)
 
 pub returns-in_err-n : goal.returns-in_err-n

@@ -4,6 +4,7 @@ use Prim.Native.Nat.{ℕ}
 use mathlib.Core.Bool.{true}
 use mathlib.Core.Path.{◌≡◌}
 use native.Mathlib.Omega.{arith}
+use Rattle.clauses.specs.Read.{max_depth}
 use Rattle.scope.specs.Graph.{call_scope}
 use Rattle.heads.proofs.Chain.{step, last}
 use Rattle.heads.specs.Got.{word_in}
@@ -32,7 +33,7 @@ opened {c} m a b live h x =
     (start {keep = None} (λ id u v. step (counted_at c (unresolving m) id (on_names (enter call_scope a b) v)) (Yields c a b id u)) h (λ id s r. call-as c m a b id s r live))
     x
 
-walked : {c : Context} {w w1 w2 : Walk} {u : Unit {0}} (m : Mode) (a b : ℕ) → m.resolves ≡ true → Ready 3 c w → Steps 1 c w w1 (λ id. on_names (enter call_scope a b)) → Walked 48 c w1 w2 (counted_at c (unresolving m)) (Ok u) →
+walked : {c : Context} {w w1 w2 : Walk} {u : Unit {0}} (m : Mode) (a b : ℕ) → m.resolves ≡ true → Ready 3 c w → Steps 1 c w w1 (λ id. on_names (enter call_scope a b)) → Walked max_depth c w1 w2 (counted_at c (unresolving m)) (Ok u) →
     Stage None 3 c w (call_at c m a b) 2 w2 (Yields c a b)
 walked m a b live h x y = went 2 (omega arith) (opened m a b live h x) (forget _ y)
 

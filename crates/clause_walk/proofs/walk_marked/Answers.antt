@@ -6,6 +6,7 @@ use native.Mathlib.Omega.{arith}
 use Rattle.heads.proofs.Chain.{step, last}
 use Rattle.heads.specs.Got.{word_in}
 use Rattle.heads.specs.Answer.{kind_of}
+use Rattle.clauses.specs.Read.{max_depth}
 use Rattle.fused.specs.Fused.{Mode}
 use Rattle.fused.specs.Clauses.{marked_go}
 use Rattle.steps.specs.Modes.{mode_of}
@@ -18,7 +19,7 @@ use Rattle.clause_parts.proofs.Passing.{forget, last_one, past, halted}
 use Rattle.clause_walk.specs.Clauses.{marked_at}
 use Rattle.clause_walk.proofs.walk_marked.Goals as goal
 
-begun : {c : Context} {w : Walk} (m : Mode) (kind : ℕ) → Ready 0 c w → Stage None 0 c w (marked_at c m 0 0 kind) 0 w (λ id u v. step (word_in 0 4294967296) (λ n. last (marks_at c 48 m kind n id v)))
+begun : {c : Context} {w : Walk} (m : Mode) (kind : ℕ) → Ready 0 c w → Stage None 0 c w (marked_at c m 0 0 kind) 0 w (λ id u v. step (word_in 0 4294967296) (λ n. last (marks_at c max_depth m kind n id v)))
 unfolding marked_go
 begun m kind h = start _ h (λ id s r. refl)
 

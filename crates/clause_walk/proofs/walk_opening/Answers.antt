@@ -5,6 +5,7 @@ use mathlib.Core.Bool.{true}
 use mathlib.Core.Path.{◌≡◌}
 use native.Mathlib.Omega.{arith}
 use Rattle.heads.proofs.Chain.{last}
+use Rattle.clauses.specs.Read.{max_depth}
 use Rattle.scope.specs.Kind.{number_of}
 use Rattle.semantics.specs.Resolve.{enter}
 use Rattle.fused.specs.Fused.{Mode}
@@ -19,9 +20,9 @@ use Rattle.clause_parts.proofs.Cleared.{names-step}
 use Rattle.clause_walk.specs.Clauses.{scope_at}
 use Rattle.clause_walk.proofs.walk_opening.Goals as goal
 
-opened : {c : Context} {w w1 : Walk} (m : Mode) (a b kind : ℕ) → m.resolves ≡ true → Ready 3 c w → Steps 1 c w w1 (λ id. on_names (enter kind a b)) → Stage None 3 c w (scope_at c m a b kind) 2 w1 (λ id u v. last (pattern_at c 48 m id v))
+opened : {c : Context} {w w1 : Walk} (m : Mode) (a b kind : ℕ) → m.resolves ≡ true → Ready 3 c w → Steps 1 c w w1 (λ id. on_names (enter kind a b)) → Stage None 3 c w (scope_at c m a b kind) 2 w1 (λ id u v. last (pattern_at c max_depth m id v))
 opened {c} m a b kind live h x =
-    did (λ id u v. last (pattern_at c 48 m id v)) 2 (omega arith) (omega arith) (start {keep = None} (λ id u v. last (pattern_at c 48 m id (on_names (enter kind a b) v))) h (λ id s r. rw (names-step m (enter kind a b) s live))) x
+    did (λ id u v. last (pattern_at c max_depth m id v)) 2 (omega arith) (omega arith) (start {keep = None} (λ id u v. last (pattern_at c max_depth m id (on_names (enter kind a b) v))) h (λ id s r. rw (names-step m (enter kind a b) s live))) x
 
 pub returns : goal.returns
 returns c =

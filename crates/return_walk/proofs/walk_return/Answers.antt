@@ -4,6 +4,7 @@ use Rattle.std.specs.Prelude.{Ok}
 use Rattle.std.proofs.Common.{rules}
 use mathlib.Core.Path.{◌≡◌, refl}
 use mathlib.Core.Bool.{true, false}
+use Rattle.clauses.specs.Read.{max_depth}
 use Rattle.steps.specs.Modes.{mode_of}
 use Rattle.walk.specs.Goes.{Walked}
 use Rattle.return_walk.specs.Returns.{sorts, outside_at}
@@ -35,7 +36,7 @@ leave-requires-2 c =
 pub returns-clause-passes : goal.returns-clause-passes
 returns-clause-passes c =
     let a = c.args in
-    let outside : Walked 48 a.context.now c.leave.new.self c.match-head.walk (outside_at a.context.now (mode_of a.mode) (sorts a.head.kind)) (Ok tt) =
+    let outside : Walked max_depth a.context.now c.leave.new.self c.match-head.walk (outside_at a.context.now (mode_of a.mode) (sorts a.head.kind)) (Ok tt) =
     elim c.match-head.branch [
       | in-SortedReturn+in_ok-walk_sorted-in-SortedReturn w ↦ rw (w.walk-is, w.in-SortedReturn.is) w.in_ok-walk_sorted-in-SortedReturn.ensures.walked
       | in_default+in_ok-walk_returned-in_default w ↦ let none : sorts a.head.kind ≡ false = search rules in rw (w.walk-is, none) w.in_ok-walk_returned-in_default.ensures

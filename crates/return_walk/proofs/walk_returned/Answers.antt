@@ -4,6 +4,7 @@ use mathlib.Core.Path.{refl}
 use native.Mathlib.Omega.{arith}
 use Rattle.heads.proofs.Chain.{step, last}
 use Rattle.heads.specs.Got.{word_in}
+use Rattle.clauses.specs.Read.{max_depth}
 use Rattle.fused.specs.Fused.{Mode}
 use Rattle.steps.specs.Modes.{mode_of}
 use Rattle.steps.specs.Hold.{Ready}
@@ -14,7 +15,7 @@ use Rattle.clause_parts.proofs.Passing.{past}
 use Rattle.return_walk.specs.Returns.{outputs_at, returned_at}
 use Rattle.return_walk.proofs.walk_returned.Goals as goal
 
-begun : {c : Context} {w : Walk} (m : Mode) → Ready 0 c w → Stage (Some 48) 0 c w (returned_at c m) 0 w (λ id u v. step (word_in 0 4294967296) (λ n. last (outputs_at c m n id v)))
+begun : {c : Context} {w : Walk} (m : Mode) → Ready 0 c w → Stage (Some max_depth) 0 c w (returned_at c m) 0 w (λ id u v. step (word_in 0 4294967296) (λ n. last (outputs_at c m n id v)))
 begun m h = start _ h (λ id s r. refl)
 
 pub returns : goal.returns

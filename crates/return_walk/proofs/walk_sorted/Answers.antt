@@ -5,6 +5,7 @@ use mathlib.Core.Path.{refl, ◌∙◌}
 use native.Mathlib.Omega.{arith}
 use Rattle.heads.proofs.Chain.{step, last}
 use Rattle.heads.specs.Got.{word_in}
+use Rattle.clauses.specs.Read.{max_depth}
 use Rattle.fused.specs.Fused.{Mode}
 use Rattle.steps.specs.Modes.{mode_of}
 use Rattle.steps.specs.Hold.{Ready}
@@ -17,7 +18,7 @@ use Rattle.return_walk.specs.Returns.{keyed_at, sorted_at}
 use Rattle.return_walk.proofs.Sorted.{none_held, ended, no-alias, expr-ready, fell-expr, turned}
 use Rattle.return_walk.proofs.walk_sorted.Goals as goal
 
-begun : {c : Context} {w : Walk} (m : Mode) → Ready 0 c w → Stage (Some 48) 0 c w (sorted_at c m) 0 w (λ id u v. step (word_in 0 4294967296) (λ n. last (keyed_at c m n id v)))
+begun : {c : Context} {w : Walk} (m : Mode) → Ready 0 c w → Stage (Some max_depth) 0 c w (sorted_at c m) 0 w (λ id u v. step (word_in 0 4294967296) (λ n. last (keyed_at c m n id v)))
 begun m h = start _ h (λ id s r. refl)
 
 -- a projection may begin behind it
