@@ -39,12 +39,12 @@ direct_of (no c) = other
 
 -- after a Return its scope is current, and what was visible before it
 abbrev pub returned : Mode → Both → Both → Both
-returned m s u = record { names = when m.resolves (standing s.names.visible (suc s.names.last)) u.names; kinds = u.kinds; known = u.known }
+returned m s u = record { names = when m.resolves (standing s.names.visible (suc s.names.last)) u.names; kinds = u.kinds; known = u.known; olds = u.olds }
 
 -- in the new Root of a WITH, v, what was visible before it, at s, is seen too
 abbrev pub beside : Mode → Both → Both → Both
 beside m s v =
-    record { names = when m.resolves (standing (v.names.visible ++ s.names.visible) v.names.cur) v.names; kinds = v.kinds; known = v.known }
+    record { names = when m.resolves (standing (v.names.visible ++ s.names.visible) v.names.cur) v.names; kinds = v.kinds; known = v.known; olds = v.olds }
 
 -- the alias of a projection, whatever its expression, behind those there are
 abbrev pub aliased : Option ℕ → Direct → List Seen → List ℕ → List ℕ

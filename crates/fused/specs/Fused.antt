@@ -1,6 +1,6 @@
 -- Reading, resolving and checking kinds in one: what the words at a place make of where both walks stand, or the cause of a refusal. proofs/
 -- Apart has it that this is the definition's reading, and then its two walks over what was read.
-use Rattle.std.specs.Prelude.{ℕ, zero, suc, Bool, true, false, ◌&&◌, List, [], ◌∷◌, Option, None, Some}
+use Rattle.std.specs.Prelude.{ℕ, zero, suc, ◌+◌, Bool, true, false, ◌&&◌, List, [], ◌∷◌, Option, None, Some}
 use Rattle.scope.specs.Graph.{comprehension_scope}
 use Rattle.heads.specs.Got.{Got, ok, no, bind, word_in, any_word}
 use Rattle.heads.specs.Form.{read_form, kids_of, items_of}
@@ -10,18 +10,20 @@ use Rattle.heads.specs.declared.Part.{Part}
 use Rattle.heads.specs.declared.Form.{Form}
 use Rattle.heads.specs.declared.Form.TheVariants.{Leaf, Var, Unresolved, Prop, Two, Slice, Many, BinOp, UnaryOp, Case, IsNull, PatternPredicate, ListComprehension, PatternComprehension, ListPredicate, MapProjection}
 use Rattle.expr.specs.Binders.{binder, all_known}
+use Rattle.expr.specs.Olds.{old_in}
 use Rattle.tables.specs.Row.{path_kind}
 use Rattle.semantics.specs.Log.{Finding}
 use Rattle.semantics.specs.World.{World, variable}
 use Rattle.semantics.specs.Resolve.{State, lookup, enter, leave, use_var, visit, bind_path, bind_elem}
 use Rattle.semantics.specs.Kinds.{Setting, Pair, both, plain, pattern_type, type_of, settings, at_type, at_row, misplaced, row_for}
 
--- Where both walks stand: the name walk's state, what the kind walk found, newest first, and whether every variable bound so far has a
--- row (cause 7: "a node, relationship, path or Unwind variable anywhere without a binding").
+-- Where both walks stand: the name walk's state, what the kind walk found, newest first, whether every variable bound so far has a row
+-- (cause 7: "a node, relationship, path or Unwind variable anywhere without a binding"), and how many expressions 25 were read so far.
 pub record Both : Type 0 where
   pub names : State
   pub kinds : List Finding
   pub known : Bool
+  pub olds : ℕ
 
 -- Which walks look at a place: names are "not resolved" in some, and kinds are checked in the "head only".
 pub record Mode : Type 0 where
@@ -43,9 +45,13 @@ unfoldable pub told : List Finding → List Finding → List Finding
 told [] k = k
 told (f ∷ fs) k = told fs (f ∷ k)
 
+-- so many expressions 25 more, whichever walk looks
+abbrev pub counting : ℕ → Both → Both
+counting n s = record { names = s.names; kinds = s.kinds; known = s.known; olds = s.olds + n }
+
 -- a step of the name walk and findings of the kind walk, of those that look
 abbrev pub step : Mode → (State → State) → List Finding → Both → Both
-step m f fs s = record { names = when m.resolves f s.names; kinds = when m.checks (told fs) s.kinds; known = s.known }
+step m f fs s = record { names = when m.resolves f s.names; kinds = when m.checks (told fs) s.kinds; known = s.known; olds = s.olds }
 
 -- one after the other
 unfoldable pub rounds : ℕ → Go → Go
@@ -62,7 +68,7 @@ same s = s
 
 -- out of a comprehension's scope; any other head leaves what its parts left
 abbrev pub left : Mode → Both → Both → Both
-left m s t = record { names = when m.resolves (leave s.names) t.names; kinds = t.kinds; known = t.known }
+left m s t = record { names = when m.resolves (leave s.names) t.names; kinds = t.kinds; known = t.known; olds = t.olds }
 
 abbrev pub tail_of : Mode → Form → Both → Both → Both
 tail_of m (Leaf k) s t = t
@@ -92,7 +98,7 @@ module _ (w : World) where
 
   -- variables are bound, whichever walk looks
   abbrev pub noting : List ℕ → Both → Both
-  noting vs s = record { names = s.names; kinds = s.kinds; known = s.known && all_known has_row vs }
+  noting vs s = record { names = s.names; kinds = s.kinds; known = s.known && all_known has_row vs; olds = s.olds }
 
   -- a name, sought in the visible list if it is a use here
   abbrev pub name_use : ℕ → State → State
@@ -100,7 +106,7 @@ module _ (w : World) where
 
   -- what a head does before its parts: a use, the scope of a comprehension, the finding of its own level
   abbrev pub head_of : Mode → Form → Setting → Both → Both
-  head_of m (Leaf k) c = step m same (at_type c (type_of (Leaf k)))
+  head_of m (Leaf k) c = λ s. counting (old_in (Leaf k)) (step m same (at_type c (type_of (Leaf k))) s)
   head_of m (Var v) c = step m (use_var w v (w.row v)) (at_row c (w.row v))
   head_of m (Unresolved x) c = step m (name_use x) []
   head_of m (Prop x) c = step m same (at_type c (type_of (Prop x)))

@@ -21,6 +21,7 @@ begun p =
       names = record { visible = []; cur = 0; last = 0; log = open' (scope root_scope None p.start p.end) ∷ [] };
       kinds = [];
       known = true;
+      olds = 0;
     }
 
 module _ (w : World) where

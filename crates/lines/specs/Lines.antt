@@ -1,4 +1,5 @@
--- The text of a listing: "findings N", then a line a finding: code, start, end, message. Every line ends in a line feed.
+-- The text of a listing: "findings N", then a line a finding: code, start, end, message; then the number of expressions 25, if there are any.
+-- Every line ends in a line feed.
 use Rattle.std.specs.Prelude.{ℕ, zero, suc, length, get_or, Option, None, Some}
 use mathlib.Core.List.{List, [], ◌++◌, flat_map}
 use Rattle.words.specs.Decimal.{decimal}
@@ -28,5 +29,10 @@ line_for code a b one two x = front code a b ++ (said_text (text_for code one) x
 unfoldable pub line : List (List ℕ) → Finding → List ℕ
 line names (finding code a b x one two) = line_for code a b one two (name_of names x)
 
-unfoldable pub listed : List (List ℕ) → List Finding → List ℕ
-listed names fs = (bytes "findings " ++ decimal (length fs)) ++ (bytes "\n" ++ flat_map (line names) fs)
+-- "the listing ends with the line `old exists`, a blank and the number of such expressions in the whole sheet when it isn't 0" (document 02, CR 6)
+unfoldable pub old_line : ℕ → List ℕ
+old_line zero = []
+old_line (suc n) = bytes "old exists " ++ (decimal (suc n) ++ bytes "\n")
+
+unfoldable pub listed : List (List ℕ) → List Finding → (olds : ℕ) → List ℕ
+listed names fs olds = (bytes "findings " ++ decimal (length fs)) ++ (bytes "\n" ++ (flat_map (line names) fs ++ old_line olds))

@@ -3,3 +3,4 @@ pub mod Statement
 pub mod Read
 pub mod Answer
 pub mod Write
+pub mod Olds

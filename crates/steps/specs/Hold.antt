@@ -49,6 +49,7 @@ pub record Fits (e t : ℕ) (c : Context) (w : Walk) : Type 0 where
   pub last : w.last + t ≤ w.at
   pub count : w.log.said + w.log.told + e ≤ w.at + 1
   pub stack : w.visible.names + w.visible.top + t ≤ w.at + 1
+  pub olds : w.olds + e ≤ w.at + 1
   pub needs : w.made + w.taken + t * 16384 ≤ w.at * 16384
   pub within : w.at ≤ length (words_in c)
   pub names : 4 * (length (words_in c) + 2) ≤ length w.visible.words.now
@@ -71,6 +72,7 @@ pub record Holds (id : ℕ → ℕ) (c : Context) (w : Walk) (s : Both) : Type 0
   pub log : events_in id w.log ≡ kept c.wants s.names.log
   pub kinds : findings_in w.log ≡ s.kinds
   pub known : w.known ≡ s.known
+  pub olds : w.olds ≡ s.olds
   pub counts : Counted w s.names.log
   pub uses : (x : ℕ) → x < names_in c → use_in c x ≡ id x
 
@@ -84,6 +86,7 @@ restarted at names w =
       last = 0;
       log = record w.log { said = 0; told = 0 };
       known = true;
+      olds = 0;
       made = 0;
       taken = 0;
     }
@@ -109,10 +112,10 @@ pub record Still (w w' : Walk) : Type 0 where
 
 -- what a step does to one of the two walks
 abbrev pub on_names : (State → State) → Both → Both
-on_names f s = record { names = f s.names; kinds = s.kinds; known = s.known }
+on_names f s = record { names = f s.names; kinds = s.kinds; known = s.known; olds = s.olds }
 
 abbrev pub on_kinds : List Finding → Both → Both
-on_kinds fs s = record { names = s.names; kinds = told fs s.kinds; known = s.known }
+on_kinds fs s = record { names = s.names; kinds = told fs s.kinds; known = s.known; olds = s.olds }
 
 -- A step of the state, at the same word: e words pay for what it says, t words for what it opens or binds. It may go by the use ids of names,
 -- which the walk doesn't hold.

@@ -128,11 +128,22 @@ impl Walk<'_> {
         }
     }
 
+    // An expression 25 is counted, whichever walk looks.
+    fn count_old(&mut self, context: &Context, f: Form)
+        requires { Ready 1 context.now self.old }
+        ensures { Costs 1 0 context.now self.old self.new (λ id. counting (old_in f)) }
+    {
+        if let Form::Leaf(25) = f {
+            self.olds += 1;
+        }
+    }
+
     // What a head does before its parts.
     pub fn begin(&mut self, context: &Context, f: Form, mode: Mode, set: Setting)
         requires { Named (names_in context.now) f × Ready (cost_of f) context.now self.old }
         ensures { Steps (cost_of f) context.now self.old self.new (λ id. head_of (world_at context.now id) (mode_of mode) f (setting_of set)) }
     {
+        self.count_old(context, f);
         match act_of(f) {
             Act::Shows(t) => self.show(context, t, mode, set),
             Act::Uses(v) => self.use_var(context, v, mode, set),

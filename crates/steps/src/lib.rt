@@ -30,7 +30,7 @@ pub struct Level {
 }
 
 // Where both walks stand: the next word, what is visible, the current scope and the last one, what was said and told, whether every binder so
-// far had a row, how many bindings were made and how many names carried; and what waits at each level of a row, in an array, since there is no heap:
+// far had a row, how many expressions 25 were read, how many bindings were made and how many names carried; and what waits at each level of a row, in an array, since there is no heap:
 // one for each room from 0 to the limit.
 #[derive(Drop)]
 pub struct Walk<'a> {
@@ -40,6 +40,7 @@ pub struct Walk<'a> {
     pub last: u32,
     pub log: Log<'a>,
     pub known: bool,
+    pub olds: u32,
     pub made: u32,
     pub taken: u32,
     pub levels: [Level; MAX_DEPTH as usize + 1],
@@ -66,6 +67,7 @@ impl<'a> Walk<'a> {
                 told: 0,
             },
             known: true,
+            olds: 0,
             made: 0,
             taken: 0,
             levels: [Level {
@@ -89,6 +91,7 @@ impl Walk<'_> {
         self.log.said = 0;
         self.log.told = 0;
         self.known = true;
+        self.olds = 0;
         self.made = 0;
         self.taken = 0;
     }

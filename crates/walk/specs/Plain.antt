@@ -72,7 +72,7 @@ shapes =
     ∷ 0  -- 22 PatternComprehension
     ∷ (head + worded + parts 1 + counts + first 7 + later 3)  -- 23 ListPredicate
     ∷ 0  -- 24 MapProjection
-    ∷ head  -- 25 ExistsSubqueryDeferred
+    ∷ 0  -- 25 ExistsSubqueryDeferred, which is counted
     ∷ []
 
 abbrev pub shape : ℕ → ℕ
