@@ -91,14 +91,7 @@ impl Walk<'_> {
         match self.visible.find(x) {
             Some(newest) => {
                 let v = newest.variable;
-                self.log.say([
-                    Sort::Name as u32,
-                    x,
-                    1,
-                    v,
-                    context.rows.kind(v),
-                    newest.via,
-                ]);
+                self.log.say([Sort::Name as u32, x, 1, v, context.rows.kind(v), newest.via]);
             }
             None => self.log.say([Sort::Name as u32, x, 0, 0, 0, 0]),
         }
