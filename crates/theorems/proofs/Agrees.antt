@@ -1,4 +1,4 @@
--- Lookup on the finished lists agrees with the walk: between clauses, from a barrier, at each record, from every comprehension's scope.
+-- Lookup agrees with the walk: between clauses, from a barrier, at each use of a name, from every comprehension's scope.
 use mathlib.Core.Path.{◌∙◌, ap}
 use mathlib.Core.Bool.{Bool}
 use mathlib.Core.List.{◌∷◌, ◌++◌}
@@ -10,7 +10,8 @@ use Rattle.theorems.specs.Agree.{Agrees}
 use Rattle.theorems.proofs.Placed.{clauses-append, arms-append}
 use Rattle.theorems.proofs.Shows.{clauses-A, root-A, arm-A, settle}
 use Rattle.theorems.proofs.Barriers.{barriers}
-use Rattle.theorems.proofs.Mets.{inners, used}
+use Rattle.theorems.proofs.Mets.{inners}
+use Rattle.theorems.proofs.Standing.{used}
 
 pub agrees : (warns : Bool) (s : Statement) → Agrees warns s
 unfolding run arms

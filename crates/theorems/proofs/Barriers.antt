@@ -18,7 +18,8 @@ use Rattle.semantics.specs.World.{World, world_of}
 use Rattle.semantics.specs.Resolve.{Pair, pair, State, enter, barrier, log}
 use Rattle.semantics.specs.Lists.{pairs_at, scopes, bindings, carried_list}
 use Rattle.theorems.specs.Site.{Site, in_head, in_arm, cut_of, Stands, entry, before, pairs, resolved, at_barrier, barrier_of, new_root}
-use Rattle.theorems.specs.Agree.{seen_as, look, in_lists}
+use Rattle.theorems.specs.Uses.{seen_as}
+use Rattle.theorems.specs.Agree.{look, in_lists}
 use Rattle.theorems.proofs.Within.{Within, within-reverse, nil, inside, cons}
 use Rattle.theorems.proofs.Placed.{carry_at, carry-log, pre_log, split, tail-in, pre-opened, pairs-listed}
 use Rattle.theorems.proofs.Looks.{newest, look-stays, look-open}

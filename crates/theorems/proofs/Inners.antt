@@ -18,7 +18,8 @@ use Rattle.semantics.specs.Log.{Finding, bound, Event, open', bind, find, binds_
 use Rattle.semantics.specs.World.{World, variable, name_of}
 use Rattle.semantics.specs.Resolve.{Hit, hit, variable_of, Seen, seen, State, lookup, binds, say_if, enter, bind_name, bind_anew, bind_new, bind_path, bind_elem, resolves, bind_pattern}
 use Rattle.theorems.specs.Site.{silent}
-use Rattle.theorems.specs.Agree.{seen_as, look, or_parent}
+use Rattle.theorems.specs.Uses.{seen_as}
+use Rattle.theorems.specs.Agree.{look, or_parent}
 use Rattle.theorems.proofs.Views.{binds-append}
 use Rattle.theorems.proofs.Adds.{after, resolves-after, pattern-after}
 use Rattle.theorems.proofs.Keeps.{say_if-keeps, all_keep}

@@ -14,7 +14,6 @@ pub mod ApartSheets
 pub mod Agreeing
 pub mod Keyed
 pub mod Codes
-pub mod Uses
 pub mod Woven
 pub mod Sizes
 pub mod Looks
@@ -22,6 +21,9 @@ pub mod Shows
 pub mod Barriers
 pub mod Inners
 pub mod Vias
+pub mod Walked
+pub mod Uses
+pub mod Standing
 pub mod Mets
 pub mod Agrees
 pub mod Needs

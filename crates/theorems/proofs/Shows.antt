@@ -27,7 +27,8 @@ use Rattle.theorems.proofs.Adds.{after, resolves-after, clauses-after, arms-afte
 use Rattle.theorems.proofs.Keeps.{Keeps, all_keep}
 use Rattle.theorems.proofs.Within.{Within, nil, cons, inside, within-reverse, Well, standing-W, enter-W, carry-W, bind-W, find-W, anew-W, path-W, elem-W, carry_all-W, resolves-W, clauses-W, arms-W}
 use Rattle.theorems.specs.Site.{silent}
-use Rattle.theorems.specs.Agree.{seen_as, look, in_lists}
+use Rattle.theorems.specs.Uses.{seen_as}
+use Rattle.theorems.specs.Agree.{look, in_lists}
 use Rattle.theorems.proofs.Placed.{start-W, silent-W}
 use Rattle.theorems.proofs.Looks.{newest, carries-append, newest-append, answer-same, look-stays, look-by, look-open}
 use Rattle.theorems.proofs.Tests.{holds, eqb_same, eqb_comm}

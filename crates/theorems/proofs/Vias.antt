@@ -1,8 +1,8 @@
 -- The marks of what is visible are right (`Marks`): via is 1 exactly where the scope of the binding has a WithBarrier as its parent, in the
--- finished list of scopes (document 02, CR 3); so a name's record is the one by that list (`marked-answer`). `Marked` says it of a state, whose
--- current scope is no barrier; `Binds over`, of one that may also bind there, over a WITH or not. Each step keeps it: `kept` and `still`, what
--- binds nothing; `enter-V`, `bind-V`, `path-V`, `elem-V`, `pattern-V`, `yields-V`; `root-V`, a WITH's new Root; `ahead-V`, its sort keys;
--- `start-V`, where head and arms begin. L is the finished log, newest first; what was said so far is its beginning (`Pre`).
+-- finished list of scopes (document 02, CR 3). `Marked` says it of a state, whose current scope is no barrier; `Binds over`, of one that may
+-- also bind there, over a WITH or not. Each step keeps it: `kept` and `still`, what binds nothing; `enter-V`, `path-V`, `elem-V`, `pattern-V`;
+-- `root-V`, a WITH's new Root; `ahead-V`, its sort keys; `clause-V`; `start-V`, where head and arms begin. L is the finished log, newest first;
+-- what was said so far is its beginning (`Pre`).
 use Rattle.std.specs.Prelude.{Option, None, Some}
 use Prim.Native.Nat.{ℕ, suc}
 use mathlib.Core.Path.{◌≡◌, refl, sym, ◌∙◌, ap, subst}
@@ -10,25 +10,24 @@ use mathlib.Core.Bool.{Bool, true, false, cond, ◌&&◌}
 use mathlib.Core.List.{List, [], ◌∷◌, ◌++◌, reverse}
 use lib.Dec.{eqb}
 use lib.ListN.{length}
-use Rattle.scope.specs.Graph.{with_barrier, root_scope, Scope, scope}
-use Rattle.scope.specs.Lookup.{at, parent_at, kind_at}
-use Rattle.expr.specs.Tree.{Steps, end, part, elem}
-use Rattle.clauses.specs.Tree.{Yield, yield}
+use Rattle.scope.specs.Graph.{return_scope, with_barrier, call_scope, unwind_scope, root_scope, Scope, scope}
+use Rattle.scope.specs.Lookup.{parent_at, kind_at}
+use Rattle.expr.specs.Tree.{done, Steps, end, part, elem}
+use Rattle.clauses.specs.Tree.{Yield, yield, Clause, opening, reading, with', return, unwind, call, exprs, keys_of}
 use Rattle.tables.specs.Row.{value_kind, path_kind}
 use Rattle.sheet.specs.Statement.{Statement}
-use Rattle.semantics.specs.Log.{e1002, finding, found, Event, open', find, scopes_in, logs}
-use Rattle.semantics.specs.World.{World, hush, variable, yield_name, name_of, kind_of}
-use Rattle.semantics.specs.Resolve.{Hit, hit, variable_of, Seen, seen, Pair, pair, State, lookup, binds, enter, bind_name, bind_over, standing, bind_anew, bind_new, bind_path, bind_elem, bind_pattern, carry_all, bind_all, barrier, fresh, yields, start}
+use Rattle.semantics.specs.Log.{e1002, finding, Event, open', find, scopes_in, logs}
+use Rattle.semantics.specs.World.{World, hush, variable, opens, yield_name, name_of, kind_of}
+use Rattle.semantics.specs.Resolve.{Hit, hit, Seen, seen, Pair, pair, State, lookup, binds, enter, bind_name, bind_over, leave, standing, bind_anew, bind_new, bind_path, bind_elem, resolves, bind_pattern, carried_by, carry_all, bind_all, barrier, fresh, yields, aliases, sort_by, clause, start}
 use Rattle.theorems.specs.Site.{silent}
-use Rattle.theorems.specs.Uses.{answer_by}
-use Rattle.theorems.specs.Agree.{seen_as, under_barrier, via_at, recorded_as}
+use Rattle.theorems.specs.Uses.{under_barrier, via_at}
 use Rattle.theorems.proofs.Views.{scopes-append}
-use Rattle.theorems.proofs.Adds.{carry-after, bind-after}
+use Rattle.theorems.proofs.Adds.{resolves-after, pattern-after, carry-after, bind-after, yields-after}
 use Rattle.theorems.proofs.Keeps.{Keeps, say_if-keeps, all_keep}
-use Rattle.theorems.proofs.Within.{Well, standing-W, barrier-W}
+use Rattle.theorems.proofs.Within.{Well, standing-W, resolves-W, barrier-W}
 use Rattle.theorems.proofs.Placed.{carry-is}
 use Rattle.theorems.proofs.Looks.{parent-at, kind-at}
-use Rattle.theorems.proofs.Shows.{count}
+use Rattle.theorems.proofs.Shows.{opening-kind, count}
 use Rattle.theorems.proofs.Inners.{Pre, back, cut}
 
 module _ (L : List Event) where
@@ -43,16 +42,6 @@ module _ (L : List Event) where
   unfolding Marks
   marks-join [] b m n = n
   marks-join (seen x (hit v o) p ∷ a) b m n = (m.0, marks-join a b m.1 n)
-
-  pub marked-answer : (w : World) (xs : List ℕ) (x : ℕ) (vis : List Seen) → Marks vis → recorded_as w ss (seen_as x vis) ≡ answer_by (hush xs w) (lookup x vis)
-  unfolding Marks recorded_as seen_as variable_of lookup answer_by kind_of
-  marked-answer w xs x [] m = refl
-  marked-answer w xs x (seen y (hit v o) p ∷ vis) m = go (eqb x y) (marked-answer w xs x vis m.1)
-    where
-      go : (b : Bool) → recorded_as w ss (seen_as x vis) ≡ answer_by (hush xs w) (lookup x vis)
-          → recorded_as w ss (cond b (at v p) (seen_as x vis)) ≡ answer_by (hush xs w) (cond b (Some (hit v o)) (lookup x vis))
-      go true e = ap (found v (kind_of w v)) m.0
-      go false e = e
 
   pub record Marked (s : State) : Type 0 where
     pub marks : Marks s.visible
@@ -82,12 +71,12 @@ module _ (L : List Event) where
   unfolding via_at under_barrier
   enter-V k a b {s} e f p h =
       let o = opened-at k a b f p in
-      record { marked = record { marks = h.marks; kind = ap (λ j. eqb j with_barrier) o.1 ∙ e }; via = rw (o.0, h.kind) refl }
+      record { marked = record { marks = h.marks; kind = ap (λ j. eqb j with_barrier) o.1 ∙ e }; via = ap (under_barrier ss) o.0 ∙ ap (λ c. cond c 1 0) h.kind }
 
   pub ahead-V : {s t : State} → Marked s → Marked t → Marked (standing (t.visible ++ s.visible) t.cur t)
   ahead-V {s} {t} h n = record { marks = marks-join t.visible s.visible n.marks h.marks; kind = n.kind }
 
-  pub bind-V : (over : Bool) (x v k : ℕ) {s : State} → Binds over s → Binds over (bind_over over x v k s)
+  bind-V : (over : Bool) (x v k : ℕ) {s : State} → Binds over s → Binds over (bind_over over x v k s)
   unfolding Marks
   bind-V over x v k h = record { marked = record { marks = (h.via, h.marked.marks); kind = h.marked.kind }; via = h.via }
 
@@ -117,7 +106,7 @@ module _ (L : List Event) where
     pattern-V (part p r) h = pattern-V r (path-V (variable p) h)
     pattern-V (elem k a b v es r) {s} h = pattern-V r (still (all_keep w es (bind_elem w k (variable v) s)) (elem-V k (variable v) h))
 
-    pub yields-V : (a b : ℕ) (ys : List Yield) {s : State} → Binds false s → Binds false (yields w a b ys s)
+    yields-V : (a b : ℕ) (ys : List Yield) {s : State} → Binds false s → Binds false (yields w a b ys s)
     unfolding yields
     yields-V a b [] h = h
     yields-V a b (yield x y v ∷ ys) h = yields-V a b ys (anew-V a b (yield_name x y) v value_kind h)
@@ -141,6 +130,32 @@ module _ (L : List Event) where
         let i = opened-at with_barrier a b f p3 in
         let o = opened-at root_scope b b (standing-W w 0 0 [] u.cur (barrier-W w 0 0 a b cs f)) p1 in
         (pairs-V cs {s = r} (record { marked = record { marks = tt; kind = ap (λ j. eqb j with_barrier) o.1 }; via = rw (o.0, (carry-is w cs n).2, i.1) refl })).marked
+
+  pub clause-V : (w : World) (c : Clause) {s : State} → Well 0 0 s → Pre L (clause w c s).log → Marked s → Marked (clause w c s)
+  unfolding clause sort_by
+  clause-V w (opening o a b q) {s} f p h =
+      let t = enter (opens o) a b s in
+      (pattern-V w q (enter-V (opens o) a b (opening-kind o) f (back L (bind_pattern w q) t (pattern-after w t.log q (silent t)) p) h)).marked
+  clause-V w (reading r a b es) {s} f p h = kept (all_keep w es s) h
+  clause-V w (with' a b ps g ks) {s} f p h =
+      let cs = carried_by w ps s.visible in
+      let t = fresh w b cs (barrier w a b cs (resolves w (exprs ps g) s)) in
+      let o = standing (t.visible ++ s.visible) t.cur t in
+      let n = root-V w a b cs (resolves-W w 0 0 (exprs ps g) f).fine (back L (resolves w (keys_of ks)) o (resolves-after w o.log (keys_of ks) (silent o)) p) in
+      record { marks = n.marks; kind = n.kind }
+  clause-V w (return a b ps ks) {s} f p h =
+      let t = leave s (enter return_scope a b s) in
+      let r = resolves w (exprs ps done) t in
+      let v = hush (aliases ps) w in
+      let p1 = back L (resolves v (keys_of ks)) r (resolves-after v r.log (keys_of ks) (silent r)) p in
+      let p2 = back L (resolves w (exprs ps done)) t (resolves-after w t.log (exprs ps done) (silent t)) p1 in
+      record { marks = h.marks; kind = (enter-V return_scope a b refl f p2 h).marked.kind }
+  clause-V w (unwind a b v e) {s} f p h =
+      let t = enter unwind_scope a b s in
+      (bind-V false (name_of w v) v value_kind (enter-V unwind_scope a b refl f (back L (bind_name (name_of w v) v value_kind) t refl p) h)).marked
+  clause-V w (call a b es ys) {s} f p h =
+      let t = enter call_scope a b s in
+      (yields-V w a b ys (enter-V call_scope a b refl f (back L (yields w a b ys) t (yields-after w t.log a b ys (silent t)) p) h)).marked
 
   -- where the head and the arms begin
   pub start-V : (st : Statement) → Pre L (start st).log → (s : State) → Marked (standing [] 0 s)

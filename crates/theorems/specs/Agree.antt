@@ -1,38 +1,20 @@
--- Lookup on the finished lists gives what the walk saw: the variable of a name's newest binding, and the scope that binds it. What is
--- recorded of a use is what lookup gives where the use stands, with via_projection by the scope (document 02, CR 3).
-use Rattle.std.specs.Prelude.{ℕ, ◌<◌, ◌≡◌, Bool, cond, List, [], ◌∷◌, ◌++◌, reverse, eqb, Option, None, Some}
+-- Lookup gives what the walk saw: the variable of a name's newest binding, and the scope that binds it; on the finished lists between clauses,
+-- from barriers and comprehensions, and at each use on what was said before its record.
+use mathlib.Core.List.{flat_map}
+use Rattle.std.specs.Prelude.{ℕ, ◌<◌, ◌≡◌, Bool, cond, List, [], ◌∷◌, ◌++◌, reverse, Some}
 use Rattle.words.specs.Fnv.{use_id}
-use Rattle.scope.specs.Graph.{with_barrier, comprehension_scope, Scope, scope}
-use Rattle.scope.specs.Lookup.{Looked, at, nothing, refused, carries, parent_at, kind_at, lookup_in}
+use Rattle.scope.specs.Graph.{comprehension_scope, scope}
+use Rattle.scope.specs.Lookup.{Looked, at, nothing, refused, carries, lookup_in}
 use Rattle.expr.specs.Tree.{Steps}
 use Rattle.clauses.specs.Tree.{Clause, Arm, arm}
 use Rattle.sheet.specs.Statement.{Statement}
-use Rattle.semantics.specs.Log.{Answer, found, missing, Write, write, Event, open', answer, scopes_in, binds_in, carries_in, opened}
-use Rattle.semantics.specs.World.{World, hush, bytes_of, kind_of, world_of}
-use Rattle.semantics.specs.Resolve.{Seen, seen, variable_of, State, standing, bind_pattern, clauses, start, log}
+use Rattle.semantics.specs.Log.{write, Event, open', answer, scopes_in, binds_in, carries_in, answers_in, opened}
+use Rattle.semantics.specs.World.{hush, bytes_of, world_of}
+use Rattle.semantics.specs.Resolve.{Seen, State, standing, bind_pattern, clauses, start, log}
 use Rattle.semantics.specs.Resolve
 use Rattle.semantics.specs.Lists.{puts, scopes, bindings, carried_list}
 use Rattle.theorems.specs.Site.{Site, Stands, before, barrier_of}
-
--- what the visible list has for a name
-unfoldable pub seen_as : ℕ → List Seen → Looked
-seen_as x [] = nothing
-seen_as x (seen y h p ∷ vis) = cond (eqb x y) (at (variable_of h) p) (seen_as x vis)
-
--- 1 where a scope has a WithBarrier as its parent, else 0
-unfoldable pub under_barrier : List Scope → Option ℕ → ℕ
-under_barrier ss None = 0
-under_barrier ss (Some p) = cond (eqb (kind_at ss p) with_barrier) 1 0
-
-unfoldable pub via_at : List Scope → ℕ → ℕ
-via_at ss s = under_barrier ss (parent_at ss s)
-
--- what is recorded of a name that has this binding: "via_projection is true exactly when the scope of the binding that answered the use, for
--- a WITH's sort key perhaps one before that WITH, has a WithBarrier as its parent" (document 02, CR 3)
-unfoldable pub recorded_as : World → List Scope → Looked → Answer
-recorded_as w ss (at v s) = found v (kind_of w v) (via_at ss s)
-recorded_as w ss nothing = missing
-recorded_as w ss (refused c) = missing
+use Rattle.theorems.specs.Uses.{Use, by_name, seen_as, recorded_as, record_of, uses}
 
 -- lookup on the views of a log
 unfoldable pub look : List Event → ℕ → ℕ → Looked
@@ -84,13 +66,19 @@ module _ (warns : Bool) (s : Statement) where
     pub adds : (bind_pattern (hush hushed (world_of warns s)) pattern (opened_after l visible)).visible ≡ own ++ visible
     pub inside : (x : ℕ) → in_lists (opened l) x ≡ or_parent (seen_as x own) (in_lists p x)
 
-  -- What is recorded after the log l. A Var's own id: "a Var's own record keeps false". A name, standing where the scope p is current: at that
-  -- time lookup from p gives what is visible, as far as it reaches; beyond that is nothing, or in a WITH's sort key the list before the WITH.
-  pub data Recorded (l : List Event) : Write → Type 0 where
-    of_var : (v k : ℕ) → Recorded l (write v (found v k 0))
-    of_name : (x p : ℕ) (visible reach beyond : List Seen) → visible ≡ reach ++ beyond → Beyond beyond → p < opened l
-        → ((y : ℕ) → look l p y ≡ seen_as y reach)
-        → Recorded l (write (use_id (bytes_of s x)) (recorded_as (world_of warns s) (scopes warns s) (seen_as x visible)))
+  -- A use of the name x that stands in the scope p, after other uses. Its record comes after the log l, and lookup from p gives then what is
+  -- visible there, as far as it reaches; beyond that is nothing, or in a WITH's sort key the list before the WITH. (p may bind more later.)
+  pub record Used (earlier : List Use) (x p : ℕ) (visible : List Seen) : Type 0 where
+    pub l : List Event
+    pub m : List Event
+    pub says : log warns s ≡ l ++ answer (write (use_id (bytes_of s x)) (recorded_as (world_of warns s) (scopes warns s) (seen_as x visible))) ∷ m
+    pub records : answers_in l ≡ flat_map (record_of (world_of warns s) (scopes warns s)) earlier
+    pub reach : List Seen
+    pub beyond : List Seen
+    pub splits : visible ≡ reach ++ beyond
+    pub hidden : Beyond beyond
+    pub lower : p < opened l
+    pub around : (y : ℕ) → look l p y ≡ seen_as y reach
 
   -- Lookup agrees with the walk.
   pub record Agrees : Type 0 where
@@ -102,7 +90,7 @@ module _ (warns : Bool) (s : Statement) where
     -- from a barrier: what is visible before its WITH, of the names that it carries
     pub barrier : (p : Site) (x : ℕ) → Stands s p
         → in_lists (barrier_of warns s p) x ≡ cond (carries (carried_list warns s) (barrier_of warns s p) x) (seen_as x (before warns s p).visible) nothing
-    -- at each record
-    pub used : (l m : List Event) (r : Write) → log warns s ≡ l ++ answer r ∷ m → Recorded l r
+    -- at each use of a name
+    pub used : (earlier later : List Use) (x p : ℕ) (visible : List Seen) → uses warns s ≡ earlier ++ by_name x p visible ∷ later → Used earlier x p visible
     -- from a comprehension's scope
     pub inner : (l m : List Event) (p a b : ℕ) → log warns s ≡ l ++ open' (scope comprehension_scope (Some p) a b) ∷ m → Inner l m p

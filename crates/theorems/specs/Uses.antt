@@ -3,7 +3,8 @@
 use Rattle.std.specs.Prelude.{ℕ, suc, ◌≡◌, ◌↔◌, Bool, true, cond, not, ◌&&◌, eqb, Option, None, Some}
 use mathlib.Core.List.{List, [], ◌∷◌, ◌++◌, flat_map, Memᴰ}
 use Rattle.words.specs.Fnv.{use_id}
-use Rattle.scope.specs.Graph.{return_scope, comprehension_scope}
+use Rattle.scope.specs.Graph.{with_barrier, return_scope, comprehension_scope, Scope}
+use Rattle.scope.specs.Lookup.{Looked, at, nothing, refused, parent_at, kind_at}
 use Rattle.expr.specs.Tree.{Expr, var, unresolved, node, predicate, comprehension, Exprs, done, more, mark, Steps, end, part, elem}
 use Rattle.clauses.specs.Tree.{Projection, Clause, opening, reading, with', return, unwind, call, Arm, arm, exprs, keys_of}
 use Rattle.tables.specs.Row.{Row, row}
@@ -11,13 +12,13 @@ use Rattle.sheet.specs.Statement.{Statement}
 use Rattle.semantics.specs.Log
 use Rattle.semantics.specs.Log.{Finding, finding, Answer, found, missing, Write, write, Event, answer, find, answers_in}
 use Rattle.semantics.specs.World.{World, hush, variable, opens, bytes_of, kind_of, world_of}
-use Rattle.semantics.specs.Resolve.{Hit, hit, Seen, seen, State, lookup, enter, leave, standing, bind_path, bind_elem, resolve, resolves, bind_pattern, carried_by, barrier, fresh, aliases, clause, clauses, start, log}
-use Rattle.semantics.specs.Lists.{findings}
+use Rattle.semantics.specs.Resolve.{Hit, variable_of, Seen, seen, State, enter, leave, standing, bind_path, bind_elem, resolve, resolves, bind_pattern, carried_by, barrier, fresh, aliases, clause, clauses, start, log}
+use Rattle.semantics.specs.Lists.{scopes, findings}
 
--- A Var with its id, or an Unresolved with its name and the visible list.
+-- A Var with its id, or an Unresolved with its name, the scope where it stands and the visible list.
 pub data Use : Type 0 where
   by_var : (id : ℕ) → Use
-  by_name : (name : ℕ) (visible : List Seen) → Use
+  by_name : (name scope : ℕ) (visible : List Seen) → Use
 
 -- "not visible": no entry of the visible list has the name x; and the test of it.
 abbrev pub Lacks : ℕ → List Seen → Type 0
@@ -27,7 +28,27 @@ unfoldable pub lacks : ℕ → List Seen → Bool
 lacks x [] = true
 lacks x (seen y h p ∷ vis) = not (eqb x y) && lacks x vis
 
--- "A Var records its own id, visible or not, if the sheet's bindings section has it."
+-- what the visible list has for a name
+unfoldable pub seen_as : ℕ → List Seen → Looked
+seen_as x [] = nothing
+seen_as x (seen y h p ∷ vis) = cond (eqb x y) (at (variable_of h) p) (seen_as x vis)
+
+-- 1 where a scope has a WithBarrier as its parent, else 0
+unfoldable pub under_barrier : List Scope → Option ℕ → ℕ
+under_barrier ss None = 0
+under_barrier ss (Some p) = cond (eqb (kind_at ss p) with_barrier) 1 0
+
+unfoldable pub via_at : List Scope → ℕ → ℕ
+via_at ss s = under_barrier ss (parent_at ss s)
+
+-- what is recorded of a name that has this binding: "via_projection is true exactly when the scope of the binding that answered the use, for
+-- a WITH's sort key perhaps one before that WITH, has a WithBarrier as its parent" (document 02, CR 3)
+unfoldable pub recorded_as : World → List Scope → Looked → Answer
+recorded_as w ss (at v s) = found v (kind_of w v) (via_at ss s)
+recorded_as w ss nothing = missing
+recorded_as w ss (refused c) = missing
+
+-- "A Var records its own id, visible or not, if the sheet's bindings section has it"; "a Var's own record keeps false" (document 02, CR 3)
 unfoldable pub of_row : ℕ → Option Row → List Write
 of_row v None = []
 of_row v (Some (row i x k a b)) = write v (found v k 0) ∷ []
@@ -38,7 +59,7 @@ module _ (w : World) where
   unfoldable mutual
     pub uses_e : Expr → State → List Use
     uses_e (var v) s = by_var v ∷ []
-    uses_e (unresolved x) s = cond (w.hushed x) [] (by_name x s.visible ∷ [])
+    uses_e (unresolved x) s = cond (w.hushed x) [] (by_name x s.cur s.visible ∷ [])
     uses_e (node f es) s = uses_es es s
     uses_e (predicate p) s = []
     uses_e (comprehension a b p es) s = uses_s p (enter comprehension_scope a b s) ++ uses_es es (bind_pattern w p (enter comprehension_scope a b s))
@@ -84,21 +105,17 @@ module _ (w : World) where
   -- E1001 of a name that is not visible, except `*`.
   unfoldable pub e1001 : Use → List Finding
   e1001 (by_var v) = []
-  e1001 (by_name x vis) = cond (lacks x vis && not (w.is_star x)) (finding Log.e1001 0 0 (suc x) 0 0 ∷ []) []
+  e1001 (by_name x p vis) = cond (lacks x vis && not (w.is_star x)) (finding Log.e1001 0 0 (suc x) 0 0 ∷ []) []
 
-  -- The record of a name: its use id, and what the visible list has for it: the variable, and whether that came over a WITH.
-  unfoldable pub answer_by : Option Hit → Answer
-  answer_by None = missing
-  answer_by (Some (hit v o)) = found v (kind_of w v) o
-
-  unfoldable pub record_of : Use → List Write
-  record_of (by_var v) = of_row v (w.row v)
-  record_of (by_name x vis) = write (w.id x) (answer_by (lookup x vis)) ∷ []
+  -- The record of a name: its use id, and the answer by the newest binding that the visible list has for it.
+  unfoldable pub record_of : List Scope → Use → List Write
+  record_of ss (by_var v) = of_row v (w.row v)
+  record_of ss (by_name x p vis) = write (w.id x) (recorded_as w ss (seen_as x vis)) ∷ []
 
   -- The unresolved record of a name that is not visible, `*` or not.
   unfoldable pub unresolved_of : Use → List Write
   unresolved_of (by_var v) = []
-  unresolved_of (by_name x vis) = cond (lacks x vis) (write (w.id x) missing ∷ []) []
+  unresolved_of (by_name x p vis) = cond (lacks x vis) (write (w.id x) missing ∷ []) []
 
 -- All uses of a statement: the head's, then the arms'.
 unfoldable pub uses : Bool → Statement → List Use
@@ -126,5 +143,5 @@ pub record Arises (s : Statement) (x : ℕ) (vis : List Seen) (l : List Event) :
 -- Over a statement: the lists hold, in order, what the uses leave.
 pub record OfUses (warns : Bool) (s : Statement) : Type 0 where
   pub finds : with_code Log.e1001 (findings warns s) ≡ flat_map (e1001 (world_of warns s)) (uses warns s)
-  pub records : answers_in (log warns s) ≡ flat_map (record_of (world_of warns s)) (uses warns s)
+  pub records : answers_in (log warns s) ≡ flat_map (record_of (world_of warns s) (scopes warns s)) (uses warns s)
   pub unresolved : unresolved_in (answers_in (log warns s)) ≡ flat_map (unresolved_of (world_of warns s)) (uses warns s)
