@@ -14,8 +14,8 @@ mod mode;
 ghost use Rattle.std.specs.Prelude.{◌≡◌};
 ghost use Rattle.steps.specs.Hold.{restarted};
 
-use clauses::MAX_DEPTH;
 pub use bound::name_in;
+use clauses::MAX_DEPTH;
 pub use context::{Context, operator_settings, property_settings};
 pub use head::leaf_type;
 pub use log::{Log, Sort};
