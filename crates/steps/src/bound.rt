@@ -67,7 +67,9 @@ impl Walk<'_> {
         ensures { result ≡ binds self.now.cur x (entries self.now.visible) }
     {
         let cur = self.cur;
-        self.visible.find(x).is_some_and(|newest| newest.scope == cur)
+        self.visible
+            .find(x)
+            .is_some_and(|newest| newest.scope == cur)
     }
 
     // A binding in the current scope is said, and counted unless it replaces another.
