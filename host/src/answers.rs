@@ -42,6 +42,7 @@ impl<'a> Answers<'a> {
         self.entries().iter().all(|entries| *entries <= LISTED)
     }
 
+    /// Without the line of the expressions 25, which the Rust doesn't print.
     pub fn listing(&self) -> String {
         match self {
             Self::Rust(ran, _) => lists::listing(&ran.findings),

@@ -8,7 +8,7 @@ use std::collections::HashSet;
 use std::hint::black_box;
 use theirs::answers::Answers;
 use theirs::twin::{Keys, twin};
-use theirs::{lists, sheet, tuned};
+use theirs::{lists, model, sheet, tuned};
 
 /// Bytes of a sheet, about.
 const SIZES: [usize; 8] = [100, 200, 400, 800, 1600, 3000, 6500, 8192];
@@ -65,7 +65,8 @@ impl Jobs {
         tuned::answer(bytes, true)
     }
 
-    /// Ends the run unless all three give the same, with sort keys ours and the model; tells how many findings that has. Where the answers
+    /// Ends the run unless all three give the same, with sort keys ours and the model, ours with the line of the expressions 25 besides; tells
+    /// how many findings that has. Where the answers
     /// need more entries than the listing has, ours is refused 8.
     fn compare(&mut self, bytes: &[u8]) -> Option<usize> {
         let ours = self.ours(bytes).map(<[u8]>::to_vec);
@@ -78,8 +79,9 @@ impl Jobs {
             }
         };
         let answers = Answers::new(&sheet, true);
-        let text = answers.listing().into_bytes();
+        let mut text = answers.listing().into_bytes();
         assert!(sheet.has_keys() || Self::tuned(bytes).as_ref() == Ok(&text), "{}", differ());
+        text.extend(model::old_line(&sheet).bytes());
         let fits = answers.fit();
         assert!(ours == if fits { Ok(text) } else { Err(8) }, "{}", differ());
         fits.then_some(answers.entries()[4])

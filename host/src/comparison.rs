@@ -2,6 +2,7 @@
 //! them, and what it may not alter is looked at after it.
 use ours::{Lists, WIDTHS, in_words, needed};
 use theirs::answers::Answers;
+use theirs::model::old_line;
 use theirs::sheet::{self, Sheet};
 
 /// Bytes before and after a lent sheet or page.
@@ -25,6 +26,8 @@ pub struct Tally {
     over_with: usize,
     messages: usize,
     bytes: usize,
+    /// Listings that end with the line of the expressions 25.
+    olds: usize,
     lookups: usize,
     offsets: usize,
     tens: usize,
@@ -51,10 +54,23 @@ impl Tally {
         println!("entries: {:?} (scopes, bindings, carried, recorded, findings)", self.entries);
         println!("{} of the recorded uses came over a WITH", self.over_with);
         println!("listings: {} messages in {} bytes; {} lookups, {} offsets", self.messages, self.bytes, self.lookups, self.offsets);
+        println!("{} of the listings end with the line of the expressions 25", self.olds);
         println!("a page a byte short: {}, a list a word short: {}", self.tens, self.eights);
         println!("a list with a word for each of the sheet's, and too short for its answer: {}", self.needs);
         println!("a listing that needs more than 2,048 entries: {}", self.too_long);
         println!("{} sheets differ", self.differ);
+    }
+}
+
+/// A listing: the lines of the Rust, or of the model, and after them the line of the expressions 25 by the model's count, if there is one.
+struct Text {
+    lines: String,
+    last: String,
+}
+
+impl Text {
+    fn len(&self) -> usize {
+        self.lines.len() + self.last.len()
     }
 }
 
@@ -119,19 +135,22 @@ impl Comparison {
     }
 
     /// A listing into a page of so many bytes; nothing past it may be altered.
-    fn listing(&mut self, sheet: &[u8], room: usize, warnings: bool, expected: Result<&str, u32>) -> Result<(), String> {
+    fn listing(&mut self, sheet: &[u8], room: usize, warnings: bool, expected: Result<&Text, u32>) -> Result<(), String> {
         let answer = ours::listing(sheet, &mut self.page[MARGIN..MARGIN + room], warnings);
-        let text = expected.unwrap_or_default().as_bytes();
-        holds("the listing's answer", answer == expected.map(str::len))?;
-        holds("the listing", &self.page[MARGIN..MARGIN + text.len()] == text)?;
-        self.page[MARGIN..MARGIN + text.len()].fill(BLANK);
+        holds("the listing's answer", answer == expected.map(Text::len))?;
+        if let Ok(text) = expected {
+            let (lines, last) = self.page[MARGIN..MARGIN + text.len()].split_at(text.lines.len());
+            holds("the listing", lines == text.lines.as_bytes())?;
+            holds("the line of the expressions 25", last == text.last.as_bytes())?;
+            self.page[MARGIN..MARGIN + text.len()].fill(BLANK);
+        }
         let around = &self.page[..room + 2 * MARGIN];
         holds("the page past the listing", around.iter().fold(0, |other, byte| other | (byte ^ BLANK)) == 0)
     }
 
     fn accepted(&mut self, sheet: &[u8], read: &Sheet, warnings: bool) -> Result<(), String> {
         let answers = Answers::new(read, warnings);
-        self.listings(sheet, &answers, warnings)?;
+        self.listings(sheet, &answers, old_line(read), warnings)?;
         let entries = needed(sheet.len(), answers.entries());
         self.short_lists(sheet, entries, warnings)?;
         let more = if self.tally.eights % 4 == 0 { self.tally.eights % 100 } else { 0 };
@@ -146,9 +165,10 @@ impl Comparison {
         self.graph(&answers, &read.names)
     }
 
-    /// The listing with room, into a page that it fills, and into one a byte shorter; or, whatever the page, its refusal 8.
-    fn listings(&mut self, sheet: &[u8], answers: &Answers, warnings: bool) -> Result<(), String> {
-        let text = answers.listing();
+    /// The listing with room, into a page that it fills, and into one a byte shorter, and one without room for its last line; or, whatever the
+    /// page, its refusal 8.
+    fn listings(&mut self, sheet: &[u8], answers: &Answers, last: String, warnings: bool) -> Result<(), String> {
+        let text = Text { lines: answers.listing(), last };
         if !answers.fit() {
             self.tally.too_long += 1;
             return [0, text.len() - 1, text.len() + MARGIN].into_iter().try_for_each(|room| self.listing(sheet, room, warnings, Err(8)));
@@ -157,6 +177,10 @@ impl Comparison {
         self.listing(sheet, text.len(), warnings, Ok(&text))?;
         self.listing(sheet, text.len() - 1, warnings, Err(10))?;
         self.tally.tens += 1;
+        if !text.last.is_empty() {
+            self.listing(sheet, text.lines.len(), warnings, Err(10))?;
+            self.tally.olds += 1;
+        }
         self.tally.messages += answers.entries()[4];
         self.tally.bytes += text.len();
         Ok(())

@@ -1,10 +1,11 @@
 //! A sheet's answers by a definition of its own, written from openCypher 9 with document 01's departures and document 02's sort keys, stars
-//! and aliases, and what it says of names that came over a WITH. It has the sheet's tree in common with the Rust, and nothing of its two
+//! and aliases, and what it says of names that came over a WITH and of expressions 25. It has the sheet's tree in common with the Rust, and nothing of its two
 //! passes. A sheet with sort keys is compared with this; on sheets without, this is compared with the Rust (README.md).
 mod finding;
 mod graph;
 mod kinds;
 mod names;
+mod olds;
 mod parts;
 mod starred;
 
@@ -33,6 +34,14 @@ pub fn run(sheet: &Sheet, warnings: bool) -> Model {
     Model { graph: names.graph, findings, recorded: names.recorded, starred: names.starred }
 }
 
+/// The last line of a sheet's listing, which is no finding's and which the Rust doesn't print: how many expressions 25 the sheet has, if any.
+pub fn old_line(sheet: &Sheet) -> String {
+    match olds::count(&sheet.statement) {
+        0 => String::new(),
+        count => format!("old exists {count}\n"),
+    }
+}
+
 /// Document 01's number of a kind.
 fn number(kind: VarKind) -> usize {
     match kind {
@@ -55,6 +64,7 @@ impl Model {
         [graph.scopes.len(), graph.bindings.len(), graph.carried().count(), self.recorded.in_order().len(), self.findings.len()]
     }
 
+    /// Without the last line, which `old_line` gives.
     pub fn listing(&self) -> String {
         let mut text = format!("findings {}\n", self.findings.len());
         for finding in &self.findings {

@@ -1,7 +1,7 @@
 //! The Rust's answers for a row of sheets on standard input, each after its byte length as a little-endian word; the model's for sheets
-//! with sort keys.
+//! with sort keys, and its line of the expressions 25 for all.
 use std::io::{Read, Write, stdin, stdout};
-use theirs::{answers::Answers, sheet};
+use theirs::{answers::Answers, model, sheet};
 
 fn main() -> std::io::Result<()> {
     let warnings = std::env::args().nth(1).as_deref() != Some("0");
@@ -33,7 +33,7 @@ fn answer(bytes: &[u8], warnings: bool) -> String {
     if !answers.fit() {
         return "refused 8\n".to_owned();
     }
-    let text = answers.listing();
+    let text = answers.listing() + &model::old_line(&sheet);
     let text = if text.len() <= PAGE { text } else { "refused 10\n".to_owned() };
     text + &answers.lists(&sheet.names)
 }

@@ -38,7 +38,7 @@ module _ {w : Walk} {v : Visible} {top cur : ℕ} (p : Cut top w.visible v) wher
 
   kept_fits : {c : Context} {i k : ℕ} → Fits i k c w → top ≤ w.visible.top → Descends cur (seens w.visible.names top w.visible.words.now) → cur ≤ w.last → Fits i k c (record w { visible = v; cur = cur })
   kept_fits f h d l =
-      refit f kept_still p.sound (subst (λ s. Descends cur s) (sym p.same) d) l f.last f.count (omega (arith, f.stack, p.back, p.still.names)) f.needs f.within
+      refit f kept_still p.sound (subst (λ s. Descends cur s) (sym p.same) d) l f.last f.count (omega (arith, f.stack, p.back, p.still.names)) f.olds f.needs f.within
 
   kept_holds : {id : ℕ → ℕ} {c : Context} {s : Both} → Holds id c w s → Holds id c (record w { visible = v; cur = cur }) (on_names (standing (seens w.visible.names top w.visible.words.now) cur) s)
   kept_holds h =
@@ -49,6 +49,7 @@ module _ {w : Walk} {v : Visible} {top cur : ℕ} (p : Cut top w.visible v) wher
         log = h.log;
         kinds = h.kinds;
         known = h.known;
+        olds = h.olds;
         counts = recounted refl refl h.counts;
         uses = h.uses;
       }

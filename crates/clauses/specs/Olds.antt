@@ -16,6 +16,9 @@ unfoldable pub olds_cs : List Clause → ℕ
 olds_cs [] = 0
 olds_cs (c ∷ cs) = olds_c c + olds_cs cs
 
+unfoldable pub olds_a : Arm → ℕ
+olds_a (arm a b cs) = olds_cs cs
+
 unfoldable pub olds_as : List Arm → ℕ
 olds_as [] = 0
-olds_as (arm a b cs ∷ rest) = olds_cs cs + olds_as rest
+olds_as (x ∷ xs) = olds_a x + olds_as xs

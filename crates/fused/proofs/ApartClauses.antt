@@ -2,7 +2,8 @@
 -- `apart-clauses`, `apart-arms`). `projections-law` is for whatever is kept of projections (`taken-all`: what a WITH takes of them), `keys-law` for sort keys: a WITH's see what was
 -- visible before it (`with-step`), a RETURN's are hushed (`return-step`), which says nothing of kinds (`kinds-hush`).
 use Rattle.std.specs.Prelude.{Option}
-use Prim.Native.Nat.{ℕ, zero, suc, ◌-◌}
+use Prim.Native.Nat.{ℕ, zero, suc, ◌+◌, ◌-◌}
+use native.Mathlib.Omega.{arith}
 use mathlib.Core.Path.{◌≡◌, refl, ap, ap₂, sym, ◌∙◌}
 use mathlib.Core.Bool.{Bool, true, false, cond, ◌&&◌, ◌||◌, or_assoc, or-false}
 use mathlib.Core.List.{List, [], ◌∷◌, ◌++◌, flat_map, append_assoc, append-nil}
@@ -16,18 +17,20 @@ use Rattle.heads.specs.declared.Form.TheVariants.{Leaf, Var, Unresolved, Prop, T
 use Rattle.heads.proofs.Shapes.{bind-each, bind-bind}
 use Rattle.expr.specs.Tree.{Expr, var, unresolved, node, predicate, comprehension, Exprs, done, more, mark, Steps, end, part, elem, tree}
 use Rattle.expr.specs.Binders.{binders_e, binders, binders_s, all_known}
+use Rattle.expr.specs.Olds.{olds_e, olds, olds_s}
 use Rattle.expr.specs.Read.{no_more, times, marks, pattern, maybe_pattern, after_form, read_expr}
 use Rattle.clauses.specs.Tree.{Projection, projection, Yield, yield, Opening, match, create, merge, Reading, where', set, remove, delete, Keys, unsorted, sorted, Clause, opening, reading, with', return, unwind, call, Arm, arm, exprs, keys_of}
 use Rattle.clauses.specs.Read.{max_depth, alias_of, clause_expr, read_projection, read_yield, counted_exprs, counted_marks, no_keys, some_keys, read_match, read_opening, read_where, read_with, read_return, read_unwind, read_marked, read_delete, read_call, read_body, read_clause, read_arm}
 use Rattle.clauses.specs.Binders.{binders_p, binders_c, binders_a}
+use Rattle.clauses.specs.Olds.{olds_c, olds_cs, olds_a, olds_as}
 use Rattle.tables.specs.Row.{value_kind}
 use Rattle.semantics.specs.World.{World, hush, opens, Direct, direct, yield_name, name_of}
 use Rattle.semantics.specs.Resolve.{State, Seen, Pair, enter, leave, standing, bind_name, bind_anew, resolve, resolves, bind_pattern, carries, projected, is_all, any_star, starred, carried_by, barrier, fresh, yields, alias_in, aliases, sort_by, clause, clauses, arms}
 use Rattle.semantics.specs.Kinds.{Setting, general, Pair as Settings, both, plain, settings, row_for, kinds_e, kinds_es, kinds_s, kinds_c, kinds}
 use Rattle.theorems.proofs.Keeps.{keeps}
-use Rattle.fused.specs.Fused.{Both, Mode, unresolving, Go, when, told, step, has_row, noting, rounds, row_go, left, mark_go}
+use Rattle.fused.specs.Fused.{Both, Mode, unresolving, Go, when, told, counting, step, has_row, noting, rounds, row_go, left, mark_go}
 use Rattle.fused.specs.Clauses.{direct_form, direct_of, returned, beside, aliased, Taken, nothing, takes, all_of, in_arms, within, projections_go, counted_row, yielded, yield_go, opening_go, rooted_by, sort_go, with_go, keys_go, return_go, unwind_go, call_go, marked_go, body_go, clause_go, arm_go}
-use Rattle.fused.proofs.Apart.{told-append, when-two, step-two, step-none, known_two, move, move-two, move-none, after, map-map, each, act, acts, lays, kids-law, marks-law, pattern-law, apart}
+use Rattle.fused.proofs.Apart.{told-append, when-two, step-two, step-none, known_two, olds_two, move, move-two, move-none, after, map-map, each, act, acts, lays, kids-law, marks-law, pattern-law, apart}
 
 -- things in a row, each read and walked
 module _ {A : Type 0} (one : List ℕ → Got A) (go : Go) (doing : A → Both → Both) (all : List A → Both → Both) (h : (s : Both) (r : List ℕ) → go s r ≡ after doing one s r)
@@ -155,7 +158,7 @@ module _ (w : World) (t : Tables) (free : (v : ℕ) → t.known v ≡ true) (m :
   -- what is made of the sort keys of a clause is made of what they leave
   keys-law : {C : Type 0} (sorts : Bool) (clause_of : Keys → C) (walk : C → Both) (f : Both → Both) (s : Both) → ((ks : Keys) → walk (clause_of ks) ≡ f (acts w m plain (keys_of ks) s)) → (r : List ℕ) →
       bind (bind (read_keys t sorts r) (λ ks r2. ok (clause_of ks) r2)) (λ c r2. ok (walk c) r2) ≡ bind (key_row w t m sorts s r) (λ u r2. ok (f u) r2)
-  unfolding no_keys some_keys keys_of resolve kinds_e binders_e
+  unfolding no_keys some_keys keys_of resolve kinds_e binders_e olds_e
   keys-law false clause_of walk f s h r = ap (λ (u : Both). ok u r) (h unsorted ∙ ap f (move-none w m s))
   keys-law true clause_of walk f s h r = rw (← (counted-law s r)) (go (counted_exprs t r))
     where
@@ -180,6 +183,11 @@ module _ (w : World) where
   binders-exprs [] = refl
   binders-exprs (projection a e ∷ ps) = ap (λ (vs : List ℕ). binders_e e ++ vs) (binders-exprs ps)
 
+  olds-exprs : (ps : List Projection) (es : Exprs) → olds (exprs ps es) ≡ olds (exprs ps done) + olds es
+  unfolding exprs olds_e
+  olds-exprs [] es = omega arith
+  olds-exprs (projection a e ∷ ps) es = omega (arith, olds-exprs ps es)
+
   -- an expression alters nothing that is visible
   kept : (m : Mode) (c : Setting) (e : Expr) (s : Both) → (act w m c e s).names.visible ≡ s.names.visible
   kept m c e s = go m.resolves
@@ -190,17 +198,17 @@ module _ (w : World) where
 
   -- what both walks do with a clause, with clauses
   abbrev pub walks : Mode → Clause → Both → Both
-  walks m c = move w m (clause w c) (kinds_c w c) (binders_c c)
+  walks m c = move w m (clause w c) (kinds_c w c) (binders_c c) (olds_c c)
 
   abbrev pub walks_all : Mode → List Clause → Both → Both
-  walks_all m cs = move w m (clauses w cs) (kinds w cs) (flat_map binders_c cs)
+  walks_all m cs = move w m (clauses w cs) (kinds w cs) (flat_map binders_c cs) (olds_cs cs)
 
   -- and with arms, by the name walk alone
   abbrev pub walks_arm : Mode → Arm → Both → Both
-  walks_arm m x = move w (in_arms m) (arms w (x ∷ [])) [] (binders_a x)
+  walks_arm m x = move w (in_arms m) (arms w (x ∷ [])) [] (binders_a x) (olds_a x)
 
   abbrev pub walks_arms : Mode → List Arm → Both → Both
-  walks_arms m xs = move w (in_arms m) (arms w xs) [] (flat_map binders_a xs)
+  walks_arms m xs = move w (in_arms m) (arms w xs) [] (flat_map binders_a xs) (olds_as xs)
 
   module _ (t : Tables) (free : (v : ℕ) → t.known v ≡ true) where
     -- projections, and what is done with what they leave and what is kept of them
@@ -211,7 +219,7 @@ module _ (w : World) where
           → bind (many (read_projection t) n r) (λ ps r2. K (acts w m plain (exprs ps done) s) (kept_by keep ps s.names.visible q) r2) ≡ bind (projections_go w t keep m n q s r) (λ x r2. K x.0 x.1 r2)
 
       projections-law : (n : ℕ) → Projected n
-      unfolding many projections_go exprs resolve kinds_e binders_e read_projection
+      unfolding many projections_go exprs resolve kinds_e binders_e olds_e read_projection
       projections-law zero q K s r = ap (λ (x : Both). K x q r) (move-none w m s)
       projections-law (suc n) q K s r = word (projections-law n) (word_in 0 (suc t.names) r)
         where
@@ -228,7 +236,7 @@ module _ (w : World) where
           one : Projected n → (a : ℕ) (g : Got Expr) → bind (bind (bind g (λ e r2. ok (projection (alias_of a) e) r2)) (λ x r2. bind (many (read_projection t) n r2) (λ xs r3. ok (x ∷ xs) r3))) F ≡ bind g (λ e r2. M a e (direct e) r2)
           one ih a (ok e r2) =
               bind-bind (many (read_projection t) n r2) (λ xs r3. ok (projection (alias_of a) e ∷ xs) r3) F
-              ∙ bind-each (many (read_projection t) n r2) _ _ (λ ps r3. ap₂ (λ (x : Both) (y : A). K x y r3) (move-two w m (resolve w e) (resolves w (exprs ps done)) (kinds_e w e general) (kinds_es w (exprs ps done) plain) (binders_e e) (binders (exprs ps done)) s) (later a e ps))
+              ∙ bind-each (many (read_projection t) n r2) _ _ (λ ps r3. ap₂ (λ (x : Both) (y : A). K x y r3) (move-two w m (resolve w e) (resolves w (exprs ps done)) (kinds_e w e general) (kinds_es w (exprs ps done) plain) (binders_e e) (binders (exprs ps done)) (olds_e e) (olds (exprs ps done)) s) (later a e ps))
               ∙ ih (keep (alias_of a) (direct e) (act w m general e s).names.visible q) K (act w m general e s) r2
           one ih a (no c) = refl
 
@@ -243,10 +251,10 @@ module _ (w : World) where
 
     module _ (m : Mode) (a b : ℕ) where
       opening-law : (o : Opening) (s : Both) (r : List ℕ) → after (walks m) (read_opening t a b o) s r ≡ opening_go w t m a b o s r
-      unfolding read_opening opening_go clause kinds_c binders_c
+      unfolding read_opening opening_go clause kinds_c binders_c olds_c
       opening-law o s r =
           map-map (pattern t (clause_expr t) r) (λ st. opening o a b st) (λ c. walks m c s)
-          ∙ each (pattern t (clause_expr t) r) (λ st. walks m (opening o a b st) s) (λ st. lays w m st (step m (enter (opens o) a b) [] s)) (λ st. ap (noting w (binders_s st)) (step-two m (enter (opens o) a b) (bind_pattern w st) [] (kinds_s w st) s))
+          ∙ each (pattern t (clause_expr t) r) (λ st. walks m (opening o a b st) s) (λ st. lays w m st (step m (enter (opens o) a b) [] s)) (λ st. ap (λ (u : Both). counting (olds_s st) (noting w (binders_s st) u)) (step-two m (enter (opens o) a b) (bind_pattern w st) [] (kinds_s w st) s))
           ∙ pattern-law w t free (within w t) (clause_expr t) (apart w t free max_depth) m (step m (enter (opens o) a b) [] s) r
 
       match-law : (s : Both) (r : List ℕ) → after (walks m) (read_match t a b) s r ≡ bind (flag r) (λ o r1. opening_go w t m a b (match o) s r1)
@@ -259,7 +267,7 @@ module _ (w : World) where
 
       -- expressions read for a clause that resolves them all
       reads-law : (which : Reading) (g : Got Exprs) (s : Both) → bind (bind g (λ es r. ok (reading which a b es) r)) (λ c r. ok (walks m c s) r) ≡ bind g (λ es r. ok (acts w m plain es s) r)
-      unfolding clause kinds_c binders_c
+      unfolding clause kinds_c binders_c olds_c
       reads-law which (ok es r) s = refl
       reads-law which (no c) s = refl
 
@@ -287,8 +295,8 @@ module _ (w : World) where
       rooted ps es s = rooted_by w t m a b (carried_by w ps s.names.visible) (filtered ps es s)
 
       with-step : (ps : List Projection) (es : Exprs) (ks : Keys) (s : Both) → walks m (with' a b ps es ks) s ≡ left m (rooted ps es s) (acts w m plain (keys_of ks) (beside m s (rooted ps es s)))
-      unfolding clause kinds_c binders_c
-      with-step ps es ks s = λ i. record { names = named m.resolves i; kinds = found m.checks i; known = bound i }
+      unfolding clause kinds_c binders_c olds_c
+      with-step ps es ks s = λ i. record { names = named m.resolves i; kinds = found m.checks i; known = bound i; olds = counted i }
         where
           root : State → State
           root y = let qs = carried_by w ps s.names.visible in fresh w b qs (barrier w a b qs y)
@@ -310,9 +318,12 @@ module _ (w : World) where
               (known_two (has_row w) s.known (flat_map binders_p ps ++ binders es) (binders (keys_of ks))
               ∙ ap (λ (q : Bool). q && all_known (has_row w) (binders (keys_of ks))) (known_two (has_row w) s.known (flat_map binders_p ps) (binders es)))
 
+          counted : s.olds + (olds (exprs ps es) + olds (keys_of ks)) ≡ s.olds + olds (exprs ps done) + olds es + olds (keys_of ks)
+          counted = omega (arith, olds-exprs ps es)
+
       -- without sort keys the new Root stays as it is
       beside-left : (u v : Both) → left m v (beside m u v) ≡ v
-      beside-left u v = λ i. record { names = go m.resolves i; kinds = v.kinds; known = v.known }
+      beside-left u v = λ i. record { names = go m.resolves i; kinds = v.kinds; known = v.known; olds = v.olds }
         where
           go : (q : Bool) → when q (leave v.names) (when q (standing (v.names.visible ++ u.names.visible) v.names.cur) v.names) ≡ v.names
           go true = refl
@@ -360,8 +371,8 @@ module _ (w : World) where
       outside = step m (λ y. leave y (enter return_scope a b y)) []
 
       return-step : (ps : List Projection) (ks : Keys) (s : Both) → walks m (return a b ps ks) s ≡ returned m s (acts (hush (aliases ps) w) m plain (keys_of ks) (acts w m plain (exprs ps done) (outside s)))
-      unfolding clause kinds_c binders_c
-      return-step ps ks s = λ i. record { names = named m.resolves i; kinds = found m.checks i; known = bound i }
+      unfolding clause kinds_c binders_c olds_c
+      return-step ps ks s = λ i. record { names = named m.resolves i; kinds = found m.checks i; known = bound i; olds = olds_two s.olds (olds (exprs ps done)) (olds (keys_of ks)) i }
         where
           named : (q : Bool) → when q (clause w (return a b ps ks)) s.names ≡ when q (standing s.names.visible (suc s.names.last)) (when q (resolves (hush (aliases ps) w) (keys_of ks)) (when q (resolves w (exprs ps done)) (when q (λ y. leave y (enter return_scope a b y)) s.names)))
           named true = refl
@@ -399,8 +410,8 @@ module _ (w : World) where
 
       -- "Unwind's list, Call's arguments .. are not resolved"
       unwind-step : (v : ℕ) (e : Expr) (s : Both) → walks m (unwind a b v e) s ≡ act w (unresolving m) general e (noting w (v ∷ []) (step m (λ y. bind_name (name_of w v) v value_kind (enter unwind_scope a b y)) [] s))
-      unfolding clause kinds_c binders_c
-      unwind-step v e s = λ i. record { names = when m.resolves (λ y. bind_name (name_of w v) v value_kind (enter unwind_scope a b y)) s.names; kinds = found m.checks i; known = known_two (has_row w) s.known (v ∷ []) (binders_e e) i }
+      unfolding clause kinds_c binders_c olds_c
+      unwind-step v e s = λ i. record { names = when m.resolves (λ y. bind_name (name_of w v) v value_kind (enter unwind_scope a b y)) s.names; kinds = found m.checks i; known = known_two (has_row w) s.known (v ∷ []) (binders_e e) i; olds = s.olds + olds_e e }
         where
           found : (q : Bool) → when q (told (kinds_e w e general)) s.kinds ≡ when q (told (kinds_e w e general)) (when q (told []) s.kinds)
           found true = unfold told in refl
@@ -431,8 +442,8 @@ module _ (w : World) where
       yields-nil s = step-none m s
 
       call_step : (es : Exprs) (ys : List Yield) (s : Both) → walks m (call a b es ys) s ≡ step m (yields w a b ys) [] (acts w (unresolving m) plain es (step m (enter call_scope a b) [] s))
-      unfolding clause kinds_c binders_c
-      call_step es ys s = λ i. record { names = named m.resolves i; kinds = found m.checks i; known = s.known && all_known (has_row w) (binders es) }
+      unfolding clause kinds_c binders_c olds_c
+      call_step es ys s = λ i. record { names = named m.resolves i; kinds = found m.checks i; known = s.known && all_known (has_row w) (binders es); olds = s.olds + olds es }
         where
           named : (q : Bool) → when q (clause w (call a b es ys)) s.names ≡ when q (yields w a b ys) (when q (enter call_scope a b) s.names)
           named true = refl
@@ -502,12 +513,12 @@ module _ (w : World) where
         kind (no c) = refl
 
     clauses-nil : (m : Mode) (s : Both) → walks_all m [] s ≡ s
-    unfolding clauses kinds flat_map
+    unfolding clauses kinds flat_map olds_cs
     clauses-nil m s = move-none w m s
 
     clauses-cons : (m : Mode) (c : Clause) (cs : List Clause) (s : Both) → walks_all m (c ∷ cs) s ≡ walks_all m cs (walks m c s)
-    unfolding clauses kinds flat_map
-    clauses-cons m c cs s = move-two w m (clause w c) (clauses w cs) (kinds_c w c) (kinds w cs) (binders_c c) (flat_map binders_c cs) s
+    unfolding clauses kinds flat_map olds_cs
+    clauses-cons m c cs s = move-two w m (clause w c) (clauses w cs) (kinds_c w c) (kinds w cs) (binders_c c) (flat_map binders_c cs) (olds_c c) (olds_cs cs) s
 
     pub apart-clauses : (m : Mode) (n : ℕ) (s : Both) (r : List ℕ) → rounds n (clause_go w t m) s r ≡ after (walks_all m) (many (read_clause t) n) s r
     apart-clauses m n s r = sym (many-law (read_clause t) (clause_go w t m) (walks m) (walks_all m) (apart-clause m) (clauses-nil m) (clauses-cons m) n s r)
@@ -520,7 +531,7 @@ module _ (w : World) where
         s0 = step (in_arms m) (standing [] 0) [] s
 
         walked : (a b : ℕ) (cs : List Clause) → walks_arm m (arm a b cs) s ≡ walks_all (in_arms m) cs s0
-        walked a b cs = unfold arms binders_a in λ i. record { names = when-two m.resolves (standing [] 0) (clauses w cs) s.names i; kinds = s.kinds; known = s.known && all_known (has_row w) (flat_map binders_c cs) }
+        walked a b cs = unfold arms binders_a olds_a in λ i. record { names = when-two m.resolves (standing [] 0) (clauses w cs) s.names i; kinds = s.kinds; known = s.known && all_known (has_row w) (flat_map binders_c cs); olds = s.olds + olds_cs cs }
 
         count : (a b : ℕ) (g : Got ℕ) → bind g (λ n r3. rounds n (clause_go w t (in_arms m)) s0 r3) ≡ bind (bind (bind g (λ n r3. many (read_clause t) n r3)) (λ cs r3. ok (arm a b cs) r3)) (λ x r2. ok (walks_arm m x s) r2)
         count a b (ok n r3) =
@@ -539,12 +550,12 @@ module _ (w : World) where
         begin' (no c) = refl
 
     arms-nil : (m : Mode) (s : Both) → walks_arms m [] s ≡ s
-    unfolding arms flat_map
+    unfolding arms flat_map olds_as
     arms-nil m s = move-none w (in_arms m) s
 
     arms-cons : (m : Mode) (x : Arm) (xs : List Arm) (s : Both) → walks_arms m (x ∷ xs) s ≡ walks_arms m xs (walks_arm m x s)
-    unfolding arms flat_map
-    arms-cons m (arm a b cs) xs s = move-two w (in_arms m) (λ y. clauses w cs (standing [] 0 y)) (arms w xs) [] [] (binders_a (arm a b cs)) (flat_map binders_a xs) s
+    unfolding arms flat_map olds_as
+    arms-cons m (arm a b cs) xs s = move-two w (in_arms m) (λ y. clauses w cs (standing [] 0 y)) (arms w xs) [] [] (binders_a (arm a b cs)) (flat_map binders_a xs) (olds_a (arm a b cs)) (olds_as xs) s
 
     pub apart-arms : (m : Mode) (n : ℕ) (s : Both) (r : List ℕ) → rounds n (arm_go w t m) s r ≡ after (walks_arms m) (many (read_arm t) n) s r
     apart-arms m n s r = sym (many-law (read_arm t) (arm_go w t m) (walks_arm m) (walks_arms m) (apart-arm m) (arms-nil m) (arms-cons m) n s r)

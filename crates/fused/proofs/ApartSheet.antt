@@ -1,7 +1,8 @@
 -- The head and the arms of a sheet: reading and both walks in one is reading, and then the two walks over what was read (`apart-sheet`).
 -- Cause 7 is the same question, for a variable has a row if it is one of the bindings' (`row_in`).
 use Rattle.std.specs.Prelude.{Some}
-use Prim.Native.Nat.{ℕ}
+use Prim.Native.Nat.{ℕ, ◌+◌}
+use native.Mathlib.Omega.{arith}
 use mathlib.Core.Path.{◌≡◌, refl, ap, sym, ◌∙◌, fun_ext}
 use mathlib.Core.Bool.{Bool, true, false, cond, ◌&&◌}
 use mathlib.Core.List.{List, [], ◌∷◌, ◌++◌, map, flat_map}
@@ -12,6 +13,7 @@ use Rattle.expr.specs.Binders.{all_known}
 use Rattle.clauses.specs.Tree.{Clause, Arm}
 use Rattle.clauses.specs.Read.{read_clause, read_arm}
 use Rattle.clauses.specs.Binders.{binders_c, binders_a}
+use Rattle.clauses.specs.Olds.{olds_cs, olds_as}
 use Rattle.tables.specs.Row.{Row, row, row_id}
 use Rattle.sheet.specs.Trailer.{section}
 use Rattle.sheet.specs.Read.{Sheet, accepted, refused, then', unless, used_up, any_binder, read_clauses}
@@ -27,7 +29,7 @@ use Rattle.fused.proofs.ApartClauses.{walks_all, walks_arms, apart-clauses, apar
 
 -- what the two walks leave of clauses and arms
 abbrev pub leaves : World → Places → List Clause × List Arm → Both
-leaves w p x = record { names = arms w x.1 (clauses w x.0 (begun p).names); kinds = told (kinds w x.0) []; known = true }
+leaves w p x = record { names = arms w x.1 (clauses w x.0 (begun p).names); kinds = told (kinds w x.0) []; known = true; olds = olds_cs x.0 + olds_as x.1 }
 
 pub row_in : (v : ℕ) (rs : List Row) → is_some (row_of v rs) ≡ is_in v (map row_id rs)
 unfolding row_of is_in row_id
@@ -59,13 +61,13 @@ test-map c true a f = refl
 test-map c false a f = refl
 
 -- where both walks end
-abbrev ended : State → List Finding → Bool → Both
-ended y k q = record { names = y; kinds = k; known = q }
+abbrev ended : State → List Finding → ℕ → Bool → Both
+ended y k n q = record { names = y; kinds = k; known = q; olds = n }
 
-decided : (y : State) (k : List Finding) (a b : Bool) → a ≡ b → unless 7 a (accepted (ended y k a)) ≡ unless 7 b (accepted (ended y k true))
-decided y k a b e = rw e (go b)
+decided : (y : State) (k : List Finding) (n o : ℕ) (a b : Bool) → n ≡ o → a ≡ b → unless 7 a (accepted (ended y k n a)) ≡ unless 7 b (accepted (ended y k o true))
+decided y k n o a b d e = rw (d, e) (go b)
   where
-    go : (q : Bool) → unless 7 q (accepted (ended y k q)) ≡ unless 7 q (accepted (ended y k true))
+    go : (q : Bool) → unless 7 q (accepted (ended y k o q)) ≡ unless 7 q (accepted (ended y k o true))
     go true = refl
     go false = refl
 
@@ -89,7 +91,7 @@ module _ (w : World) (rs : List Row) (rows : (v : ℕ) → w.row v ≡ row_of v 
 
       second : (cs : List Clause) (g : Sheet (List Arm)) → then' (then' g (λ xs. accepted (walks_arms w every_walk xs (walks_all w every_walk cs (begun p))))) seventh ≡ then' (then' g (asked cs)) (λ x. accepted (leaves w p x))
       second cs (accepted xs) =
-          decided (leaves w p (cs, xs)).names (leaves w p (cs, xs)).kinds _ _ (known-ids (flat_map binders_c cs) (flat_map binders_a xs))
+          decided (leaves w p (cs, xs)).names (leaves w p (cs, xs)).kinds _ _ _ _ (omega arith) (known-ids (flat_map binders_c cs) (flat_map binders_a xs))
           ∙ sym (test-map 7 (all_known (λ v. is_in v (map row_id rs)) (flat_map binders_c cs ++ flat_map binders_a xs)) (cs, xs) (leaves w p))
       second cs (refused c) = refl
 

@@ -11,6 +11,7 @@ use Rattle.clauses.specs.Tree.{Clause, Arm}
 use Rattle.tables.specs.Row.{Row, row_id}
 use Rattle.sheet.specs.Trailer.{section}
 use Rattle.sheet.specs.Statement.{Statement}
+use Rattle.sheet.specs.Olds.{old_exists}
 use Rattle.sheet.specs.Read.{Sheet, accepted, refused, then', read_names, read_rows, read_clauses, locate, read_sections, read_sheet}
 use Rattle.sheet.specs.declared.trailer.Places.{Places}
 use Rattle.semantics.specs.Log.{Finding}
@@ -47,12 +48,12 @@ pub record HasTables (s : List ℕ) (p : Places) (ns : List (List ℕ)) (rs : Li
   pub names : read_names p.names (take (p.rows * 4) s) ≡ accepted ns
   pub rows : read_rows p.names p.bindings (section (words s) p.rows p.head) ≡ accepted rs
 
--- what the two walks say of a statement, and where they stand after it
-abbrev pub said_of : Bool → Statement → State × List Finding
-said_of warns st = (run warns st, kinds (world_of warns st) st.head)
+-- what the two walks say of a statement, and where they stand after it; and how many expressions 25 it has
+abbrev pub said_of : Bool → Statement → State × (List Finding × ℕ)
+said_of warns st = (run warns st, (kinds (world_of warns st) st.head, old_exists st))
 
-abbrev pub said_by : Both → State × List Finding
-said_by u = (u.names, reverse u.kinds)
+abbrev pub said_by : Both → State × (List Finding × ℕ)
+said_by u = (u.names, (reverse u.kinds, u.olds))
 
 module _ {s : List ℕ} {p : Places} {ns : List (List ℕ)} {rs : List Row} (h : HasTables s p ns rs) where
   sheet-read : read_sheet s ≡ then' (read_clauses (words s) p (map row_id rs)) (λ x. accepted (stated ns rs p x))
@@ -68,8 +69,8 @@ module _ {s : List ℕ} {p : Places} {ns : List (List ℕ)} {rs : List Row} (h :
       go (refused c) q = never cc
 
   said_same : (warns : Bool) (x : List Clause × List Arm) → said_of warns (stated ns rs p x) ≡ said_by (leaves (world_by warns ns rs) p x)
-  unfolding run start world_of bytes_of
-  said_same warns x = λ i. (run warns (stated ns rs p x), sym (ap reverse (told_back (kinds (world_by warns ns rs) x.0) []) ∙ reverse-reverse (kinds (world_by warns ns rs) x.0)) i)
+  unfolding run start world_of bytes_of old_exists
+  said_same warns x = λ i. (run warns (stated ns rs p x), (sym (ap reverse (told_back (kinds (world_by warns ns rs) x.0) []) ∙ reverse-reverse (kinds (world_by warns ns rs) x.0)) i, old_exists (stated ns rs p x)))
 
   said-known : (warns : Bool) → then' (read_sheet s) (λ st. accepted (said_of warns st)) ≡ then' (sheet_go (world_by warns ns rs) p (words s)) (λ u. accepted (said_by u))
   said-known warns = rw (sheet-read, apart-sheet (world_by warns ns rs) rs rows-by p (words s)) (go (read_clauses (words s) p (map row_id rs)))
@@ -91,6 +92,7 @@ pub record Says (warns : Bool) (s : List ℕ) (u : Both) : Type 0 where
   pub read : read_sheet s ≡ accepted statement
   pub names : run warns statement ≡ u.names
   pub found : kinds (world_of warns statement) statement.head ≡ reverse u.kinds
+  pub olds : old_exists statement ≡ u.olds
 
 -- The same, by what comes out.
 module _ {s : List ℕ} {p : Places} {ns : List (List ℕ)} {rs : List Row} (h : HasTables s p ns rs) (warns : Bool) (w : World) (e : w ≡ world_by warns ns rs) where
@@ -98,7 +100,7 @@ module _ {s : List ℕ} {p : Places} {ns : List (List ℕ)} {rs : List Row} (h :
   when-accepted {u} q = go (read_sheet s) refl (apart-statement h warns w e ∙ ap (λ (g : Sheet Both). then' g (λ x. accepted (said_by x))) q)
     where
       go : (a : Sheet Statement) → read_sheet s ≡ a → then' a (λ st. accepted (said_of warns st)) ≡ accepted (said_by u) → Says warns s u
-      go (accepted st) is same = let y : said_of warns st ≡ said_by u = cc in record { statement = st; read = is; names = λ i. (y i).0; found = λ i. (y i).1 }
+      go (accepted st) is same = let y : said_of warns st ≡ said_by u = cc in record { statement = st; read = is; names = λ i. (y i).0; found = λ i. (y i).1.0; olds = λ i. (y i).1.1 }
       go (refused c) is same = never cc
 
   pub when-refused : {c : ℕ} → sheet_go w p (words s) ≡ refused c → read_sheet s ≡ refused c

@@ -23,7 +23,7 @@ use Rattle.fused.proofs.ApartClauses.{counted-law}
 
 -- as v, but with a list behind what is visible
 abbrev pub behind : List Seen → Both → Both
-behind B v = record { names = standing (v.names.visible ++ B) v.names.cur v.names; kinds = v.kinds; known = v.known }
+behind B v = record { names = standing (v.names.visible ++ B) v.names.cur v.names; kinds = v.kinds; known = v.known; olds = v.olds }
 
 carry-last : (w : World) (ps : List Pair) (s : State) → (carry_all w ps s).last ≡ s.last
 unfolding carry_all
@@ -45,7 +45,7 @@ module _ (w : World) (t : Tables) (free : (v : ℕ) → t.known v ≡ true) wher
       named false q es = absurd (true≢false (sym q))
 
       one : (es : Exprs) → left m v (acts w m plain es (behind B v)) ≡ left m v (acts w m plain es v)
-      one es = λ i. record { names = named m.resolves e es i; kinds = (acts w m plain es v).kinds; known = (acts w m plain es v).known }
+      one es = λ i. record { names = named m.resolves e es i; kinds = (acts w m plain es v).kinds; known = (acts w m plain es v).known; olds = (acts w m plain es v).olds }
 
   -- a WITH's new Root with a star, and its sort keys
   pub star-sort : (m : Mode) (a b : ℕ) (q : Taken) (s u : Both) (n : ℕ) (r : List ℕ) → m.resolves ≡ true → q.star ≡ true

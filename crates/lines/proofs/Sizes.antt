@@ -1,20 +1,21 @@
 -- How long a line and a listing are, and that a line is short, since a number has few digits and a name is a part of its section.
 use Prim.Native.Nat.{ℕ, zero, suc, ◌+◌, ◌^◌, ◌<◌, ◌≤◌}
 use native.Mathlib.Omega.{arith}
-use mathlib.Core.Path.{◌≡◌}
+use mathlib.Core.Path.{◌≡◌, refl}
 use mathlib.Core.Bool.{Bool, true, false, cond}
-use mathlib.Core.List.{List, [], ◌∷◌, flat_map, map}
+use mathlib.Core.List.{List, [], ◌∷◌, ◌++◌, flat_map, map}
 use lib.Dec.{leb}
 use lib.ListN.{length, take, drop, length-append, length-take, length-drop}
 use Rattle.std.specs.Prelude.{Option, None, Some}
-use Rattle.words.specs.Decimal.{width}
+use Rattle.words.specs.Decimal.{width, decimal}
 use Rattle.words.proofs.Digits.{width-le, length-decimal}
 use Rattle.tables.specs.Name.{text_at, length_at, name_at}
 use Rattle.semantics.specs.Log.{Finding}
+use Rattle.texts.specs.Bytes.{bytes}
 use Rattle.texts.specs.Codes.{text_for}
 use Rattle.texts.specs.declared.Text.{Text}
 use Rattle.texts.proofs.Short.{text-short}
-use Rattle.lines.specs.Lines.{name_of, said_text, front, line_for, line, listed}
+use Rattle.lines.specs.Lines.{name_of, said_text, front, line_for, line, old_line, listed}
 
 -- a number that a word holds
 abbrev pub Small : ℕ → Type 0
@@ -37,9 +38,28 @@ module _ (code a b : ℕ) where
     pub line-most : Small code → Small a → Small b → length (line_for code a b one two x) ≤ 167 + length x
     line-most h g f = omega (arith, line-long, front_long, width-le code h, width-le a g, width-le b f, said-short (text_for code one) x two)
 
-pub listed-long : (names : List (List ℕ)) (fs : List Finding) → length (listed names fs) ≡ 10 + width (length fs) + length (flat_map (line names) fs)
+-- the line of the expressions 25, and that there is none without them
+pub old-none : {n : ℕ} → n ≡ 0 → old_line n ≡ []
+unfolding old_line
+old-none e = rw e
+
+pub old-some : (n : ℕ) → 0 < n → old_line n ≡ bytes "old exists " ++ (decimal n ++ bytes "\n")
+unfolding old_line
+old-some zero h = absurd (omega arith)
+old-some (suc n) h = refl
+
+pub old-long : (n : ℕ) → 0 < n → length (old_line n) ≡ 12 + width n
+old-long n h = rw (old-some n h) (simp length-append (omega (arith, length-decimal n)))
+
+pub old-short : (n : ℕ) → Small n → length (old_line n) ≤ 22
+unfolding old_line
+old-short zero h = omega arith
+old-short (suc n) h = omega (arith, old-long (suc n) (omega arith), width-le (suc n) h)
+
+pub listed-long : (names : List (List ℕ)) (fs : List Finding) (olds : ℕ) →
+    length (listed names fs olds) ≡ 10 + width (length fs) + length (flat_map (line names) fs) + length (old_line olds)
 unfolding listed
-listed-long names fs = simp length-append (omega (arith, length-decimal (length fs)))
+listed-long names fs olds = simp length-append (omega (arith, length-decimal (length fs)))
 
 -- a name is no longer than its section
 name-short : (s : List ℕ) (p : ℕ) → length (name_at s p) ≤ length s

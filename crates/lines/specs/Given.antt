@@ -43,9 +43,9 @@ first found n = findings_in found.front n found.words.now
 
 -- the text of a listing
 abbrev pub text_of : Names → Found → List ℕ
-text_of names found = listed (texts_of names) (first found found.count)
+text_of names found = listed (texts_of names) (first found found.count) found.olds
 
 -- whether so many bytes hold a listing of that length; that of a sheet's findings is below 2^32
 pub record Measured (len room : ℕ) (r : Bool) : Type 0 where
   pub fits : r ≡ leb len room
-  pub small : len ≤ 17408020
+  pub small : len ≤ 17119274

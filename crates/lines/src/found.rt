@@ -4,12 +4,14 @@ ghost use Rattle.std.specs.Prelude.{ℕ, ◌*◌, ◌^◌, ◌<◌, ◌≤◌, l
 use finding::{Finding, six_at};
 
 // So many findings, no more than a sheet has words, as flat words, six each: the first ones stand from the front of the words on, the others
-// from their end back. The words are the log's, which are lent (no heap), so front and count stand beside them.
+// from their end back. The words are the log's, which are lent (no heap), so front and count stand beside them; and so does how many expressions
+// 25 the sheet has.
 #[derive(Clone, Copy)]
 pub struct Found<'a> {
     pub words: &'a [u32],
     pub front: usize,
     pub count: usize,
+    pub olds: u32,
     pub ghost few: { count ≤ 2048 },
     pub ghost flat: { count * 6 ≤ length words.now },
     pub ghost small: { (i : ℕ) → get_or words.now i 0 < 2 ^ 32 },

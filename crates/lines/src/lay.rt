@@ -5,7 +5,7 @@ ghost use Rattle.words.specs.Decimal.{decimal};
 ghost use Rattle.texts.specs.Bytes.{bytes};
 ghost use Rattle.texts.specs.Laid.{Lays};
 ghost use Rattle.texts.specs.Codes.{text_for};
-ghost use Rattle.lines.specs.Lines.{said_text, front, line_for};
+ghost use Rattle.lines.specs.Lines.{said_text, front, line_for, old_line};
 
 use finding::Finding;
 use texts::{lay, text_for, write_text};
@@ -98,4 +98,16 @@ pub fn lay_head(n: u32, page: &mut [u8]) -> usize
 {
     let a = lay(b"findings ", 0, page);
     lay_number(n, b'\n', a, page)
+}
+
+// The last line, `old exists` and how many of them there are: none for 0.
+pub fn lay_old(n: u32, out: &mut [u8]) -> usize
+    requires { length (old_line n) ≤ length out.old }
+    ensures { Lays (old_line n) out.old 0 out.new result }
+{
+    if n == 0 {
+        return 0;
+    }
+    let a = lay(b"old exists ", 0, out);
+    lay_number(n, b'\n', a, out)
 }

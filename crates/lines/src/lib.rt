@@ -16,8 +16,8 @@ ghost use Rattle.lines.specs.Lines.{line};
 ghost use Rattle.lines.specs.Given.{texts_of, first, text_of, Measured};
 
 pub use found::Found;
-use lay::{lay_head, lay_line};
-use measure::line_len;
+use lay::{lay_head, lay_line, lay_old};
+use measure::{line_len, old_len};
 pub use names::Names;
 use refusal::Refusal;
 use words::decimal_width;
@@ -35,14 +35,15 @@ fn lay_lines(names: &Names, found: &Found, out: &mut [u8]) -> usize
     at
 }
 
-// `findings` and their number, and a line each.
+// `findings` and their number, a line each, and the line of the expressions 25.
 #[tactic(auto, using(crate::proofs::Most::lengths))]
 fn lay_all(names: &Names, found: &Found, page: &mut [u8]) -> usize
     requires { length (text_of names.now found.now) ≤ length page.old }
     ensures { Lays (text_of names.now found.now) page.old 0 page.new result }
 {
     let a = lay_head(found.count as u32, page);
-    a + lay_lines(names, found, &mut page[a..])
+    let b = a + lay_lines(names, found, &mut page[a..]);
+    b + lay_old(found.olds, &mut page[b..])
 }
 
 // Whether a page of so many bytes holds the listing. Each line counts with the most that it may have, until it is measured; lines are
@@ -52,7 +53,10 @@ fn has_room(names: &Names, found: &Found, room: usize) -> bool
     ensures { Measured (length (text_of names.now found.now)) room result }
 {
     let most = 167 + names.section.len();
-    let mut need = 10 + decimal_width(found.count as u32) + found.count * most;
+    let mut need = 10
+        + decimal_width(found.count as u32)
+        + old_len(found.olds)
+        + found.count * most;
     for i in 0..found.count {
         if need <= room {
             return true;

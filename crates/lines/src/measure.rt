@@ -2,7 +2,7 @@
 ghost use Rattle.std.specs.Prelude.{◌≡◌, ◌+◌, ◌≤◌, length};
 ghost use Rattle.words.specs.Decimal.{width};
 ghost use Rattle.texts.specs.Codes.{text_for};
-ghost use Rattle.lines.specs.Lines.{said_text, line_for};
+ghost use Rattle.lines.specs.Lines.{said_text, line_for, old_line};
 
 use finding::Finding;
 use texts::{text_for, text_len};
@@ -26,4 +26,14 @@ pub fn line_len(f: Finding, x: &[u8]) -> usize
     ensures { result ≡ length (line_for f.code f.start f.end f.one f.two x.now) }
 {
     5 + decimal_width(f.start) + decimal_width(f.end) + said_len(f, x)
+}
+
+// `old exists `, a line feed, and the number between them; nothing for 0.
+pub fn old_len(n: u32) -> usize
+    ensures { result ≡ length (old_line n) }
+{
+    if n == 0 {
+        return 0;
+    }
+    12 + decimal_width(n)
 }

@@ -1,5 +1,5 @@
 -- What a run over a sheet gives its listing: a refusal is handed on, and 8 is given by what it counted; else the findings that it left in words
--- are the definition's, and what is written of them and of the names that a table has is the listing.
+-- are the definition's, as are the expressions 25 that it counted, and what is written of them and of the names that a table has is the listing.
 use Prim.Native.Nat.{ℕ, ◌+◌, ◌*◌, ◌<◌, ◌≤◌}
 use native.Mathlib.Omega.{arith}
 use mathlib.Core.Path.{◌≡◌, refl, sym}
@@ -27,7 +27,7 @@ use Rattle.semantics.specs.Resolve.{run, log}
 use Rattle.semantics.specs.Kinds.{kinds}
 use Rattle.semantics.specs.Lists.{findings}
 use Rattle.rows.specs.declared.Index.{Index}
-use Rattle.steps.specs.declared.log.Log.{Log}
+use Rattle.steps.specs.declared.Walk.{Walk}
 use Rattle.sheet_walk.specs.Runs.{id_of, RanTo}
 use Rattle.sheet_walk.specs.declared.Choice.{Choice}
 use Rattle.sheet_walk.specs.declared.Scratch.{Scratch}
@@ -66,7 +66,7 @@ module _ (warns : Bool) {s : List ℕ} {a : Scratch} {old carried : List ℕ} {x
   enough : fits warns r.statement ≡ leb a.walk.made entries && leb a.walk.taken entries
   enough = rw (r.bindings, r.carried_names) (counted warns s r.statement r.read)
 
-  pub from-run : a.walk.made ≤ entries → a.walk.taken ≤ entries → FoundIn warns s a.places.now a.walk.log
+  pub from-run : a.walk.made ≤ entries → a.walk.taken ≤ entries → FoundIn warns s a.places.now a.walk
   unfolding findings log
   from-run m t =
       let st = r.statement in
@@ -76,6 +76,7 @@ module _ (warns : Bool) {s : List ℕ} {a : Scratch} {old carried : List ℕ} {x
         fitting = rw (enough, le-leb a.walk.made entries m, le-leb a.walk.taken entries t);
         names = r.names;
         lists = laid (id_of st) a.walk.log.said a.walk.log.told a.walk.log.words.now (run warns st).log (kinds (world_of warns st) st.head) r.log r.kinds;
+        olds = r.olds;
         few = r.few;
         many = r.many;
         wide = r.wide;
@@ -91,9 +92,9 @@ module _ (warns : Bool) {s : List ℕ} {a : Scratch} {old carried : List ℕ} {x
   pub many-carried : (page : List ℕ) → entries < a.walk.taken → Writes (listing warns s) page page (Err Entries)
   many-carried page h = eight page (rw (lt-leb a.walk.taken entries h, and-false))
 
--- an accepted sheet's names and findings
-pub listed-is : {warns : Bool} {s places : List ℕ} {l : Log} → FoundIn warns s places l → {p : Places} → p ≡ places_of (words s) → {old page : List ℕ} {r : Result ℕ Refusal} →
-    Writes (accepted (listed (names_in (take (p.rows * 4) s) p.names places) (findings_in l.said (l.said + l.told) l.words.now))) old page r → Writes (listing warns s) old page r
+-- an accepted sheet's names and findings, and its expressions 25
+pub listed-is : {warns : Bool} {s places : List ℕ} {w : Walk} → FoundIn warns s places w → {p : Places} → p ≡ places_of (words s) → {old page : List ℕ} {r : Result ℕ Refusal} →
+    Writes (accepted (listed (names_in (take (p.rows * 4) s) p.names places) (findings_in w.log.said (w.log.said + w.log.told) w.log.words.now) w.olds)) old page r → Writes (listing warns s) old page r
 unfolding listing
 listed-is {s = s} f {p} e x =
-    rw (f.read, f.fitting) (rw (e, f.names, f.lists) at x)
+    rw (f.read, f.fitting) (rw (e, f.names, f.lists, f.olds) at x)

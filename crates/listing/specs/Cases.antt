@@ -1,5 +1,5 @@
--- Document 01's cases that are marked +, and its traps, and of document 02 a sort key (CR 1), a star and an alias (CR 2), and a name that came
--- over a WITH beside a fresh one (CR 3), one table: from bytes to use ids, refusals, lists and the listing.
+-- Document 01's cases that are marked +, and its traps, and of document 02 a sort key (CR 1), a star and an alias (CR 2), a name that came
+-- over a WITH beside a fresh one (CR 3), and expressions 25 (CR 6), one table: from bytes to use ids, refusals, lists and the listing.
 use Rattle.std.specs.Prelude.{ℕ, ◌≡◌, refl, true, false, List, [], ◌∷◌, map, replicate, Option, None, Some}
 use Rattle.words.specs.Words.{words}
 use Rattle.words.specs.Fnv.{use_id, fnv1_of, fnv_from, fnv_step}
@@ -12,13 +12,16 @@ use Rattle.heads.specs.Answer.{is_in}
 use Rattle.expr.specs.Tree.{tree}
 use Rattle.expr.specs.Read.{reading}
 use Rattle.expr.specs.Binders.{binder, binders_e, all_known}
+use Rattle.expr.specs.Olds.{olds_e, olds, olds_s}
 use Rattle.clauses.specs.Read.{clausal}
 use Rattle.clauses.specs.Binders.{binders_p, binders_c, binders_a}
+use Rattle.clauses.specs.Olds.{olds_c, olds_cs, olds_as}
 use Rattle.tables.specs.Distinct.{same_bytes, name_in, fresh_after, distinct}
 use Rattle.tables.specs.Name.{all_zero, name_body, read_name}
 use Rattle.tables.specs.Row.{row_id, read_row}
 use Rattle.sheet.specs.Trailer.{sized, in_place, places_of}
 use Rattle.sheet.specs.Read.{Sheet, accepted, refused, read_names, read_rows, read_clauses, locate, read_sections, read_sheet}
+use Rattle.sheet.specs.Olds.{old_exists}
 use Rattle.sheet.specs.Write.{bytes_of}
 use Rattle.scope.specs.Graph.{Scope, scope, Entry, entry, Carried, carried}
 use Rattle.scope.specs.Lookup.{Looked, at, nothing, bound_in, carries as carries_name, parent_at, kind_at, answer_at, passes, climb, lookup_in}
@@ -30,7 +33,7 @@ use Rattle.semantics.specs.Lists.{scopes, bindings, carried_list, recorded, find
 use Rattle.texts.specs.Bytes.{bytes}
 use Rattle.texts.specs.Texts.{type_name, kind_name, text_of}
 use Rattle.texts.specs.Codes.{of2007, of2008, of5010, unused, text_for}
-use Rattle.lines.specs.Lines.{front, line_for, line, listed}
+use Rattle.lines.specs.Lines.{front, line_for, line, old_line, listed}
 use Rattle.listing.specs.Listing.{fits, listing}
 
 -- What a case shows.
@@ -211,6 +214,17 @@ carried_and_fresh =
     ∷ 4 ∷ 27 ∷ 38 ∷ 2 ∷ 0 ∷ 8 ∷ 0 ∷ 0 ∷ 8 ∷ 1
     ∷ 58 ∷ 2 ∷ 54 ∷ 2 ∷ 44 ∷ 4 ∷ 0 ∷ 0 ∷ 0 ∷ 38 ∷ []
 
+-- a Where, an Unwind's list, a sort key of a Return, and a Where of an arm, each the same expression of one word
+abbrev pub four_places : ℕ → List ℕ
+four_places e =
+    1 ∷ 97
+    ∷ 0 ∷ 0 ∷ 4 ∷ 11 ∷ 12
+    ∷ 2 ∷ 0 ∷ 9 ∷ e
+    ∷ 5 ∷ 10 ∷ 20 ∷ 0 ∷ e
+    ∷ 13 ∷ 21 ∷ 30 ∷ 1 ∷ 0 ∷ 3 ∷ 1 ∷ e
+    ∷ 31 ∷ 40 ∷ 1 ∷ 2 ∷ 31 ∷ 40 ∷ e
+    ∷ 31 ∷ 1 ∷ 29 ∷ 1 ∷ 24 ∷ 3 ∷ 7 ∷ 1 ∷ 0 ∷ 40 ∷ []
+
 abbrev pub cases : List Case
 cases =
     -- 40 zero bytes are accepted; 36, 42 and 8,196 bytes are not
@@ -274,8 +288,11 @@ cases =
     ∷ case (bytes_of carried_and_fresh) its_recorded (records (write 1 (found 1 1 0) ∷ write 0xFAF3A281 (found 1 1 1) ∷ write 0xFAF3A282 (found 2 1 0) ∷ []))
     ∷ case (bytes_of carried_and_fresh) (looks_up 5 0) (looked (at 1 3))
     ∷ case (bytes_of carried_and_fresh) (looks_up 5 1) (looked (at 2 4))
+    -- expressions 25 are counted wherever they stand, and no other
+    ∷ case (bytes_of (four_places 25)) its_listing (text (bytes "findings 0\nold exists 4\n"))
+    ∷ case (bytes_of (four_places 1)) its_listing (text (bytes "findings 0\n"))
     ∷ []
 
 pub cases-hold : map given cases ≡ map expected cases
-unfolding words use_id fnv1_of fnv_from fnv_step low_digits width_within decimal_width decimal is_utf8 goes_on step after word_in many counted shape_of limit_of form_none form_one case_rest comp_rest rest_of read_form read_maybe read_part read_elem deep_cause is_in tree reading binder binders_e all_known clausal binders_p binders_c binders_a same_bytes name_in fresh_after distinct all_zero name_body read_name row_id read_row sized in_place places_of read_names read_rows read_clauses locate read_sections read_sheet bytes_of bound_in carries_name parent_at kind_at answer_at passes climb lookup_in covers width better narrowest scope_at_offset logs walk kind_walk lists type_name kind_name text_of of2007 of2008 of5010 unused text_for front line_for line listed fits listing
+unfolding words use_id fnv1_of fnv_from fnv_step low_digits width_within decimal_width decimal is_utf8 goes_on step after word_in many counted shape_of limit_of form_none form_one case_rest comp_rest rest_of read_form read_maybe read_part read_elem deep_cause is_in tree reading binder binders_e all_known clausal binders_p binders_c binders_a same_bytes name_in fresh_after distinct all_zero name_body read_name row_id read_row sized in_place places_of read_names read_rows read_clauses locate read_sections read_sheet bytes_of bound_in carries_name parent_at kind_at answer_at passes climb lookup_in covers width better narrowest scope_at_offset logs walk kind_walk lists type_name kind_name text_of of2007 of2008 of5010 unused text_for front line_for line old_line listed olds_e olds olds_s olds_c olds_cs olds_as old_exists fits listing
 cases-hold = refl

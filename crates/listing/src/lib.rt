@@ -35,21 +35,23 @@ const FOR_1024: usize = 1024 * 16 + 8;
 
 const FOR_2048: usize = 2048 * 16 + 8;
 
-// What was found, `said` of it by the name walk: words and counts as a Log has them, of which only these are read.
-fn found_in(words: &[u32], said: u32, told: u32) -> Found<'_>
+// What was found, `said` of it by the name walk: words and counts as a Log has them, of which only these are read, and how many expressions 25
+// the walk has counted.
+fn found_in(words: &[u32], said: u32, told: u32, olds: u32) -> Found<'_>
     requires { (said + told ≤ 2048) × ((said + told) * 6 ≤ length words.now) }
-    ensures { (result.words.now ≡ words.now) × ((result.front ≡ said) × (result.count ≡ said + told)) }
+    ensures { (result.words.now ≡ words.now) × ((result.front ≡ said) × ((result.count ≡ said + told) × (result.olds ≡ olds))) }
 {
     Found {
         words,
         front: said as usize,
         count: said as usize + told as usize,
+        olds,
     }
 }
 
 // The lines of what a run found in a sheet, or 10.
 fn write(s: &[u8], warns: bool, scratch: &Scratch, page: &mut [u8]) -> Result<usize, Refusal>
-    requires { FoundIn warns s.now scratch.now.places.now scratch.now.walk.log }
+    requires { FoundIn warns s.now scratch.now.places.now scratch.now.walk }
     ensures { WritesAsWord (listing warns s.now) page.old page.new result }
 {
     let p = find_places(s)?;
@@ -58,7 +60,7 @@ fn write(s: &[u8], warns: bool, scratch: &Scratch, page: &mut [u8]) -> Result<us
         places: &scratch.places[..p.names as usize],
     };
     let log = &scratch.walk.log;
-    let found = found_in(log.words, log.said, log.told);
+    let found = found_in(log.words, log.said, log.told, scratch.walk.olds);
     write_listing(&names, &found, page)
 }
 

@@ -31,6 +31,7 @@ module _ {c : Context} (h : Bor (List ℕ)) where
         last = f.last;
         count = f.count;
         stack = f.stack;
+        olds = f.olds;
         needs = f.needs;
         within = f.within;
         names = f.names;
@@ -38,7 +39,7 @@ module _ {c : Context} (h : Bor (List ℕ)) where
       }
 
   holds_on : {id : ℕ → ℕ} {w : Walk} {s : Both} → Holds id c w s → Holds id (hushing c h) w s
-  holds_on j = record { visible = j.visible; cur = j.cur; last = j.last; log = j.log; kinds = j.kinds; known = j.known; counts = j.counts; uses = j.uses }
+  holds_on j = record { visible = j.visible; cur = j.cur; last = j.last; log = j.log; kinds = j.kinds; known = j.known; olds = j.olds; counts = j.counts; uses = j.uses }
 
 module _ {c : Context} (h : Bor (List ℕ)) {k : ℕ} {held marks : List ℕ} (clear : Clear c marks) (o : Marked 1 k held marks h.now) where
   same-go : (mode : Mode) (id : ℕ → ℕ) → counted_at (hushing c h) mode id ≡ hushed_at c mode (aliases_in k held) id

@@ -20,9 +20,9 @@ use Rattle.steps.proofs.Held.{no-count, says_if}
 use Rattle.sheet_walk.specs.Parts.{CutTo, Beginning, Uses, Begins}
 use Rattle.sheet_walk.proofs.Section.{cut-long, tail-long}
 
--- no names, no events, no findings
+-- no names, no events, no findings, no expression 25
 abbrev nothing : Both
-nothing = record { names = record { visible = []; cur = 0; last = 0; log = [] }; kinds = []; known = true }
+nothing = record { names = record { visible = []; cur = 0; last = 0; log = [] }; kinds = []; known = true; olds = 0 }
 
 kept-none : (b : Bool) → kept b [] ≡ []
 unfolding kept written
@@ -50,6 +50,7 @@ module _ {p : Places} {c : Context} {w : Walk} (b : Beginning p c w) where
           last = omega arith;
           count = omega arith;
           stack = omega (arith, few, b.set.few);
+          olds = omega arith;
           needs = omega arith;
           within = omega (arith, l, h.head);
           names = omega (arith, b.names, l, t);
@@ -66,6 +67,7 @@ module _ {p : Places} {c : Context} {w : Walk} (b : Beginning p c w) where
           log = sym (kept-none c.wants);
           kinds = refl;
           known = refl;
+          olds = refl;
           counts = record { made = refl; taken = refl };
           uses = uses;
         }

@@ -81,6 +81,7 @@ module _ {to : ℕ} {c c' : Context} (k : CutTo to c c') where
         log = rw k.wants h.log;
         kinds = h.kinds;
         known = h.known;
+        olds = h.olds;
         counts = h.counts;
         uses = rw (k.names, k.uses) h.uses;
       }
@@ -94,6 +95,7 @@ module _ {to : ℕ} {c c' : Context} (k : CutTo to c c') where
         log = rw k.wants at h.log;
         kinds = h.kinds;
         known = h.known;
+        olds = h.olds;
         counts = h.counts;
         uses = rw (k.names, k.uses) at h.uses;
       }
@@ -110,6 +112,7 @@ fit-alike a b f =
       last = f.last;
       count = f.count;
       stack = f.stack;
+      olds = f.olds;
       needs = f.needs;
       within = rw b f.within;
       names = rw b f.names;
@@ -231,6 +234,7 @@ stands_on {p} {c} {w = w} b seen wrote st =
             last = f.last;
             count = f.count;
             stack = f.stack;
+            olds = f.olds;
             needs = f.needs;
             within = omega (arith, st.at, l, h.places.tail);
             names = omega (arith, b.names, seen, l, t);

@@ -1,5 +1,5 @@
--- What a run tells of a sheet whose tables are right: that it is refused (`refuses`), or the statement's names, its events and findings, and what
--- it carries (`runs`), for the walk in one is the definition's reading and its two walks.
+-- What a run tells of a sheet whose tables are right: that it is refused (`refuses`), or the statement's names, its events and findings, how many
+-- expressions 25 it has and what it carries (`runs`), for the walk in one is the definition's reading and its two walks.
 use Prim.Native.Nat.{ℕ, ◌+◌, ◌*◌, ◌≤◌}
 use native.Mathlib.Omega.{arith}
 use mathlib.Core.Path.{◌≡◌, ap, sym, ◌∙◌, fun_ext}
@@ -74,6 +74,7 @@ module _ {s : List ℕ} {p : Places} {choice : Choice} {x : Index} {a : Scratch}
         uses = h.uses;
         log = ap (λ (f : ℕ → ℕ). events_in f a.walk.log) ids-same ∙ g.holds.log ∙ kept-as q.wants b.names;
         kinds = g.holds.kinds ∙ sym (ap reverse b.found ∙ reverse-reverse g.state.kinds);
+        olds = g.holds.olds ∙ sym b.olds;
         bindings = rw b.names g.holds.counts.made;
         carried_names = rw b.names g.holds.counts.taken;
         carries = rw b.names (y.walks.walked.takes id (uses t q used) g.state g.same);

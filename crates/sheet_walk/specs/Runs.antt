@@ -8,6 +8,7 @@ use Rattle.refusal.specs.declared.Refusal.{Refusal}
 use Rattle.tables.specs.Answer.{names_in}
 use Rattle.sheet.specs.Trailer.{places_of}
 use Rattle.sheet.specs.Statement.{Statement}
+use Rattle.sheet.specs.Olds.{old_exists}
 use Rattle.sheet.specs.Read.{accepted, refused, read_sheet}
 use Rattle.semantics.specs.World.{bytes_of, row_kind, kind_of, world_of}
 use Rattle.semantics.specs.Resolve.{run}
@@ -24,8 +25,9 @@ use Rattle.sheet_walk.specs.declared.Scratch.{Scratch}
 abbrev pub id_of : Statement → ℕ → ℕ
 id_of st x = use_id (bytes_of st x)
 
--- An accepted sheet: where its names stand, their use ids, and what the walks said, newest first; what its bindings and its carried list need, and
--- that list, if the lent words `old` have room for it; the kinds of variables, by the rows that hang in the chains.
+-- An accepted sheet: where its names stand, their use ids, what the walks said, newest first, and how many expressions 25 it has; what its
+-- bindings and its carried list need, and that list, if the lent words `old` have room for it; the kinds of variables, by the rows that hang in
+-- the chains.
 pub record RanTo (choice : Choice) (s : List ℕ) (a : Scratch) (old carried : List ℕ) (x : Index) : Type 0 where
   pub statement : Statement
   pub read : read_sheet s ≡ accepted statement
@@ -33,6 +35,7 @@ pub record RanTo (choice : Choice) (s : List ℕ) (a : Scratch) (old carried : L
   pub uses : take (places_of (words s)).names a.ids.now ≡ map use_id statement.names
   pub log : events_in (id_of statement) a.walk.log ≡ kept choice.wants (run choice.warns statement).log
   pub kinds : findings_in a.walk.log ≡ reverse (kinds (world_of choice.warns statement) statement.head)
+  pub olds : a.walk.olds ≡ old_exists statement
   pub bindings : a.walk.made ≡ needs.made (run choice.warns statement).log
   pub carried_names : a.walk.taken ≡ needs.carried_in (run choice.warns statement).log
   pub carries : Carries old carried (run choice.warns statement).log

@@ -2,12 +2,13 @@
 -- Steps of which nothing is to be done (`idle-as`, `none_told`), and in a mode in which one of the walks looks or does not (`checked-step`,
 -- `unchecked-step`, `resolved_step`, `unresolved-step`).
 -- A use of a variable: `var-said`, `quiet-use`, `rowless-use`, `checked-use`, `unchecked-use`. Of a name: `unwanted-name`, `missing-name`,
--- `found_name`; of one that is no use, `hushed-use`; then E1001, `missed-use`, `star-use`, `seen-use`. A head by its act: `by-act`; its
+-- `found_name`; of one that is no use, `hushed-use`; then E1001, `missed-use`, `star-use`, `seen-use`. A head by its act: `by-act`, with `none-counted`; its
 -- cost: `some_cost`; after its parts, `closed-stays`, `closed-fits`, `closed-frame`, `closed-holds`.
 use Rattle.std.specs.Prelude.{Option, None, Some}
 use Prim.Native.Nat.{ℕ, zero, suc, ◌+◌, ◌≤◌}
 use lib.Dec.{eqb}
 use lib.ListN.{get_or}
+use native.Mathlib.Nat.{add-zero}
 use native.Mathlib.Numerals.{add-one}
 use native.Mathlib.Omega.{arith}
 use mathlib.Core.Path.{◌≡◌, refl, ap, sym, subst, ◌∙◌}
@@ -15,6 +16,7 @@ use mathlib.Core.Bool.{Bool, true, false, cond, ◌&&◌}
 use mathlib.Core.List.{List, [], ◌∷◌}
 use Rattle.heads.specs.declared.Form.{Form}
 use Rattle.heads.specs.declared.Form.TheVariants.{Leaf, Var, Unresolved, Prop, Two, Slice, Many, BinOp, UnaryOp, Case, IsNull, PatternPredicate, ListComprehension, PatternComprehension, ListPredicate, MapProjection}
+use Rattle.expr.specs.Olds.{old_in}
 use Rattle.tables.specs.Row.{Row, row}
 use Rattle.semantics.specs.Log.{Finding, finding, find}
 use Rattle.semantics.specs.World.{World, row_kind, kind_of}
@@ -22,7 +24,7 @@ use Rattle.semantics.specs.Resolve.{Hit, hit, State, lookup, say, say_if, leave,
 use Rattle.semantics.specs.Kinds.{no_type, map_type, leaf_types, type_of, at_type, at_row}
 use Rattle.semantics.specs.Kinds as kinds
 use Rattle.theorems.specs.Needs.{made, carried_in}
-use Rattle.fused.specs.Fused.{Both, when, told, step, same, left, tail_of, name_use, head_of}
+use Rattle.fused.specs.Fused.{Both, when, told, counting, step, same, left, tail_of, name_use, head_of}
 use Rattle.fused.specs.Fused as fused
 use Rattle.rows.specs.Rows.{shown}
 use Rattle.rows.specs.Table.{row_in}
@@ -106,7 +108,7 @@ record Unmoved (wants : Bool) (s t : State) : Type 0 where
   made : made s.log ≡ made t.log
   taken : carried_in s.log ≡ carried_in t.log
 
-still-holds : {id : ℕ → ℕ} {c : Context} {w : Walk} {s : Both} {t : State} {fs : List Finding} → Holds id c w s → Unmoved c.wants s.names t → s.kinds ≡ fs → Holds id c w (record { names = t; kinds = fs; known = s.known })
+still-holds : {id : ℕ → ℕ} {c : Context} {w : Walk} {s : Both} {t : State} {fs : List Finding} → Holds id c w s → Unmoved c.wants s.names t → s.kinds ≡ fs → Holds id c w (record { names = t; kinds = fs; known = s.known; olds = s.olds })
 still-holds h u e =
     record {
       visible = h.visible ∙ u.visible;
@@ -115,6 +117,7 @@ still-holds h u e =
       log = h.log ∙ u.log;
       kinds = h.kinds ∙ e;
       known = h.known;
+      olds = h.olds;
       counts = record { made = h.counts.made ∙ u.made; taken = h.counts.taken ∙ u.taken };
       uses = h.uses;
     }
@@ -272,31 +275,35 @@ map-numbered false = refl
 shows : (W : World) (m : fused.Mode) (d : kinds.Setting) {t : ℕ} (s : Both) → type_number (type_at t) ≡ t → acts W m d (Shows (type_at t)) s ≡ step m same (at_type d t) s
 shows W m d s e = rw e
 
-head-acts : (W : World) (m : fused.Mode) (d : kinds.Setting) (f : Form) (s : Both) → acts W m d (act_of f) s ≡ head_of W m f d s
-unfolding type_of
-head-acts W m d (Leaf k) s = shows W m d s (leaf-numbered k)
-head-acts W m d (Var v) s = refl
-head-acts W m d (Unresolved x) s = refl
-head-acts W m d (Prop x) s = refl
-head-acts W m d (Two k) s = refl
-head-acts W m d (Slice b) s = refl
-head-acts W m d (Many k n) s = shows W m d s (map-numbered (eqb k 13))
-head-acts W m d (BinOp o) s = refl
-head-acts W m d (UnaryOp o) s = refl
-head-acts W m d (Case b n) s = refl
-head-acts W m d IsNull s = refl
-head-acts W m d PatternPredicate s = refl
-head-acts W m d (ListComprehension g) s = refl
-head-acts W m d (PatternComprehension a b g) s = refl
-head-acts W m d (ListPredicate g) s = refl
-head-acts W m d (MapProjection n) s = refl
+-- nothing is counted
+pub none-counted : (s : Both) → counting 0 s ≡ s
+none-counted s = rw (add-zero s.olds)
 
-pub by-act : {c : Context} {w w' : Walk} (f : Form) {a : Act} → act_of f ≡ a → (m : Mode) (set : Setting) → Steps (cost_in a) c w w' (λ id. acts (world_at c id) (mode_of m) (setting_of set) a) →
+head-acts : (W : World) (m : fused.Mode) (d : kinds.Setting) (f : Form) (s : Both) → old_in f ≡ 0 → acts W m d (act_of f) s ≡ head_of W m f d s
+unfolding type_of
+head-acts W m d (Leaf k) s e = rw e (shows W m d s (leaf-numbered k) ∙ sym (none-counted (step m same (at_type d (get_or leaf_types k no_type)) s)))
+head-acts W m d (Var v) s e = refl
+head-acts W m d (Unresolved x) s e = refl
+head-acts W m d (Prop x) s e = refl
+head-acts W m d (Two k) s e = refl
+head-acts W m d (Slice b) s e = refl
+head-acts W m d (Many k n) s e = shows W m d s (map-numbered (eqb k 13))
+head-acts W m d (BinOp o) s e = refl
+head-acts W m d (UnaryOp o) s e = refl
+head-acts W m d (Case b n) s e = refl
+head-acts W m d IsNull s e = refl
+head-acts W m d PatternPredicate s e = refl
+head-acts W m d (ListComprehension g) s e = refl
+head-acts W m d (PatternComprehension a b g) s e = refl
+head-acts W m d (ListPredicate g) s e = refl
+head-acts W m d (MapProjection n) s e = refl
+
+pub by-act : {c : Context} {w w' : Walk} (f : Form) {a : Act} → old_in f ≡ 0 → act_of f ≡ a → (m : Mode) (set : Setting) → Steps (cost_in a) c w w' (λ id. acts (world_at c id) (mode_of m) (setting_of set) a) →
     Steps (cost_of f) c w w' (λ id. head_of (world_at c id) (mode_of m) f (setting_of set))
-by-act {c} {w} {w'} f e m set s =
+by-act {c} {w} {w'} f o e m set s =
     as-steps _
     (subst (λ (b : Act). Steps (cost_in b) c w w' (λ id. acts (world_at c id) (mode_of m) (setting_of set) b)) (sym e) s)
-    (λ id b. head-acts (world_at c id) (mode_of m) (setting_of set) f b)
+    (λ id b. head-acts (world_at c id) (mode_of m) (setting_of set) f b o)
 
 -- a head is paid for
 some_act : (a : Act) → 1 ≤ cost_in a

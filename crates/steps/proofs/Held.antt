@@ -88,8 +88,8 @@ framed-idle = framed-same refl refl refl
 -- ---- room
 -- what fits after a change
 pub refit : {e t i k : ℕ} {c : Context} {w w' : Walk} → Fits e t c w → Still w w' → Sound w'.visible → Descends w'.cur (entries w'.visible) → w'.cur ≤ w'.last → w'.last + k ≤ w'.at →
-    w'.log.said + w'.log.told + i ≤ w'.at + 1 → w'.visible.names + w'.visible.top + k ≤ w'.at + 1 → w'.made + w'.taken + k * 16384 ≤ w'.at * 16384 → w'.at ≤ length (words_in c) → Fits i k c w'
-refit f y a b d l n s m z =
+    w'.log.said + w'.log.told + i ≤ w'.at + 1 → w'.visible.names + w'.visible.top + k ≤ w'.at + 1 → w'.olds + i ≤ w'.at + 1 → w'.made + w'.taken + k * 16384 ≤ w'.at * 16384 → w'.at ≤ length (words_in c) → Fits i k c w'
+refit f y a b d l n s o m z =
     record {
       some = omega (arith, f.some, y.visible.names);
       places = omega (arith, f.places, y.visible.names);
@@ -99,6 +99,7 @@ refit f y a b d l n s m z =
       last = l;
       count = n;
       stack = s;
+      olds = o;
       needs = m;
       within = z;
       names = omega (arith, f.names, y.visible.size);
@@ -108,7 +109,7 @@ refit f y a b d l n s m z =
 -- fewer words that nothing was done for
 pub lower : {e t i k : ℕ} {c : Context} {w : Walk} → i ≤ e → k ≤ t → Fits e t c w → Fits i k c w
 lower a b f =
-    refit f still-idle f.sound f.descends f.cur (omega (arith, f.last)) (omega (arith, f.count)) (omega (arith, f.stack)) (omega (arith, f.needs)) f.within
+    refit f still-idle f.sound f.descends f.cur (omega (arith, f.last)) (omega (arith, f.count)) (omega (arith, f.stack)) (omega (arith, f.olds)) (omega (arith, f.needs)) f.within
 
 pub ready-less : {j k : ℕ} {c : Context} {w : Walk} → k ≤ j → Ready j c w → Ready k c w
 ready-less h r = record { fine = r.fine; fit = lower h h r.fit }
@@ -214,7 +215,7 @@ recounted p q c = record { made = p ∙ c.made; taken = q ∙ c.taken }
 -- a log that has the words of the other, and says or tells one thing more
 logged-fits : {e t i k : ℕ} {c : Context} {w : Walk} {l : Log} → Still w (logged w l) → l.said + l.told ≤ suc (w.log.said + w.log.told) → Fits (suc e) t c w → i ≤ e → k ≤ t → Fits i k c (logged w l)
 logged-fits y h f a b =
-    refit f y f.sound f.descends f.cur (omega (arith, f.last)) (omega (arith, f.count)) (omega (arith, f.stack)) (omega (arith, f.needs)) f.within
+    refit f y f.sound f.descends f.cur (omega (arith, f.last)) (omega (arith, f.count)) (omega (arith, f.stack)) (omega (arith, f.olds)) (omega (arith, f.needs)) f.within
 
 module _ {c : Context} {w : Walk} {l : Log} {event : List ℕ} (p : Says event w.log l) where
   pub says-costs : ((id : ℕ → ℕ) (r : List Event) → kept c.wants (event_by id event ∷ r) ≡ event_by id event ∷ kept c.wants r) → ((id : ℕ → ℕ) → Uncounted (event_by id event)) →
@@ -234,6 +235,7 @@ module _ {c : Context} {w : Walk} {l : Log} {event : List ℕ} (p : Says event w
               log = p.events id ∙ ap (λ r. event_by id event ∷ r) h.log ∙ sym (z id s.names.log);
               kinds = p.findings ∙ h.kinds;
               known = h.known;
+              olds = h.olds;
               counts = uncounted (y id) (recounted refl refl h.counts);
               uses = h.uses;
             };
@@ -246,7 +248,7 @@ module _ {c : Context} {w : Walk} {l : Log} {event : List ℕ} (p : Says event w
 -- what is not wanted is not said
 pub unsaid-step : {j k : ℕ} {c : Context} {w : Walk} (e : (ℕ → ℕ) → Event) → ((id : ℕ → ℕ) (l : List Event) → kept c.wants (e id ∷ l) ≡ kept c.wants l) → ((id : ℕ → ℕ) → Uncounted (e id)) → Costs j k c w w (λ id. on_names (say (e id)))
 unsaid-step e z y =
-    idle-step _ (λ id s h. record { visible = h.visible; cur = h.cur; last = h.last; log = h.log ∙ sym (z id s.names.log); kinds = h.kinds; known = h.known; counts = uncounted (y id) h.counts; uses = h.uses })
+    idle-step _ (λ id s h. record { visible = h.visible; cur = h.cur; last = h.last; log = h.log ∙ sym (z id s.names.log); kinds = h.kinds; known = h.known; olds = h.olds; counts = uncounted (y id) h.counts; uses = h.uses })
 
 module _ {c : Context} {w : Walk} {l : Log} {one : List ℕ} (p : Tells one w.log l) where
   pub tells-costs : Costs 1 0 c w (logged w l) (λ id. on_kinds (finding_by one ∷ []))
@@ -266,6 +268,7 @@ module _ {c : Context} {w : Walk} {l : Log} {one : List ℕ} (p : Tells one w.lo
               log = p.events id ∙ h.log;
               kinds = p.findings ∙ ap (λ r. finding_by one ∷ r) h.kinds;
               known = h.known;
+              olds = h.olds;
               counts = recounted refl refl h.counts;
               uses = h.uses;
             };

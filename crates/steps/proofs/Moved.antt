@@ -42,7 +42,7 @@ opens {c} {w} =
       at = refl;
       still = still;
       fit = λ i k f.
-          refit f still f.sound (descends-above (w.last + 1) w.cur (entries w.visible) (omega (arith, f.cur)) f.descends) (omega arith) (omega (arith, f.last)) (omega (arith, f.count)) (omega (arith, f.stack)) (omega (arith, f.needs)) f.within;
+          refit f still f.sound (descends-above (w.last + 1) w.cur (entries w.visible) (omega (arith, f.cur)) f.descends) (omega arith) (omega (arith, f.last)) (omega (arith, f.count)) (omega (arith, f.stack)) (omega (arith, f.olds)) (omega (arith, f.needs)) f.within;
       frame = record { top = omega arith; last = omega arith; below = refl; levels = λ d h. refl };
       goes = λ id s h.
           record {
@@ -52,6 +52,7 @@ opens {c} {w} =
             log = h.log;
             kinds = h.kinds;
             known = h.known;
+            olds = h.olds;
             counts = recounted refl refl h.counts;
             uses = h.uses;
           };
@@ -81,7 +82,7 @@ pushes {c} {w} {vis} {x} {v} p =
       at = refl;
       still = still;
       fit = λ i k f.
-          refit f still p.sound (subst (λ l. Descends w.cur l) (sym p.same) (omega arith, f.descends)) f.cur (omega (arith, f.last)) (omega (arith, f.count)) (omega (arith, f.stack, p.height, p.still.names)) (omega (arith, f.needs)) f.within;
+          refit f still p.sound (subst (λ l. Descends w.cur l) (sym p.same) (omega arith, f.descends)) f.cur (omega (arith, f.last)) (omega (arith, f.count)) (omega (arith, f.stack, p.height, p.still.names)) (omega (arith, f.olds)) (omega (arith, f.needs)) f.within;
       frame =
           record {
             top = omega (arith, p.height);
@@ -97,6 +98,7 @@ pushes {c} {w} {vis} {x} {v} p =
             log = h.log;
             kinds = h.kinds;
             known = h.known;
+            olds = h.olds;
             counts = recounted refl refl h.counts;
             uses = h.uses;
           };
@@ -113,7 +115,7 @@ makes c w l x v k y few logs kinds =
       at = refl;
       still = still;
       fit = λ i k f.
-          refit f still f.sound f.descends f.cur (omega (arith, f.last)) (omega (arith, f.count, few)) (omega (arith, f.stack)) (omega (arith, f.needs)) f.within;
+          refit f still f.sound f.descends f.cur (omega (arith, f.last)) (omega (arith, f.count, few)) (omega (arith, f.stack)) (omega (arith, f.olds)) (omega (arith, f.needs)) f.within;
       frame = framed-same refl refl refl;
       goes = λ id s h.
           record {
@@ -123,6 +125,7 @@ makes c w l x v k y few logs kinds =
             log = logs id s.names.log h.log;
             kinds = kinds ∙ h.kinds;
             known = h.known;
+            olds = h.olds;
             counts = record { made = ap suc h.counts.made; taken = h.counts.taken };
             uses = h.uses;
           };
@@ -185,7 +188,7 @@ module _ {c : Context} {w : Walk} (v : ℕ) where
   unfolding all_known
   noted-idle q =
       idle-step _
-      (λ id s h. record { visible = h.visible; cur = h.cur; last = h.last; log = h.log; kinds = h.kinds; known = h.known ∙ known-stays s.known (row_in c.rows v) q; counts = h.counts; uses = h.uses })
+      (λ id s h. record { visible = h.visible; cur = h.cur; last = h.last; log = h.log; kinds = h.kinds; known = h.known ∙ known-stays s.known (row_in c.rows v) q; olds = h.olds; counts = h.counts; uses = h.uses })
 
   pub noted-lost : is_some (row_in c.rows v) ≡ false → Costs 0 0 c w (record w { known = false }) (λ id. noting (world_at c id) (v ∷ []))
   unfolding all_known
@@ -194,7 +197,7 @@ module _ {c : Context} {w : Walk} (v : ℕ) where
       record {
         at = refl;
         still = still;
-        fit = λ i k f. refit f still f.sound f.descends f.cur (omega (arith, f.last)) (omega (arith, f.count)) (omega (arith, f.stack)) (omega (arith, f.needs)) f.within;
+        fit = λ i k f. refit f still f.sound f.descends f.cur (omega (arith, f.last)) (omega (arith, f.count)) (omega (arith, f.stack)) (omega (arith, f.olds)) (omega (arith, f.needs)) f.within;
         frame = framed-same refl refl refl;
         goes = λ id s h.
             record {
@@ -204,6 +207,7 @@ module _ {c : Context} {w : Walk} (v : ℕ) where
               log = h.log;
               kinds = h.kinds;
               known = known-falls s.known (row_in c.rows v) q;
+              olds = h.olds;
               counts = recounted refl refl h.counts;
               uses = h.uses;
             };
@@ -224,7 +228,7 @@ module _ {room e t i k : ℕ} {c : Context} {w n : Walk} {vis : Visible} (f : Fi
 
   cut-fits : Fits i k c (record n { visible = vis; cur = w.cur })
   cut-fits =
-      refit g cut-still p.sound (subst (λ l. Descends w.cur l) (sym cut-below.0) f.descends) (omega (arith, f.cur, r.last)) g.last g.count (omega (arith, g.stack, r.top, p.back, p.still.names)) g.needs g.within
+      refit g cut-still p.sound (subst (λ l. Descends w.cur l) (sym cut-below.0) f.descends) (omega (arith, f.cur, r.last)) g.last g.count (omega (arith, g.stack, r.top, p.back, p.still.names)) g.olds g.needs g.within
 
   cut-frame : Frame room w (record n { visible = vis; cur = w.cur })
   cut-frame = record { top = omega (arith, p.back); last = r.last; below = cut-below.1; levels = r.levels }
@@ -238,6 +242,7 @@ module _ {room e t i k : ℕ} {c : Context} {w n : Walk} {vis : Visible} (f : Fi
         log = j.log;
         kinds = j.kinds;
         known = j.known;
+        olds = j.olds;
         counts = recounted refl refl j.counts;
         uses = j.uses;
       }

@@ -44,8 +44,8 @@ module _ {c : Context} {w w1 : Walk} {x v k : ℕ} {t : Bool} (a b : ℕ) (y : B
   pub anew-no : t ≡ false → Costs 1 3 c w w1 (λ id. on_names (bind_anew (world_at c id) a b x v k))
   anew-no z = anew-not (rw z (and-false c.warns))
 
-both-same : {n n' : State} {k k' : List Finding} (b : Bool) → n ≡ n' → k ≡ k' → ◌≡◌ {A = Both} (record { names = n; kinds = k; known = b }) (record { names = n'; kinds = k'; known = b })
-both-same b p q = rw (p, q)
+both-same : {n n' : State} {k k' : List Finding} (b : Bool) (o : ℕ) → n ≡ n' → k ≡ k' → ◌≡◌ {A = Both} (record { names = n; kinds = k; known = b; olds = o }) (record { names = n'; kinds = k'; known = b; olds = o })
+both-same b o p q = rw (p, q)
 
 is_name : {names x : ℕ} {o : Option Row} {r : Option (ℕ × ℕ)} → ShownTo names o r → x ≡ name_in r → x ≡ row_name o
 is_name {o = o} h q = q ∙ rw h.same (name-as o)
@@ -56,7 +56,7 @@ module _ {c : Context} {w w1 w2 w3 : Walk} {r : Option (ℕ × ℕ)} {x : ℕ} (
   unfolding binder variable bind_path row_for name_of
   path-steps b t =
       as-steps _ (then-steps (then-steps y b) (tells-if t))
-      (λ id s. both-same _ (rw (is_name shows named)) (rw shows.same (misplaced-as m.checks (row_in c.rows v) 1 3 0 0 s.kinds)))
+      (λ id s. both-same _ _ (rw (is_name shows named)) (rw shows.same (misplaced-as m.checks (row_in c.rows v) 1 3 0 0 s.kinds)))
 
   pub elem-steps : {va : Option ℕ} (kind start end : ℕ) → va ≡ Some v → Costs 1 3 c w1 w2 (λ id. on_names (when (mode_of m).resolves (λ y. bind_new (world_at c id) (lookup x y.visible) x v kind y))) →
       TellsIf (misplaced_in m.checks kind r) (2008 ∷ start ∷ end ∷ suc (name_in r) ∷ (kind + 1) ∷ kind_in r ∷ []) w2 w3 →
@@ -65,7 +65,7 @@ module _ {c : Context} {w w1 w2 w3 : Walk} {r : Option (ℕ × ℕ)} {x : ℕ} (
   elem-steps kind start end e b t =
       rw e
       (as-steps _ (then-steps (then-steps y b) (tells-if t))
-      (λ id s. both-same _ (rw (is_name shows named)) (rw (shows.same, add-one kind) (misplaced-as m.checks (row_in c.rows v) (suc kind) kind start end s.kinds))))
+      (λ id s. both-same _ _ (rw (is_name shows named)) (rw (shows.same, add-one kind) (misplaced-as m.checks (row_in c.rows v) (suc kind) kind start end s.kinds))))
 
 -- no variable
 and-true : (b : Bool) → b && true ≡ b

@@ -1,5 +1,6 @@
 // What the head of an expression does before its parts and after them. A finding's code is a number, since that is its name in document 01.
-ghost use Rattle.std.specs.Prelude.{◌≡◌, ◌<◌, ◌≤◌, get_or};
+ghost use Rattle.std.specs.Prelude.{◌≡◌, ◌<◌, ◌≤◌, cond, get_or};
+ghost use Rattle.expr.specs.Olds.{old_in};
 ghost use Rattle.semantics.specs.Resolve.{lookup, use_var};
 ghost use Rattle.semantics.specs.Kinds.{no_type, leaf_types, at_type, at_row};
 ghost use Rattle.fused.specs.Fused.{step, same, name_use, head_of};
@@ -50,6 +51,16 @@ fn act_of(f: Form) -> Act
         Form::PatternPredicate => Act::Shows(Some(Type::Pattern)),
         Form::PatternComprehension(a, b, _) => Act::Opens(a, b),
         _ => Act::Shows(None),
+    }
+}
+
+// Whether it is an expression 25.
+fn is_old(f: Form) -> bool
+    ensures { old_in f ≡ cond result 1 0 }
+{
+    match f {
+        Form::Leaf(k) => k == 25,
+        _ => false,
     }
 }
 
@@ -121,22 +132,15 @@ impl Walk<'_> {
         }
     }
 
-    // An expression 25 is counted, whichever walk looks.
-    fn count_old(&mut self, context: &Context, f: Form)
-        requires { Ready 1 context.now self.old }
-        ensures { Costs 1 0 context.now self.old self.new (λ id. counting (old_in f)) }
-    {
-        if let Form::Leaf(25) = f {
-            self.olds += 1;
-        }
-    }
-
-    // What a head does before its parts.
+    // What a head does before its parts. An expression 25 is counted, whichever walk looks, and shows nothing.
     pub fn begin(&mut self, context: &Context, f: Form, mode: Mode, set: Setting)
         requires { Named (names_in context.now) f × Ready (cost_of f) context.now self.old }
         ensures { Steps (cost_of f) context.now self.old self.new (λ id. head_of (world_at context.now id) (mode_of mode) f (setting_of set)) }
     {
-        self.count_old(context, f);
+        if is_old(f) {
+            self.olds += 1;
+            return;
+        }
         match act_of(f) {
             Act::Shows(t) => self.show(context, t, mode, set),
             Act::Uses(v) => self.use_var(context, v, mode, set),

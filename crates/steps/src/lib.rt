@@ -30,8 +30,8 @@ pub struct Level {
 }
 
 // Where both walks stand: the next word, what is visible, the current scope and the last one, what was said and told, whether every binder so
-// far had a row, how many expressions 25 were read, how many bindings were made and how many names carried; and what waits at each level of a row, in an array, since there is no heap:
-// one for each room from 0 to the limit.
+// far had a row, how many expressions 25 were read, how many bindings were made and how many names carried; and what waits at each level of a
+// row, in an array, since there is no heap: one for each room from 0 to the limit.
 #[derive(Drop)]
 pub struct Walk<'a> {
     pub at: usize,

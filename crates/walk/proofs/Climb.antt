@@ -251,6 +251,7 @@ written {w = w} d x b o =
             last = f.last;
             count = f.count;
             stack = f.stack;
+            olds = f.olds;
             needs = f.needs;
             within = f.within;
             names = f.names;
@@ -260,7 +261,7 @@ written {w = w} d x b o =
       on = λ id s h. let n = o.on id s h in let k = n.holds in
           record {
             state = n.state;
-            holds = record { visible = k.visible; cur = k.cur; last = k.last; log = k.log; kinds = k.kinds; known = k.known; counts = record { made = k.counts.made; taken = k.counts.taken }; uses = k.uses };
+            holds = record { visible = k.visible; cur = k.cur; last = k.last; log = k.log; kinds = k.kinds; known = k.known; olds = k.olds; counts = record { made = k.counts.made; taken = k.counts.taken }; uses = k.uses };
             same = n.same;
           };
     }

@@ -26,6 +26,7 @@ use Rattle.steps.specs.Hold.{cost_of}
 use Rattle.steps.specs.declared.mode.Setting.{Setting as Setting'}
 use Rattle.steps.specs.declared.mode.Setting.TheVariants.{General, Arithmetic, Property, Boolean, Indexed, Sliced, Iterated, Quantified}
 use Rattle.steps.specs.declared.mode.Settings.{Settings}
+use Rattle.steps.proofs.Heads.{none-counted}
 use Rattle.walk.proofs.Codes.{both_true}
 use Rattle.walk.specs.Plain.{shape, limit, headed, parts_of, type_by, number_of, Plain, Plainly}
 
@@ -81,12 +82,12 @@ laws : Each (λ code. (a : ℕ) → 0 < shape code → a ≤ limit code → Law 
 unfolding shape_of limit_of form_none form_one type_of settings
 laws =
     (λ a h l. absurd (omega arith))  -- none
-    ▹ (λ a h l. of (bare refl refl) (omega arith) (omega arith) (omega arith) (omega arith) (omega arith) (λ x y z i c. refl) (λ x y w m c s. refl) (λ w E m s r. refl) (λ m s t. refl) refl)  -- 1 Null
-    ▹ (λ a h l. of (bare refl refl) (omega arith) (omega arith) (omega arith) (omega arith) (omega arith) (λ x y z i c. refl) (λ x y w m c s. refl) (λ w E m s r. refl) (λ m s t. refl) refl)  -- 2 Bool
-    ▹ (λ a h l. of (bare refl refl) (omega arith) (omega arith) (omega arith) (omega arith) (omega arith) (λ x y z i c. refl) (λ x y w m c s. refl) (λ w E m s r. refl) (λ m s t. refl) refl)  -- 3 Int
-    ▹ (λ a h l. of (bare refl refl) (omega arith) (omega arith) (omega arith) (omega arith) (omega arith) (λ x y z i c. refl) (λ x y w m c s. refl) (λ w E m s r. refl) (λ m s t. refl) refl)  -- 4 Float
-    ▹ (λ a h l. of (bare refl refl) (omega arith) (omega arith) (omega arith) (omega arith) (omega arith) (λ x y z i c. refl) (λ x y w m c s. refl) (λ w E m s r. refl) (λ m s t. refl) refl)  -- 5 String
-    ▹ (λ a h l. of (bare refl refl) (omega arith) (omega arith) (omega arith) (omega arith) (omega arith) (λ x y z i c. refl) (λ x y w m c s. refl) (λ w E m s r. refl) (λ m s t. refl) refl)  -- 6 Param
+    ▹ (λ a h l. of (bare refl refl) (omega arith) (omega arith) (omega arith) (omega arith) (omega arith) (λ x y z i c. refl) (λ x y w m c s. none-counted _) (λ w E m s r. refl) (λ m s t. refl) refl)  -- 1 Null
+    ▹ (λ a h l. of (bare refl refl) (omega arith) (omega arith) (omega arith) (omega arith) (omega arith) (λ x y z i c. refl) (λ x y w m c s. none-counted _) (λ w E m s r. refl) (λ m s t. refl) refl)  -- 2 Bool
+    ▹ (λ a h l. of (bare refl refl) (omega arith) (omega arith) (omega arith) (omega arith) (omega arith) (λ x y z i c. refl) (λ x y w m c s. none-counted _) (λ w E m s r. refl) (λ m s t. refl) refl)  -- 3 Int
+    ▹ (λ a h l. of (bare refl refl) (omega arith) (omega arith) (omega arith) (omega arith) (omega arith) (λ x y z i c. refl) (λ x y w m c s. none-counted _) (λ w E m s r. refl) (λ m s t. refl) refl)  -- 4 Float
+    ▹ (λ a h l. of (bare refl refl) (omega arith) (omega arith) (omega arith) (omega arith) (omega arith) (λ x y z i c. refl) (λ x y w m c s. none-counted _) (λ w E m s r. refl) (λ m s t. refl) refl)  -- 5 String
+    ▹ (λ a h l. of (bare refl refl) (omega arith) (omega arith) (omega arith) (omega arith) (omega arith) (λ x y z i c. refl) (λ x y w m c s. none-counted _) (λ w E m s r. refl) (λ m s t. refl) refl)  -- 6 Param
     ▹ (λ a h l. of (worded refl refl (λ names n. omega arith)) (omega arith) (omega arith) (omega arith) (omega arith) (omega arith) (λ x y z i c. refl) (λ x y w m c s. absurd (x refl)) (λ w E m s r. refl) (λ m s t. refl) refl)  -- 7 Var
     ▹ (λ a h l. of (worded refl refl (λ names n. n refl)) (omega arith) (omega arith) (omega arith) (omega arith) (omega arith) (λ x y z i c. refl) (λ x y w m c s. absurd (y refl)) (λ w E m s r. refl) (λ m s t. refl) refl)  -- 8 Unresolved
     ▹ (λ a h l. of (worded refl refl (λ names n. n refl)) (omega arith) (omega arith) (omega arith) (omega arith) (omega arith) (λ x y z i c. absurd (x refl)) (λ x y w m c s. refl) (λ w E m s r. refl) (λ m s t. refl) refl)  -- 9 Prop
@@ -105,7 +106,7 @@ laws =
     ▹ (λ a h l. absurd (omega arith))  -- 22 PatternComprehension
     ▹ (λ a h l. of (worded refl refl (λ names n. omega arith)) (omega arith) (omega arith) (omega arith) (omega arith) (omega arith) (λ x y z i c. refl) (λ x y w m c s. refl) (λ w E m s r. refl) (λ m s t. refl) refl)  -- 23 ListPredicate
     ▹ (λ a h l. absurd (omega arith))  -- 24 MapProjection
-    ▹ (λ a h l. of (bare refl refl) (omega arith) (omega arith) (omega arith) (omega arith) (omega arith) (λ x y z i c. refl) (λ x y w m c s. refl) (λ w E m s r. refl) (λ m s t. refl) refl)  -- 25 ExistsSubqueryDeferred
+    ▹ (λ a h l. absurd (omega arith))  -- 25 ExistsSubqueryDeferred
     ▹ record { at = λ k a h l. absurd (omega arith) }
 
 pub law : (code a : ℕ) → 0 < shape code → a ≤ limit code → Law code a
@@ -197,7 +198,7 @@ unfolding told
 still m (f ∷ fs) s e = never (cc)
 still m [] s e = go m.resolves m.checks s.names s.kinds
   where
-    go : (b d : Bool) (n : State) (k : List Finding) → ◌≡◌ {A = Both} (record { names = when b same n; kinds = when d (told []) k; known = s.known }) (record { names = n; kinds = k; known = s.known })
+    go : (b d : Bool) (n : State) (k : List Finding) → ◌≡◌ {A = Both} (record { names = when b same n; kinds = when d (told []) k; known = s.known; olds = s.olds }) (record { names = n; kinds = k; known = s.known; olds = s.olds })
     go true true n k = refl
     go true false n k = refl
     go false true n k = refl

@@ -43,6 +43,7 @@ module _ {w : Walk} {p : ℕ} where
         last = omega (arith, f.last);
         count = omega (arith, f.count);
         stack = omega (arith, f.stack);
+        olds = omega (arith, f.olds);
         needs = omega (arith, f.needs);
         within = e;
         names = f.names;
@@ -58,6 +59,7 @@ module _ {w : Walk} {p : ℕ} where
         log = h.log;
         kinds = h.kinds;
         known = h.known;
+        olds = h.olds;
         counts = record { made = h.counts.made; taken = h.counts.taken };
         uses = h.uses;
       }

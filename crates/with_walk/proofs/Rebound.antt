@@ -220,10 +220,10 @@ module _ {w : Walk} (b k : ℕ) where
 
   -- words pay for them
   counts-fit : {c : Context} {i t : ℕ} → w.made + b + (w.taken + k) + t * 16384 ≤ w.at * 16384 → Fits i t c w → Fits i t c (record w { taken = w.taken + k; made = w.made + b })
-  counts-fit h f = refit f counts-still f.sound f.descends f.cur f.last f.count f.stack h f.within
+  counts-fit h f = refit f counts-still f.sound f.descends f.cur f.last f.count f.stack f.olds h f.within
 
   -- and the state that it counts is held
-  counts-hold : {id : ℕ → ℕ} {c : Context} {s : Both} {t : State} {l : List Seen} → Beside c.wants k b l s.names t → l ≡ s.names.visible → Holds id c w s → Holds id c (record w { taken = w.taken + k; made = w.made + b }) (record { names = t; kinds = s.kinds; known = s.known })
+  counts-hold : {id : ℕ → ℕ} {c : Context} {s : Both} {t : State} {l : List Seen} → Beside c.wants k b l s.names t → l ≡ s.names.visible → Holds id c w s → Holds id c (record w { taken = w.taken + k; made = w.made + b }) (record { names = t; kinds = s.kinds; known = s.known; olds = s.olds })
   counts-hold z e h =
       record {
         visible = h.visible ∙ sym (z.visible ∙ e);
@@ -232,6 +232,7 @@ module _ {w : Walk} (b k : ℕ) where
         log = h.log ∙ sym z.log;
         kinds = h.kinds;
         known = h.known;
+        olds = h.olds;
         counts = record { made = omega (arith, h.counts.made, z.made); taken = omega (arith, h.counts.taken, z.taken) };
         uses = h.uses;
       }

@@ -36,7 +36,7 @@ module _ {w : Walk} {v : Visible} (y : stack.Still w.visible v) where
   seen-still = record { visible = y; log = log-idle }
 
   pub seen-fits : {c : Context} {i k : ℕ} → Fits i k c w → Sound v → Descends w.cur (entries v) → v.names + v.top + k ≤ w.at + 1 → Fits i k c (record w { visible = v })
-  seen-fits f a d s = refit f seen-still a d f.cur f.last f.count s f.needs f.within
+  seen-fits f a d s = refit f seen-still a d f.cur f.last f.count s f.olds f.needs f.within
 
 pub seen-holds : {id : ℕ → ℕ} {c : Context} {w : Walk} {v : Visible} {l : List Seen} {s : Both} → entries v ≡ l → Holds id c w s → Holds id c (record w { visible = v }) (on_names (standing l w.cur) s)
 seen-holds e h =
@@ -47,6 +47,7 @@ seen-holds e h =
       log = h.log;
       kinds = h.kinds;
       known = h.known;
+      olds = h.olds;
       counts = recounted refl refl h.counts;
       uses = h.uses;
     }
@@ -128,7 +129,7 @@ each_seen {n} {p} {w₀} {v} b c =
       fit = λ i k f h. seen-fits b.still f b.sound b.descends (omega (arith, h, b.top, b.still.names));
       goes = λ id s h.
           let e : standing (above w₀.cur (pairs_in n p.words.now) (entries w₀.visible)) w₀.cur s.names ≡ seen_by (pairs_in n p.words.now) s.names = rw (seen_as_lem (pairs_in n p.words.now) s.names, h.visible, h.cur) in
-          subst (λ (t : State). Holds id c (record w₀ { visible = v }) (record { names = t; kinds = s.kinds; known = s.known })) e (seen-holds b.seen h);
+          subst (λ (t : State). Holds id c (record w₀ { visible = v }) (record { names = t; kinds = s.kinds; known = s.known; olds = s.olds })) e (seen-holds b.seen h);
     }
 
 pub all_seen : {n : ℕ} {p : Pairs} {w₀ w : Walk} {made : ℕ} → Seeing n p w₀ w made → SeesFirst n p w₀ w made

@@ -33,7 +33,7 @@ pub fn walk(statement: &Statement) -> Vec<Finding> {
 }
 
 /// The expressions of a clause: of a WITH projections, filter, sort keys, of a RETURN projections, sort keys.
-fn exprs(clause: &Clause) -> Vec<&Expr> {
+pub fn exprs(clause: &Clause) -> Vec<&Expr> {
     fn sorted<'a>(projections: &'a [Projection], filter: Option<&'a Expr>, keys: &'a [OrderItem]) -> Vec<&'a Expr> {
         projections.iter().map(|projection| &projection.expr).chain(filter).chain(keys.iter().map(|key| &key.expr)).collect()
     }

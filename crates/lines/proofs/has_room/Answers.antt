@@ -12,13 +12,16 @@ use Rattle.lines.proofs.Most.{needed-first, first-small, needed-one, needed-next
 use Rattle.lines.proofs.has_room.Goals as goal
 
 pub overflow_add-need : goal.overflow_add-need
-overflow_add-need c = omega (arith, c.decimal_width.ensures, first-small c.args.names.now c.args.found.now)
+overflow_add-need c = omega (arith, c.decimal_width.ensures, first-small c.args.names.now c.args.found.now (omega arith))
+
+pub overflow_add-need-2 : goal.overflow_add-need-2
+overflow_add-need-2 c = omega (arith, c.decimal_width.ensures, c.old_len.ensures, first-small c.args.names.now c.args.found.now (omega arith))
 
 pub loop-i-init : goal.loop-i-init
 loop-i-init c =
     let names = c.args.names.now in
     let found = c.args.found.now in
-    record { same = omega (arith, c.decimal_width.ensures, needed-first names found); small = omega (arith, c.decimal_width.ensures, first-small names found) }
+    record { same = omega (arith, c.decimal_width.ensures, c.old_len.ensures, needed-first names found); small = omega (arith, c.decimal_width.ensures, c.old_len.ensures, first-small names found (omega arith)) }
 
 pub returns-then-need-room : goal.returns-then-need-room
 returns-then-need-room c =
@@ -26,7 +29,7 @@ returns-then-need-room c =
     let found = c.args.found.now in
     record {
       fits = sym (le-leb (length (text_of names found)) c.args.room (omega (arith, needed-enough names found c.loop-i.i (omega arith), c.loop-i.invariant.same, c.if-need-room.true)));
-      small = listed_small names found;
+      small = listed_small names found (omega arith);
     }
 
 pub line_len-requires : goal.line_len-requires
@@ -60,5 +63,5 @@ returns c =
     let e : c.loop-i.i ≡ found.count = omega arith in
     record {
       fits = ap (λ (len : ℕ). leb len c.args.room) ((rw e at c.loop-i.invariant.same) ∙ needed-last names found);
-      small = listed_small names found;
+      small = listed_small names found (omega arith);
     }

@@ -5,4 +5,4 @@ use Rattle.lines.proofs.Most.{needed}
 use Rattle.lines.proofs.has_room.Given as goal
 
 abbrev pub invariant-loop-i : goal.invariant-loop-i
-invariant-loop-i l = record { same : l.need ≡ needed l.names l.found l.i; small : l.need ≤ 17119252 }
+invariant-loop-i l = record { same : l.need ≡ needed l.names l.found l.i; small : l.need ≤ 17119274 }

@@ -1,10 +1,10 @@
--- The first line and the lines of the findings, laid where it ended.
+-- The first line, the lines of the findings and the last line, each laid where the one before ended.
 use Prim.Native.Nat.{◌+◌, ◌≤◌}
 use native.Mathlib.Omega.{arith}
 use mathlib.Core.List.{append_assoc}
 use lib.ListN.{length, length-append}
 use Rattle.words.proofs.Digits.{length-decimal}
-use Rattle.lines.specs.Lines.{listed}
+use Rattle.lines.specs.Lines.{old_line, listed}
 use Rattle.texts.proofs.Laying.{lays-then, lays-rest}
 use Rattle.lines.proofs.Told.{told, length-findings}
 use Rattle.lines.proofs.Most.{listed-told}
@@ -15,5 +15,8 @@ unfolding listed
 returns c =
     let names = c.args.names.now in
     let found = c.args.found.now in
-    let fits : c.lay_head-a.result + length (told names found found.count) ≤ length c.lay_head-a.new.page = omega (arith, listed-told c.args.names.now c.args.found.now, length-decimal c.args.found.now.count, c.requires, simp length-append at c.lay_head-a.ensures.next, c.lay_head-a.ensures.same) in
-    rw (length-findings found found.count) (simp append_assoc at (lays-then c.lay_head-a.ensures (lays-rest c.lay_lines.ensures fits)))
+    let fits : c.lay_head-a.result + length (told names found found.count) + length (old_line found.olds) ≤ length c.lay_head-a.new.page =
+    omega (arith, listed-told names found, length-decimal found.count, c.requires, simp length-append at c.lay_head-a.ensures.next, c.lay_head-a.ensures.same) in
+    let lines = lays-rest c.lay_lines.ensures (omega (arith, fits)) in
+    let last = lays-rest c.lay_old.ensures (omega (arith, fits, lines.next, lines.same)) in
+    rw (length-findings found found.count) (simp append_assoc at (lays-then c.lay_head-a.ensures (lays-then lines last)))

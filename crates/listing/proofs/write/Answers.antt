@@ -42,4 +42,4 @@ pub returns : goal.returns
 returns c =
     let there = places-of c.args.s.now c.in_ok-p.p (placed_at c.args.s.now c.in_ok-p.ensures).0 in
     let f = c.found_in-found.ensures in
-    (listed-is c.requires there (rw (f.0, f.1.0, f.1.1) at c.write_listing.ensures.0), c.write_listing.ensures.1)
+    (listed-is c.requires there (rw (f.0, f.1.0, f.1.1.0, f.1.1.1) at c.write_listing.ensures.0), c.write_listing.ensures.1)
