@@ -106,10 +106,15 @@ pub fn multiplier<F: Fn(u32) -> u32>(n: u32, word: F) -> u32
     if n <= 16 {
         return 2654435769;
     }
-    let mut hash: u32 = 2166136261;
-    for i in 0..n {
-        hash = (hash ^ word(i)).wrapping_mul(16777619);
+    // Two hashes, each of every other word: neither waits for the other's product.
+    let mut even: u32 = 2166136261;
+    let mut odd: u32 = 16777619;
+    for i in 0..n / 2 {
+        even = (even ^ word(i * 2)).wrapping_mul(16777619);
+        odd = (odd ^ word(i * 2 + 1)).wrapping_mul(16777619);
     }
+    let last = if n % 2 == 1 { word(n - 1) } else { 0 };
+    let hash = (even ^ last).wrapping_mul(16777619) ^ odd;
     hash / 2 * 2 + 1
 }
 

@@ -1,7 +1,8 @@
 -- What the parts of a run ask and leave: the tables of names and bindings, the sections of head and arms, and the walks over a whole sheet. Only
 -- contracts need these.
-use Rattle.std.specs.Prelude.{ℕ, ◌+◌, ◌*◌, ◌<◌, ◌≤◌, ◌≡◌, true, false, List, [], ◌∷◌, length, get_or, take, drop, Option, None, Some, Result, Ok, Err}
+use Rattle.std.specs.Prelude.{ℕ, ◌+◌, ◌*◌, ◌<◌, ◌≤◌, ◌≡◌, true, false, List, [], ◌∷◌, map, length, get_or, take, drop, Option, None, Some, Result, Ok, Err}
 use Rattle.words.specs.Words.{words}
+use Rattle.words.specs.Fnv.{use_id}
 use Rattle.refusal.specs.Number.{number_of}
 use Rattle.refusal.specs.declared.Refusal.{Refusal}
 use Rattle.heads.specs.Answer.{row_ids, is_in}
@@ -94,9 +95,11 @@ ReadsAs s p places ids chains (Ok x) = Reads s p places ids chains x
 ReadsAs s p places ids chains (Err e) = read_sheet s ≡ refused (number_of e)
 
 -- what the walks go by
-pub record Settling (s : List ℕ) (p : Places) (places : List ℕ) : Type 0 where
+pub record Settling (s : List ℕ) (p : Places) (places ids : List ℕ) : Type 0 where
   pub located : InPlaces s p
   pub named : p.names ≤ length places
+  pub used : p.names ≤ length ids
+  pub uses : take p.names ids ≡ map use_id (names_by s p places)
   pub below : p.names ≤ 8192
 
 pub record Settles (s : List ℕ) (p : Places) (choice : Choice) (x : Index) (places ids chains : List ℕ) (c : Context) : Type 0 where

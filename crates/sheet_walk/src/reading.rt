@@ -90,11 +90,12 @@ pub fn context_of<'a>(
     ids: &'a [u32],
     chains: &'a [u32],
 ) -> Context<'a>
-    requires { Settling s.now p places.now }
+    requires { Settling s.now p places.now ids.now }
     ensures { Settles s.now p choice index places.now ids.now chains.now result }
 {
     let part = &s[..p.rows * 4];
     let places = &places[..p.names as usize];
+    let named = &ids[..p.names as usize];
     Context {
         section: Section {
             bytes: s,
@@ -109,8 +110,8 @@ pub fn context_of<'a>(
         },
         uses: ids,
         hushed: &[],
-        star: index_of(part, places, b"*"),
-        ident: index_of(part, places, b"id"),
+        star: index_of(part, places, named, b"*"),
+        ident: index_of(part, places, named, b"id"),
         warns: choice.warns,
         wants: choice.wants,
     }

@@ -73,7 +73,8 @@ id-in x [] e = e
 id-in x (y ∷ ys) e =
     or_else (same_bytes x y) (name_in x ys) (eqb (use_id x) (use_id y)) (is_in (use_id x) (map use_id ys)) (λ h. eq-eqb _ _ (ap use_id (same-eq x y h))) (id-in x ys) e
 
-id-new : (x : List ℕ) (ys : List (List ℕ)) → is_in (use_id x) (map use_id ys) ≡ false → name_in x ys ≡ false
+-- one whose use id is not among theirs doesn't
+pub id-new : (x : List ℕ) (ys : List (List ℕ)) → is_in (use_id x) (map use_id ys) ≡ false → name_in x ys ≡ false
 id-new x ys e = is-not (name_in x ys) (λ h. false≢true (sym e ∙ id-in x ys h))
 
 -- one name on: it doesn't stand among those before it, and none after it does

@@ -41,6 +41,16 @@ first_from s x i (p ∷ places) = rw (same-pointwise x (name_at s p)) (go (bytes
     go true m o e = omega arith
     go false m o e = e ∙ sym (past-later i m)
 
+-- a text that is no name has no index
+pub index-none : (x : List ℕ) (ys : List (List ℕ)) → name_in x ys ≡ false → 0 ≡ index_of x ys
+unfolding name_in index_of
+index-none x [] e = refl
+index-none x (y ∷ ys) e = go (same_bytes x y) (name_in x ys) (index-none x ys) e
+  where
+    go : (t u : Bool) → (u ≡ false → 0 ≡ index_of x ys) → t || u ≡ false → 0 ≡ cond t 1 (later (index_of x ys))
+    go true u f e = absurd (false≢true (sym e))
+    go false u f e = rw (← f e) refl
+
 -- an index by whether the first name is sought: the first, and one after it
 first : (t : Bool) (m : ℕ) → eqb 1 (cond t 1 (later m)) ≡ t
 first true m = refl

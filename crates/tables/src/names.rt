@@ -105,11 +105,16 @@ pub fn are_read(s: &[u8], n: u32, tab: &mut [u32], ids: &mut [u32]) -> bool
     scan_names(s, n, tab, ids) == Ok(s.len())
 }
 
-// The index of the first of the names with these places whose text is x.
-pub fn index_of(s: &[u8], places: &[u32], x: &[u8]) -> Option<u32>
-    requires { length places.now ≤ 8192 }
+// The index of the first of the names with these places and use ids whose text is x: it has the id of x, so most sheets without x are told by the
+// ids.
+pub fn index_of(s: &[u8], places: &[u32], ids: &[u32], x: &[u8]) -> Option<u32>
+    requires few { length places.now ≤ 8192 }
+    requires used { ids.now ≡ map use_id (names_at s.now places.now) }
     ensures { number_of result ≡ index_of x.now (names_at s.now places.now) }
 {
+    if !ids.contains(&use_id(x)) {
+        return None;
+    }
     let i = places
         .iter()
         .position(|place| x == name_at(s, *place as usize))?;

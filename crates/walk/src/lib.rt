@@ -112,9 +112,9 @@ pub fn walk_row(
                 return Ok(());
             }
             d += 1;
-            let level = walk.levels[d as usize];
-            left = level.left as usize;
-            later = level.later;
+            // Each field by itself, as it was stored: one read of both would wait for the stores.
+            left = walk.levels[d as usize].left as usize;
+            later = walk.levels[d as usize].later;
             set = later;
         } else {
             let t = plain_at(bytes, names, walk.at, d);

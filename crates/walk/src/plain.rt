@@ -19,33 +19,16 @@ use words::{count, word};
 // The most parts that a row of the loop counts.
 pub const MOST: usize = 524287;
 
-// By code; 0 where no head with it is plain, as the definition's table has it.
+// By code; 0 where no head with it is plain, as the definition's table has it. A table and no match: a jump for each head would be mispredicted.
+const SHAPES: [u32; 26] = [
+    0, 15728642, 15728642, 16252930, 16252930, 16252930, 2, 16711683, 16711747, 583, 1034, 1335,
+    19, 15728659, 19, 2315, 7, 0, 6, 10, 0, 1563, 0, 7959, 0, 0,
+];
+
 fn shape(code: u32) -> u32
     ensures { result ≡ shape code }
 {
-    match code {
-        1 => 15728642,
-        2 => 15728642,
-        3 => 16252930,
-        4 => 16252930,
-        5 => 16252930,
-        6 => 2,
-        7 => 16711683,
-        8 => 16711747,
-        9 => 583,
-        10 => 1034,
-        11 => 1335,
-        12 => 19,
-        13 => 15728659,
-        14 => 19,
-        15 => 2315,
-        16 => 7,
-        18 => 6,
-        19 => 10,
-        21 => 1563,
-        23 => 7959,
-        _ => 0,
-    }
+    SHAPES.get(code as usize).copied().unwrap_or(0)
 }
 
 // By code: the most that the word after it may be, 4294967295 where it may be any; the definition's own table.
@@ -73,7 +56,11 @@ pub fn plain_at(s: &[u8], names: u32, at: usize, room: u32) -> u32
     if room == 0 {
         return 0;
     }
-    if count(s) < at + 2 {
+    // Each test as `word` makes it, which then need not make it again, here or in the loop.
+    if count(s) <= at {
+        return 0;
+    }
+    if count(s) <= at + 1 {
         return 0;
     }
     let code = word(s, at);

@@ -61,6 +61,10 @@ pub fn is_utf8(s: &[u8]) -> bool
         hi: 0xBF,
     };
     for b in s {
+        // Most bytes stand alone: after one, as before it, nothing is to come.
+        if *b < 0x80 && p.left == 0 {
+            continue;
+        }
         let Some(q) = next(p, *b) else {
             return false;
         };

@@ -1,5 +1,5 @@
 -- Where both tables are right, what the walks go by is in order (`set`), and what is lent has room for them.
-use Rattle.std.proofs.Common.{ℕ, List, length, ap, arith}
+use Rattle.std.proofs.Common.{ℕ, List, length, ap, refl, arith}
 use Rattle.words.specs.Words.{words}
 use Rattle.words.proofs.Words.{length-words}
 use Rattle.sheet.proofs.Placing.{in-places}
@@ -12,7 +12,7 @@ context_of-context-requires c =
     let q = c.requires in
     let h = in-places a.s.now a.p q.tables.has.places in
     let few = names-few a.p.names a.p.rows a.s.now q.tables.tabled in
-    record { located = h; named = omega (arith, few, h, q.placed, length-words a.s.now); below = omega (arith, few, h) }
+    record { located = h; named = omega (arith, few, h, q.placed, length-words a.s.now); used = omega (arith, few, h, q.used, length-words a.s.now); uses = q.tables.tabled.uses refl; below = omega (arith, few, h) }
 
 pub walk_all-requires : goal.walk_all-requires
 walk_all-requires c =
