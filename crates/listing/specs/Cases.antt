@@ -15,7 +15,7 @@ use Rattle.expr.specs.Binders.{binder, binders_e, all_known}
 use Rattle.expr.specs.Olds.{olds_e, olds, olds_s}
 use Rattle.clauses.specs.Read.{clausal}
 use Rattle.clauses.specs.Binders.{binders_p, binders_c, binders_a}
-use Rattle.clauses.specs.Olds.{olds_c, olds_cs, olds_as}
+use Rattle.clauses.specs.Olds.{olds_c, olds_cs, olds_a, olds_as}
 use Rattle.tables.specs.Distinct.{same_bytes, name_in, fresh_after, distinct}
 use Rattle.tables.specs.Name.{all_zero, name_body, read_name}
 use Rattle.tables.specs.Row.{row_id, read_row}
@@ -294,5 +294,5 @@ cases =
     ∷ []
 
 pub cases-hold : map given cases ≡ map expected cases
-unfolding words use_id fnv1_of fnv_from fnv_step low_digits width_within decimal_width decimal is_utf8 goes_on step after word_in many counted shape_of limit_of form_none form_one case_rest comp_rest rest_of read_form read_maybe read_part read_elem deep_cause is_in tree reading binder binders_e all_known clausal binders_p binders_c binders_a same_bytes name_in fresh_after distinct all_zero name_body read_name row_id read_row sized in_place places_of read_names read_rows read_clauses locate read_sections read_sheet bytes_of bound_in carries_name parent_at kind_at answer_at passes climb lookup_in covers width better narrowest scope_at_offset logs walk kind_walk lists type_name kind_name text_of of2007 of2008 of5010 unused text_for front line_for line old_line listed olds_e olds olds_s olds_c olds_cs olds_as old_exists fits listing
+unfolding words use_id fnv1_of fnv_from fnv_step low_digits width_within decimal_width decimal is_utf8 goes_on step after word_in many counted shape_of limit_of form_none form_one case_rest comp_rest rest_of read_form read_maybe read_part read_elem deep_cause is_in tree reading binder binders_e all_known clausal binders_p binders_c binders_a same_bytes name_in fresh_after distinct all_zero name_body read_name row_id read_row sized in_place places_of read_names read_rows read_clauses locate read_sections read_sheet bytes_of bound_in carries_name parent_at kind_at answer_at passes climb lookup_in covers width better narrowest scope_at_offset logs walk kind_walk lists type_name kind_name text_of of2007 of2008 of5010 unused text_for front line_for line old_line listed olds_e olds olds_s olds_c olds_cs olds_a olds_as old_exists fits listing
 cases-hold = refl
