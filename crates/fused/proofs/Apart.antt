@@ -1,5 +1,5 @@
 -- Reading and both walks in one is reading, and then the two walks over the tree (`apart`): the only place where trees are met. `acts` and
--- its like are what both walks do with a row, an expression and a pattern; `step-two` and `move-two` are two steps as one.
+-- its like are what both walks do with a row, an expression and a pattern; `step-two`, `move-two` and `move-on` are two steps as one.
 use Rattle.std.specs.Prelude.{Option, None, Some}
 use Prim.Native.Nat.{ℕ, zero, suc, ◌+◌}
 use native.Mathlib.Omega.{arith}

@@ -296,7 +296,7 @@ module _ (w : World) where
 
       with-step : (ps : List Projection) (es : Exprs) (ks : Keys) (s : Both) → walks m (with' a b ps es ks) s ≡ left m (rooted ps es s) (acts w m plain (keys_of ks) (beside m s (rooted ps es s)))
       unfolding clause kinds_c binders_c olds_c
-      with-step ps es ks s = λ i. record { names = named m.resolves i; kinds = found m.checks i; known = bound i; olds = counted i }
+      with-step ps es ks s = λ i. record { names = named m.resolves i; kinds = found m.checks i; known = bound i; olds = summed i }
         where
           root : State → State
           root y = let qs = carried_by w ps s.names.visible in fresh w b qs (barrier w a b qs y)
@@ -318,8 +318,8 @@ module _ (w : World) where
               (known_two (has_row w) s.known (flat_map binders_p ps ++ binders es) (binders (keys_of ks))
               ∙ ap (λ (q : Bool). q && all_known (has_row w) (binders (keys_of ks))) (known_two (has_row w) s.known (flat_map binders_p ps) (binders es)))
 
-          counted : s.olds + (olds (exprs ps es) + olds (keys_of ks)) ≡ s.olds + olds (exprs ps done) + olds es + olds (keys_of ks)
-          counted = omega (arith, olds-exprs ps es)
+          summed : s.olds + (olds (exprs ps es) + olds (keys_of ks)) ≡ s.olds + olds (exprs ps done) + olds es + olds (keys_of ks)
+          summed = omega (arith, olds-exprs ps es)
 
       -- without sort keys the new Root stays as it is
       beside-left : (u v : Both) → left m v (beside m u v) ≡ v

@@ -4,3 +4,4 @@ pub mod Read
 pub mod Answer
 pub mod Write
 pub mod Olds
+pub mod OldCases
