@@ -1,4 +1,5 @@
 pub mod Codes
+pub mod Limits
 pub mod Plains
 pub mod Stage
 pub mod Paid

@@ -31,21 +31,17 @@ fn shape(code: u32) -> u32
     SHAPES.get(code as usize).copied().unwrap_or(0)
 }
 
-// By code: the most that the word after it may be, 4294967295 where it may be any; the definition's own table.
+// By code: the most that the word after it may be, 4294967295 where it may be any; a table too, as far as the one of shapes.
+const LIMITS: [u32; 26] = [
+    4294967295, 4294967295, 4294967295, 4294967295, 4294967295, 4294967295, 4294967295, 4294967295,
+    4294967295, 4294967295, 4294967295, 3, 524287, 524287, 524287, 19, 1, 4294967295, 4294967295,
+    4294967295, 4294967295, 1, 4294967295, 1, 4294967295, 4294967295,
+];
+
 fn limit(code: u32) -> u32
     ensures { result ≡ limit code }
 {
-    match code {
-        11 => 3,
-        12 => 524287,
-        13 => 524287,
-        14 => 524287,
-        15 => 19,
-        16 => 1,
-        21 => 1,
-        23 => 1,
-        _ => 4294967295,
-    }
+    LIMITS.get(code as usize).copied().unwrap_or(4294967295)
 }
 
 // The shape of the plain head at `at`, where two words are there and a level is left; or 0.
