@@ -20,8 +20,9 @@ use words::count;
 // How many entries a list may need.
 const ENTRIES: u32 = 2048;
 
-// Scratch for so many words: sixteen for each of them, and 8 besides. A const for each: the language computes no const argument.
-const FOR_32: usize = 32 * 16 + 8;
+// Scratch for so many words: sixteen for each of them, and 8 besides. A const for each: the language computes no const argument. The first
+// stays below 2 KB, which is cleared fastest; for large sheets they stand close, since clearing is then a good part of the time.
+const FOR_28: usize = 28 * 16 + 8;
 
 const FOR_64: usize = 64 * 16 + 8;
 
@@ -29,9 +30,19 @@ const FOR_128: usize = 128 * 16 + 8;
 
 const FOR_256: usize = 256 * 16 + 8;
 
+const FOR_384: usize = 384 * 16 + 8;
+
 const FOR_512: usize = 512 * 16 + 8;
 
+const FOR_768: usize = 768 * 16 + 8;
+
 const FOR_1024: usize = 1024 * 16 + 8;
+
+const FOR_1280: usize = 1280 * 16 + 8;
+
+const FOR_1536: usize = 1536 * 16 + 8;
+
+const FOR_1792: usize = 1792 * 16 + 8;
 
 const FOR_2048: usize = 2048 * 16 + 8;
 
@@ -123,9 +134,14 @@ fn list_large(s: &[u8], warns: bool, page: &mut [u8]) -> Result<usize, Refusal>
 {
     match s.len() {
         0..=1024 => list_with::<FOR_256>(s, warns, page),
-        1025..=2048 => list_with::<FOR_512>(s, warns, page),
-        2049..=4096 => list_with::<FOR_1024>(s, warns, page),
-        4097..=8192 => list_with::<FOR_2048>(s, warns, page),
+        1025..=1536 => list_with::<FOR_384>(s, warns, page),
+        1537..=2048 => list_with::<FOR_512>(s, warns, page),
+        2049..=3072 => list_with::<FOR_768>(s, warns, page),
+        3073..=4096 => list_with::<FOR_1024>(s, warns, page),
+        4097..=5120 => list_with::<FOR_1280>(s, warns, page),
+        5121..=6144 => list_with::<FOR_1536>(s, warns, page),
+        6145..=7168 => list_with::<FOR_1792>(s, warns, page),
+        7169..=8192 => list_with::<FOR_2048>(s, warns, page),
         _ => Err(Refusal::Size),
     }
 }
@@ -135,8 +151,8 @@ pub fn listing(s: &[u8], warns: bool, page: &mut [u8]) -> Result<usize, Refusal>
     ensures { WritesAsWord (listing warns s.now) page.old page.new result }
 {
     match s.len() {
-        0..=128 => list_with::<FOR_32>(s, warns, page),
-        129..=256 => list_with::<FOR_64>(s, warns, page),
+        0..=112 => list_with::<FOR_28>(s, warns, page),
+        113..=256 => list_with::<FOR_64>(s, warns, page),
         257..=512 => list_with::<FOR_128>(s, warns, page),
         _ => list_large(s, warns, page),
     }
