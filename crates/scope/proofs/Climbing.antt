@@ -4,7 +4,7 @@ use Rattle.std.proofs.Common.{◌≡◌, ℕ, zero, suc, ◌-◌, ◌<◌, Bool,
 use Rattle.std.proofs.lemmas.Bool.Decides.{nat_tests}
 use Rattle.scope.specs.Answer.{scopes_in, bindings_in, carried_in}
 use Rattle.scope.specs.Flat.{parent_of, scope_of}
-use Rattle.scope.specs.Graph.{Scope, Entry, Carried}
+use Rattle.scope.specs.Graph.{Scope, Name, Entry, Carried}
 use Rattle.scope.specs.Lookup.{Looked, bound_in, carries, lets_on, kind_at, parent_at, passes, answer_at, climb}
 use Rattle.scope.specs.declared.Graph.{Graph}
 
@@ -20,7 +20,7 @@ same-below s None false p f g h = refl
 same-below s None true None f g h = refl
 same-below s None true (Some p) f g h = grind (arith, nat_tests, h p)
 
-module _ (scopes : List Scope) (bindings : List Entry) (carried_list : List Carried) (x : ℕ) where
+module _ (scopes : List Scope) (bindings : List Entry) (carried_list : List Carried) (x : Name) where
   pub enough : (m n s : ℕ) → s < m → s < n → climb scopes bindings carried_list m s x ≡ climb scopes bindings carried_list n s x
   unfolding climb
   enough zero n s h k = absurd (omega arith)
@@ -40,7 +40,7 @@ parent-listed [] s h = absurd (omega arith)
 parent-listed (e ∷ es) zero h = refl
 parent-listed (e ∷ es) (suc s) h = parent-listed es s (omega arith)
 
-module _ (g : Graph) (x : ℕ) where
+module _ (g : Graph) (x : Name) where
   -- from the scope s, in enough steps
   abbrev pub climbs : ℕ → Looked
   climbs s = climb (scopes_in g) (bindings_in g) (carried_in g) (suc s) s x

@@ -4,12 +4,14 @@ use Rattle.std.specs.Prelude as code
 use Rattle.refusal.specs.Number.{number_of}
 use Rattle.refusal.specs.declared.Refusal.{Refusal}
 use Rattle.scope.specs.Flat.{scope_of, binding_of, carried_of}
-use Rattle.scope.specs.Graph.{Scope, Entry, Carried}
+use Rattle.scope.specs.Graph.{Scope, Name, Entry, Carried}
+use Rattle.scope.specs.Graph as graph
 use Rattle.scope.specs.Lookup.{Looked, at, nothing, refused}
 use Rattle.scope.specs.Offset.{Best, none', best, Offset, in', nowhere}
 use Rattle.scope.specs.Offset as offsets
 use Rattle.scope.specs.declared.Found.{Found}
 use Rattle.scope.specs.declared.Graph.{Graph}
+use Rattle.scope.specs.declared.Name.{Name as Name'}
 
 abbrev pub scopes_in : Graph → List Scope
 scopes_in g = map scope_of g.scopes.now
@@ -19,6 +21,9 @@ bindings_in g = map binding_of g.bindings.now
 
 abbrev pub carried_in : Graph → List Carried
 carried_in g = map carried_of g.carried.now
+
+abbrev pub name_of : Name' → Name
+name_of n = graph.name n.mark n.word
 
 abbrev pub bound_as : code.Option ℕ → Option ℕ
 bound_as (Some v) = Some v

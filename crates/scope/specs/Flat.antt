@@ -1,15 +1,15 @@
--- A lent list is flat words, so many to an entry; the first n entries are in use.
+-- A lent list is flat words, so many to an entry; the first n entries are in use. A name's mark is the last word of its entry (document 02, CR 5).
 use Rattle.std.specs.Prelude.{ℕ, zero, suc, ◌/◌, cond, List, [], ◌∷◌, eqb, length, get_or, drop, Option, None, Some}
-use Rattle.scope.specs.Graph.{Scope, scope, Entry, entry, Carried, carried}
+use Rattle.scope.specs.Graph.{Scope, scope, name, Entry, entry, Carried, carried}
 
 abbrev pub scope_width : ℕ
 scope_width = 4
 
 abbrev pub binding_width : ℕ
-binding_width = 6
+binding_width = 7
 
 abbrev pub carried_width : ℕ
-carried_width = 3
+carried_width = 4
 
 -- "entries" of a flat list
 abbrev pub room : ℕ → List ℕ → ℕ
@@ -33,10 +33,10 @@ abbrev pub scope_of : List ℕ → Scope
 scope_of ws = scope (get_or ws 0 0) (parent_of (get_or ws 1 0)) (get_or ws 2 0) (get_or ws 3 0)
 
 abbrev pub binding_of : List ℕ → Entry
-binding_of ws = entry (get_or ws 0 0) (get_or ws 1 0) (get_or ws 2 0) (get_or ws 3 0) (replaced_of (get_or ws 4 0) (get_or ws 5 0))
+binding_of ws = entry (get_or ws 0 0) (name (get_or ws 6 0) (get_or ws 1 0)) (get_or ws 2 0) (get_or ws 3 0) (replaced_of (get_or ws 4 0) (get_or ws 5 0))
 
 abbrev pub carried_of : List ℕ → Carried
-carried_of ws = carried (get_or ws 0 0) (get_or ws 1 0) (get_or ws 2 0)
+carried_of ws = carried (get_or ws 0 0) (name (get_or ws 3 0) (get_or ws 1 0)) (get_or ws 2 0)
 
 abbrev pub scopes_of : ℕ → List ℕ → List Scope
 scopes_of = entries_of scope_width scope_of

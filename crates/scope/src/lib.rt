@@ -1,7 +1,7 @@
 // The scope graph (002) on lent lists: lookup of a name from a scope, and the scope at an offset. Lists are flat words, an entry each:
-// scopes 4 (kind, parent + 1 or 0, start, end), bindings 6 (scope, name, variable, kind, 1 if it replaced one, the variable replaced or
-// 0), carried 3 (barrier, name, variable); a count says how many entries are in use. Kinds, and numbers + 1 with 0 for none, are the lists'
-// own words, which may be any.
+// scopes 4 (kind, parent + 1 or 0, start, end), bindings 7 (scope, name, variable, kind, 1 if it replaced one, the variable replaced or 0, the
+// name's mark), carried 4 (barrier, name, variable, the name's mark); a count says how many entries are in use. Kinds, marks, and numbers + 1 with 0
+// for none, are the lists' own words, which may be any.
 #![tactic(auto)]
 
 ghost use Rattle.std.specs.Prelude.{◌≡◌, suc, ◌/◌, ◌<◌, ◌≤◌, length, map, ◌==◌, ◌&&◌, slice_index, IfOk, IfErr};
@@ -13,19 +13,26 @@ ghost use Rattle.scope.specs.Flat.{scope_of};
 ghost use Rattle.scope.specs.Graph.{scope};
 ghost use Rattle.scope.specs.Lookup.{carries, lets_on, climb, lookup, lookup_in};
 ghost use Rattle.scope.specs.Offset.{offset, better, scope_at_offset};
-ghost use Rattle.scope.specs.Answer.{bound_as, looked_as, offset_as, best_as, scopes_in, bindings_in, carried_in};
+ghost use Rattle.scope.specs.Answer.{name_of, bound_as, looked_as, offset_as, best_as, scopes_in, bindings_in, carried_in};
 
 mod kind;
 
 pub use kind::ScopeKind;
 use refusal::Refusal;
 
+// A name: an index of the sheet with the mark 0, or the id of a variable with the mark 1.
+#[derive(Clone, Copy, Debug, PartialEq, Eq)]
+pub struct Name {
+    pub mark: u32,
+    pub word: u32,
+}
+
 // The entries in use of the three lists.
 #[derive(Clone, Copy)]
 pub struct Graph<'a> {
     pub scopes: &'a [[u32; 4]],
-    pub bindings: &'a [[u32; 6]],
-    pub carried: &'a [[u32; 3]],
+    pub bindings: &'a [[u32; 7]],
+    pub carried: &'a [[u32; 4]],
 }
 
 // What lookup finds: the variable of a name, and the scope that binds it.
@@ -51,36 +58,40 @@ fn in_use<const WIDTH: usize>(words: &[u32], count: usize) -> Result<&[[u32; WID
 
 impl Graph<'_> {
     // The variable of the first binding that fits the scope and the name.
-    fn bound_in(&self, scope: u32, name: u32) -> Option<u32>
-        ensures { result ≡ option_map (λ e. slice_index e 2) (find (λ e. slice_index e 0 == scope && slice_index e 1 == name) self.now.bindings.now) }
+    fn bound_in(&self, scope: u32, name: Name) -> Option<u32>
+        ensures { result ≡ option_map (λ e. slice_index e 2) (find (λ e. slice_index e 0 == scope && (slice_index e 6 == name.mark && slice_index e 1 == name.word)) self.now.bindings.now) }
     {
+        let Name { mark, word } = name;
         self.bindings
             .iter()
-            .find(|[of, called, _, _, _, _]| *of == scope && *called == name)
-            .map(|[_, _, variable, _, _, _]| *variable)
+            .find(|[of, called, _, _, _, _, marked]| {
+                *of == scope && (*marked == mark && *called == word)
+            })
+            .map(|[_, _, variable, _, _, _, _]| *variable)
     }
 
     // Whether the barrier carries the name.
-    fn carried_by(&self, barrier: u32, name: u32) -> bool
-        ensures { result ≡ list_any (λ e. slice_index e 0 == barrier && slice_index e 1 == name) self.now.carried.now }
+    fn carried_by(&self, barrier: u32, name: Name) -> bool
+        ensures { result ≡ list_any (λ e. slice_index e 0 == barrier && (slice_index e 3 == name.mark && slice_index e 1 == name.word)) self.now.carried.now }
     {
-        self.carried
-            .iter()
-            .any(|[past, called, _]| *past == barrier && *called == name)
+        let Name { mark, word } = name;
+        self.carried.iter().any(|[past, called, _, marked]| {
+            *past == barrier && (*marked == mark && *called == word)
+        })
     }
 
     // Whether a name may go on from a scope of the kind to its parent: not past a WithBarrier that doesn't carry it.
     #[tactic(auto, using(crate::proofs::Listed::carried_where))]
-    fn passes(&self, kind: u32, scope: u32, name: u32) -> bool
-        ensures { result ≡ lets_on kind (carries (carried_in self.now) scope name) }
+    fn passes(&self, kind: u32, scope: u32, name: Name) -> bool
+        ensures { result ≡ lets_on kind (carries (carried_in self.now) scope (name_of name)) }
     {
         kind != ScopeKind::WithBarrier as u32 || self.carried_by(scope, name)
     }
 
     // From a scope up its parents, each of which lies below its child.
-    fn climb(&self, from: u32, name: u32) -> Result<Option<Found>, Refusal>
+    fn climb(&self, from: u32, name: Name) -> Result<Option<Found>, Refusal>
         requires { from < length self.now.scopes.now }
-        ensures { looked_as result ≡ climb (scopes_in self.now) (bindings_in self.now) (carried_in self.now) (suc from) from name }
+        ensures { looked_as result ≡ climb (scopes_in self.now) (bindings_in self.now) (carried_in self.now) (suc from) from (name_of name) }
     {
         let mut scope = from;
         // Up the scopes: each turn says where the next begins.
@@ -102,8 +113,8 @@ impl Graph<'_> {
     // The variable that a name has in a scope, and the scope that binds it: the first binding on the way up; a WithBarrier lets through only
     // names that it carries. Asked where there is no such scope, or a parent on the way is not below its child.
     #[tactic(auto, using(crate::proofs::Listed::counted), unfolding(crate::specs::Lookup::lookup_in))]
-    pub fn lookup(&self, scope: u32, name: u32) -> Result<Option<Found>, Refusal>
-        ensures { looked_as result ≡ lookup_in (scopes_in self.now) (bindings_in self.now) (carried_in self.now) scope name }
+    pub fn lookup(&self, scope: u32, name: Name) -> Result<Option<Found>, Refusal>
+        ensures { looked_as result ≡ lookup_in (scopes_in self.now) (bindings_in self.now) (carried_in self.now) scope (name_of name) }
     {
         if self.scopes.len() <= scope as usize {
             return Err(Refusal::Asked);
@@ -112,7 +123,8 @@ impl Graph<'_> {
     }
 }
 
-// Lookup on lent lists, in eight parameters since C gives each list with its count; Asked also where a count is above its list's entries.
+// Lookup on lent lists, in eight parameters since C gives each list with its count; Asked also where a count is above its list's entries, and for a
+// mark that is neither 0 nor 1.
 #[tactic(auto, using(crate::proofs::Listed::scopes_listed, crate::proofs::Listed::bindings_listed, crate::proofs::Listed::carried_listed), unfolding(crate::specs::Lookup::lookup))]
 pub fn lookup(
     scopes: &[u32],
@@ -122,10 +134,13 @@ pub fn lookup(
     carried: &[u32],
     c: usize,
     scope: u32,
-    name: u32,
+    name: Name,
 ) -> Result<Option<Found>, Refusal>
-    ensures { looked_as result ≡ lookup a scopes.now b bindings.now c carried.now scope name }
+    ensures { looked_as result ≡ lookup a scopes.now b bindings.now c carried.now scope (name_of name) }
 {
+    if 1 < name.mark {
+        return Err(Refusal::Asked);
+    }
     let graph = Graph {
         scopes: in_use(scopes, a)?,
         bindings: in_use(bindings, b)?,

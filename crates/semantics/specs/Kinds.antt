@@ -4,6 +4,7 @@ use Rattle.heads.specs.declared.Form.{Form}
 use Rattle.heads.specs.declared.Form.TheVariants.{Leaf, Var, Unresolved, Prop, Two, Slice, Many, BinOp, UnaryOp, Case, IsNull, PatternPredicate, ListComprehension, PatternComprehension, ListPredicate, MapProjection}
 use Rattle.expr.specs.Tree.{Expr, var, unresolved, node, predicate, comprehension, Exprs, done, more, mark, Steps, end, part, elem}
 use Rattle.clauses.specs.Tree.{Clause, opening, reading, with', return, unwind, call, exprs, keys_of}
+use Rattle.scope.specs.Graph.{indexed}
 use Rattle.tables.specs.Row.{path_kind, value_kind, Row, row}
 use Rattle.semantics.specs.Log.{e2007, e2008, e2011, e5010, e5011, Finding, finding}
 use Rattle.semantics.specs.World.{World}
@@ -108,22 +109,22 @@ unfoldable pub at_type : Setting → ℕ → List Finding
 at_type general t = []
 at_type arithmetic t = []
 at_type property t = []
-at_type boolean t = cond (leb int_type t && leb t string_type) (finding e2011 0 0 0 0 t ∷ []) []
-at_type (listed c o) t = cond (eqb t no_type) [] (finding c 0 0 0 o t ∷ [])
+at_type boolean t = cond (leb int_type t && leb t string_type) (finding e2011 0 0 None 0 t ∷ []) []
+at_type (listed c o) t = cond (eqb t no_type) [] (finding c 0 0 None o t ∷ [])
 
 -- A variable's row against a setting. Details of E2007: 1 arithmetic, 2 property.
 unfoldable pub at_row : Setting → Option Row → List Finding
 at_row c None = []
 at_row general (Some (row i x k a b)) = []
-at_row arithmetic (Some (row i x k a b)) = cond (eqb k value_kind) [] (finding e2007 0 0 (suc x) 1 k ∷ [])
-at_row property (Some (row i x k a b)) = cond (eqb k path_kind) (finding e2007 0 0 (suc x) 2 k ∷ []) []
+at_row arithmetic (Some (row i x k a b)) = cond (eqb k value_kind) [] (finding e2007 0 0 (Some (indexed x)) 1 k ∷ [])
+at_row property (Some (row i x k a b)) = cond (eqb k path_kind) (finding e2007 0 0 (Some (indexed x)) 2 k ∷ []) []
 at_row boolean (Some (row i x k a b)) = []
-at_row (listed d o) (Some (row i x k a b)) = cond (eqb k value_kind) [] (finding d 0 0 0 o (kind_type k) ∷ [])
+at_row (listed d o) (Some (row i x k a b)) = cond (eqb k value_kind) [] (finding d 0 0 None o (kind_type k) ∷ [])
 
 -- E2008: a binder whose row has another kind than its position wants. Details: 1 path, 2 node, 3 relationship.
 unfoldable pub misplaced : ℕ → ℕ → ℕ → ℕ → Option Row → List Finding
 misplaced one want a b None = []
-misplaced one want a b (Some (row i x k c d)) = cond (eqb k want) [] (finding e2008 a b (suc x) one k ∷ [])
+misplaced one want a b (Some (row i x k c d)) = cond (eqb k want) [] (finding e2008 a b (Some (indexed x)) one k ∷ [])
 
 module _ (w : World) where
   -- the row of a binder

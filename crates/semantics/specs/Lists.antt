@@ -1,6 +1,6 @@
 -- The five lists (document 01, "What comes out"), as views of the log.
 use Rattle.std.specs.Prelude.{ℕ, Bool, cond, ◌&&◌, List, [], ◌∷◌, ◌++◌, eqb, Option, None, Some}
-use Rattle.scope.specs.Graph.{Scope, Carried, carried, Entry, entry}
+use Rattle.scope.specs.Graph.{Scope, same_name, Carried, carried, Entry, entry}
 use Rattle.sheet.specs.Statement.{Statement}
 use Rattle.semantics.specs.Log.{Finding, Answer, Bound, bound, Write, write, scopes_in, binds_in, carries_in, answers_in, finds_in}
 use Rattle.semantics.specs.World.{world_of}
@@ -10,7 +10,7 @@ use Rattle.semantics.specs.Kinds.{kinds}
 -- "in order of first making": the first making gives the place, the last one the variable and the kind; what it replaced is kept
 unfoldable pub put : Bound → List Entry → List Entry
 put (bound s x v k) [] = entry s x v k None ∷ []
-put (bound s x v k) (entry t y u j r ∷ es) = cond (eqb s t && eqb x y) (entry s x v k (Some u) ∷ es) (entry t y u j r ∷ put (bound s x v k) es)
+put (bound s x v k) (entry t y u j r ∷ es) = cond (eqb s t && same_name x y) (entry s x v k (Some u) ∷ es) (entry t y u j r ∷ put (bound s x v k) es)
 
 unfoldable pub puts : List Bound → List Entry → List Entry
 puts [] es = es

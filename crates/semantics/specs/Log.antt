@@ -1,7 +1,7 @@
 -- What the walks say, in order: the log (document 01, "What comes out"). The five lists are views of it.
-use Rattle.std.specs.Prelude.{ℕ, Bool, length}
+use Rattle.std.specs.Prelude.{ℕ, Bool, length, Option}
 use mathlib.Core.List.{List, [], ◌∷◌, flat_map}
-use Rattle.scope.specs.Graph.{Scope, Carried}
+use Rattle.scope.specs.Graph.{Scope, Name, Carried}
 
 -- "Code is the four-digit number"
 abbrev pub e1001 : ℕ
@@ -25,9 +25,9 @@ e5010 = 5010
 abbrev pub e5011 : ℕ
 e5011 = 5011
 
--- "finding records: code, start, end, name + 1 or 0, two details"
+-- "finding records: code, start, end, name + 1 or 0, two details", and the mark of the name (document 02, CR 5)
 pub data Finding : Type 0 where
-  finding : (code start stop name one two : ℕ) → Finding
+  finding : (code start stop : ℕ) (name : Option Name) (one two : ℕ) → Finding
 
 -- "answer (variable, kind, via_projection, or unresolved)"
 pub data Answer : Type 0 where
@@ -36,7 +36,7 @@ pub data Answer : Type 0 where
 
 -- a name bound in a scope
 pub data Bound : Type 0 where
-  bound : (scope name variable kind : ℕ) → Bound
+  bound : (scope : ℕ) (name : Name) (variable kind : ℕ) → Bound
 
 -- "Recorded: use id, answer"
 pub data Write : Type 0 where

@@ -1,7 +1,7 @@
 -- The resolve walk (document 01, "Walking clauses (000)") as steps of a state. The sentences in quotes are document 01's, and
 -- document 02's where it is named.
 use Rattle.std.specs.Prelude.{ℕ, suc, Bool, true, false, cond, not, ◌&&◌, ◌||◌, List, [], ◌∷◌, ◌++◌, reverse, eqb, Option, None, Some}
-use Rattle.scope.specs.Graph.{root_scope, unwind_scope, call_scope, with_barrier, return_scope, comprehension_scope, scope, carried}
+use Rattle.scope.specs.Graph.{root_scope, unwind_scope, call_scope, with_barrier, return_scope, comprehension_scope, scope, Name, indexed, same_name, carried}
 use Rattle.expr.specs.Tree.{Expr, var, unresolved, node, predicate, comprehension, Exprs, done, more, mark, Steps, end, part, elem}
 use Rattle.clauses.specs.Tree.{Projection, projection, Yield, yield, Clause, opening, reading, with', return, unwind, call, Arm, arm, exprs, keys_of}
 use Rattle.tables.specs.Row.{path_kind, value_kind, Row, row}
@@ -15,10 +15,10 @@ pub data Hit : Type 0 where
   hit : (variable via : ℕ) → Hit
 
 pub data Seen : Type 0 where
-  seen : (name : ℕ) → Hit → (scope : ℕ) → Seen
+  seen : Name → Hit → (scope : ℕ) → Seen
 
 pub data Pair : Type 0 where
-  pair : (name variable : ℕ) → Pair
+  pair : Name → (variable : ℕ) → Pair
 
 -- Where the walk stands.
 pub record State : Type 0 where
@@ -31,27 +31,27 @@ unfoldable pub variable_of : Hit → ℕ
 variable_of (hit v o) = v
 
 -- what the newest binding of a name binds it to; and whether the scope c binds it
-unfoldable pub lookup : ℕ → List Seen → Option Hit
+unfoldable pub lookup : Name → List Seen → Option Hit
 lookup x [] = None
-lookup x (seen y h p ∷ vis) = cond (eqb x y) (Some h) (lookup x vis)
+lookup x (seen y h p ∷ vis) = cond (same_name x y) (Some h) (lookup x vis)
 
-unfoldable pub binds : ℕ → ℕ → List Seen → Bool
+unfoldable pub binds : ℕ → Name → List Seen → Bool
 binds c x [] = false
-binds c x (seen y h p ∷ vis) = eqb x y && eqb p c || binds c x vis
+binds c x (seen y h p ∷ vis) = same_name x y && eqb p c || binds c x vis
 
 -- a variable that has a row, under its name; and a name that is found
 unfoldable pub if_row : Option Row → ℕ → List Pair
 if_row None v = []
-if_row (Some (row i x k a b)) v = pair x v ∷ []
+if_row (Some (row i x k a b)) v = pair (indexed x) v ∷ []
 
-unfoldable pub if_some : Option Hit → ℕ → List Pair
+unfoldable pub if_some : Option Hit → Name → List Pair
 if_some None x = []
 if_some (Some h) x = pair x (variable_of h) ∷ []
 
 -- pairs without those of a name; and each visible name once, with its newest variable, newest first
-unfoldable pub without : ℕ → List Pair → List Pair
+unfoldable pub without : Name → List Pair → List Pair
 without x [] = []
-without x (pair y v ∷ ps) = cond (eqb x y) (without x ps) (pair y v ∷ without x ps)
+without x (pair y v ∷ ps) = cond (same_name x y) (without x ps) (pair y v ∷ without x ps)
 
 unfoldable pub once : List Seen → List Pair
 once [] = []
@@ -69,7 +69,7 @@ say_if false e s = s
 abbrev pub enter : ℕ → ℕ → ℕ → State → State
 enter k a b s = record { visible = s.visible; cur = suc s.last; last = suc s.last; log = open' (scope k (Some s.cur) a b) ∷ s.log }
 
-abbrev pub bind_over : Bool → ℕ → ℕ → ℕ → State → State
+abbrev pub bind_over : Bool → Name → ℕ → ℕ → State → State
 bind_over over x v k s =
     record {
       visible = seen x (hit v (cond over 1 0)) s.cur ∷ s.visible;
@@ -78,7 +78,7 @@ bind_over over x v k s =
       log = bind over (binds s.cur x s.visible) (bound s.cur x v k) ∷ s.log;
     }
 
-abbrev pub bind_name : ℕ → ℕ → ℕ → State → State
+abbrev pub bind_name : Name → ℕ → ℕ → State → State
 bind_name = bind_over false
 
 abbrev pub leave : State → State → State
@@ -96,7 +96,7 @@ module _ (w : World) where
   -- "E1001 comes at each visit of an Unresolved name not visible, except `*`, recorded unresolved without it"
   unfoldable pub use_name : ℕ → Option Hit → State → State
   use_name x (Some (hit v o)) s = say (answer (write (w.id x) (found v (kind_of w v) o))) s
-  use_name x None s = say_if (not (w.is_star x)) (find (finding e1001 0 0 (suc x) 0 0)) (say (answer (write (w.id x) missing)) s)
+  use_name x None s = say_if (not (w.is_star x)) (find (finding e1001 0 0 (Some (indexed x)) 0 0)) (say (answer (write (w.id x) missing)) s)
 
   -- "a name equal to an alias of the same clause is no use .. and gives no finding and no record" (document 02, CR 1)
   unfoldable pub visit : Bool → ℕ → Option Hit → State → State
@@ -104,11 +104,11 @@ module _ (w : World) where
   visit false x o s = use_name x o s
 
   -- "E1002, only with warnings on, arises from a path or a yield whose name its own scope already binds"
-  unfoldable pub bind_anew : ℕ → ℕ → ℕ → ℕ → ℕ → State → State
-  bind_anew a b x v k s = say_if (w.warns && binds s.cur x s.visible) (find (finding e1002 a b (suc x) 0 0)) (bind_name x v k s)
+  unfoldable pub bind_anew : ℕ → ℕ → Name → ℕ → ℕ → State → State
+  bind_anew a b x v k s = say_if (w.warns && binds s.cur x s.visible) (find (finding e1002 a b (Some x) 0 0)) (bind_name x v k s)
 
   -- "Nodes and relationships bind only a name not visible"
-  unfoldable pub bind_new : Option Hit → ℕ → ℕ → ℕ → State → State
+  unfoldable pub bind_new : Option Hit → Name → ℕ → ℕ → State → State
   bind_new None x v k s = bind_name x v k s
   bind_new (Some h) x v k s = s
 
@@ -125,7 +125,7 @@ module _ (w : World) where
   unfoldable mutual
     pub resolve : Expr → State → State
     resolve (var v) s = use_var v (w.row v) s
-    resolve (unresolved x) s = visit (w.hushed x) x (lookup x s.visible) s
+    resolve (unresolved x) s = visit (w.hushed x) x (lookup (indexed x) s.visible) s
     resolve (node f es) s = resolves es s
     resolve (predicate p) s = s
     resolve (comprehension a b p es) s = leave s (resolves es (bind_pattern p (enter comprehension_scope a b s)))
@@ -144,11 +144,11 @@ module _ (w : World) where
   -- aliased Unresolved name is carried under its alias if it is found, else not. An alias of any other expression save Var is carried with
   -- the use id of the alias as its variable" (document 02, CR 2). What an unaliased star carries stands below, also where `*` itself is visible
   unfoldable pub carries : Option ℕ → Direct → List Seen → List Pair
-  carries (Some x) (a_var v) vis = pair x v ∷ []
-  carries (Some x) (a_name y) vis = if_some (lookup y vis) x
-  carries (Some x) other vis = pair x (w.id x) ∷ []
+  carries (Some x) (a_var v) vis = pair (indexed x) v ∷ []
+  carries (Some x) (a_name y) vis = if_some (lookup (indexed y) vis) (indexed x)
+  carries (Some x) other vis = pair (indexed x) (w.id x) ∷ []
   carries None (a_var v) vis = if_row (w.row v) v
-  carries None (a_name x) vis = cond (w.is_star x) [] (if_some (lookup x vis) x)
+  carries None (a_name x) vis = cond (w.is_star x) [] (if_some (lookup (indexed x) vis) (indexed x))
   carries None other vis = []
 
   unfoldable pub projected : List Projection → List Seen → List Pair
@@ -193,7 +193,7 @@ module _ (w : World) where
   -- Yields bind in order; "the span is the clause's for a yield's E1002"
   unfoldable pub yields : ℕ → ℕ → List Yield → State → State
   yields a b [] s = s
-  yields a b (yield x y v ∷ ys) s = yields a b ys (bind_anew a b (yield_name x y) v value_kind s)
+  yields a b (yield x y v ∷ ys) s = yields a b ys (bind_anew a b (indexed (yield_name x y)) v value_kind s)
 
 -- the aliases of projections
 unfoldable pub alias_in : Option ℕ → List ℕ
