@@ -12,7 +12,7 @@ use Rattle.std.proofs.lemmas.List.Edits.{paste_all}
 use lib.Seq.{sets, sets-eq, length-take-le, take-length, take-suc, drop-cons, append_snoc, set_at, set-append_left}
 use Rattle.semantics.specs.Log.{finding}
 use Rattle.semantics.specs.Log as log
-use Rattle.finding.specs.Flat.{finding_words}
+use Rattle.finding.specs.Flat.{name_word, mark_word, finding_words}
 use Rattle.finding.specs.declared.Finding.{Finding}
 use Rattle.finding.specs.Records.{nothing, nth, record_of, record_at, into, with_records}
 
@@ -37,30 +37,30 @@ into-front fs flat n (suc k) h l =
     ∙ ap (λ (t : List Finding). set t k (record_at flat k)) (into-front fs flat n k (omega arith) l)
 
 -- the record after six words is the record of what follows them
-module _ (a b c d e f : ℕ) (l : List ℕ) where
-  abbrev six : List ℕ
-  six = a ∷ b ∷ c ∷ d ∷ e ∷ f ∷ l
+module _ (a b c d e f g : ℕ) (l : List ℕ) where
+  abbrev seven : List ℕ
+  seven = a ∷ b ∷ c ∷ d ∷ e ∷ f ∷ g ∷ l
 
-  past : (i k : ℕ) → get_or six (suc i * 6 + k) 0 ≡ get_or l (i * 6 + k) 0
-  past i k = ap (λ (n : ℕ). get_or six n 0) (six-more i k)
+  past : (i k : ℕ) → get_or seven (suc i * 7 + k) 0 ≡ get_or l (i * 7 + k) 0
+  past i k = ap (λ (n : ℕ). get_or seven n 0) (seven-more i k)
     where
-      six-more : (i k : ℕ) → suc i * 6 + k ≡ suc (suc (suc (suc (suc (suc (i * 6 + k))))))
-      six-more i k = omega arith
+      seven-more : (i k : ℕ) → suc i * 7 + k ≡ suc (suc (suc (suc (suc (suc (suc (i * 7 + k)))))))
+      seven-more i k = omega arith
 
-  record-past : (i : ℕ) → record_at six (suc i) ≡ record_at l i
-  record-past i = λ j. record { code = past_first i j; start = past i 1 j; end = past i 2 j; name = past i 3 j; one = past i 4 j; two = past i 5 j }
+  record-past : (i : ℕ) → record_at seven (suc i) ≡ record_at l i
+  record-past i = λ j. record { code = past_first i j; start = past i 1 j; end = past i 2 j; name = past i 3 j; one = past i 4 j; two = past i 5 j; mark = past i 6 j }
     where
-      six-more : (i : ℕ) → suc i * 6 ≡ suc (suc (suc (suc (suc (suc (i * 6))))))
-      six-more i = omega arith
+      seven-more : (i : ℕ) → suc i * 7 ≡ suc (suc (suc (suc (suc (suc (suc (i * 7)))))))
+      seven-more i = omega arith
 
-      past_first : (i : ℕ) → get_or six (suc i * 6) 0 ≡ get_or l (i * 6) 0
-      past_first i = ap (λ (n : ℕ). get_or six n 0) (six-more i)
+      past_first : (i : ℕ) → get_or seven (suc i * 7) 0 ≡ get_or l (i * 7) 0
+      past_first i = ap (λ (n : ℕ). get_or seven n 0) (seven-more i)
 
 record_of_lem : (fs : List log.Finding) (rest : List ℕ) (i : ℕ) → i < length fs → record_at (flat_map finding_words fs ++ rest) i ≡ nth (map record_of fs) i
 unfolding flat_map
 record_of_lem [] rest i h = absurd (not-suc-le-zero h)
 record_of_lem (finding c a b x o t ∷ fs) rest zero h = refl
-record_of_lem (finding c a b x o t ∷ fs) rest (suc i) h = record-past c a b x o t (flat_map finding_words fs ++ rest) i ∙ record_of_lem fs rest i (le_of_suc-le-suc h)
+record_of_lem (finding c a b x o t ∷ fs) rest (suc i) h = record-past c a b (name_word x) o t (mark_word x) (flat_map finding_words fs ++ rest) i ∙ record_of_lem fs rest i (le_of_suc-le-suc h)
 
 -- a store at n of a list whose front is the first n of gs
 stored : (gs ys : List Finding) (n : ℕ) → n < length gs → n < length ys → set (take n gs ++ drop n ys) n (nth gs n) ≡ take (suc n) gs ++ drop (suc n) ys

@@ -1,11 +1,16 @@
 // Finding records, and how they go into a lent list and come from one. The code is any number, since a lent list's words may be no finding's.
 #![tactic(auto)]
 
-ghost use Rattle.std.specs.Prelude.{◌≡◌, ◌+◌, ◌*◌, ◌≤◌, length};
+ghost use Rattle.std.specs.Prelude.{◌≡◌, ◌+◌, ◌*◌, ◌≤◌, length, Some};
 ghost use Rattle.std.proofs.lemmas.List.Edits.{sets};
-ghost use Rattle.finding.specs.Records.{six_at, record_at, words_of, into, out_of};
+ghost use Rattle.scope.specs.Answer.{name_of};
+ghost use Rattle.semantics.specs.Log.{e1002, finding};
+ghost use Rattle.finding.specs.Records.{six_at, record_at, words_of, finding_by, into, out_of};
+ghost use Rattle.finding.specs.Logged.{logged_in, Cites};
 
-// Code, span, name + 1 or 0, two details: the words as a list has them.
+use scope::Name;
+
+// Code, span, name + 1 or 0, two details, the name's mark: the words as a list has them. With the mark 1 the name is the id of a variable.
 #[derive(Clone, Copy, Debug, PartialEq, Eq)]
 pub struct Finding {
     pub code: u32,
@@ -14,32 +19,61 @@ pub struct Finding {
     pub name: u32,
     pub one: u32,
     pub two: u32,
+    pub mark: u32,
 }
 
+// In a log, where findings have six words, the code of E1002 of a generated name: its id and the span follow.
+const SHADOW: u32 = 6;
+
+// The six words of a finding in a log.
 impl From<[u32; 6]> for Finding {
-    ghost from_gives = { λ words finding. finding ≡ record_at words 0 };
+    ghost from_gives = { λ words finding. finding_by finding ≡ logged_in words };
 
     fn from(words: [u32; 6]) -> Finding {
+        let [code, a, b, c, d, e] = words;
+        if code == SHADOW {
+            return Finding {
+                code: 1002,
+                start: b,
+                end: c,
+                name: a,
+                one: 0,
+                two: 0,
+                mark: 1,
+            };
+        }
         Finding {
-            code: words[0],
-            start: words[1],
-            end: words[2],
-            name: words[3],
-            one: words[4],
-            two: words[5],
+            code,
+            start: a,
+            end: b,
+            name: c,
+            one: d,
+            two: e,
+            mark: 0,
         }
     }
 }
 
-impl From<Finding> for [u32; 6] {
-    ghost from_gives = { λ finding words. words ≡ words_of finding };
-
-    fn from(f: Finding) -> [u32; 6] {
-        [f.code, f.start, f.end, f.name, f.one, f.two]
+// E1002 of a name in a log.
+pub fn shadow(name: Name, start: u32, end: u32) -> [u32; 6]
+    requires { Cites name }
+    ensures { logged_in result ≡ finding e1002 start end (Some (name_of name)) 0 0 }
+{
+    match name.mark {
+        0 => [1002, start, end, name.word + 1, 0, 0],
+        _ => [SHADOW, name.word, start, end, 0, 0],
     }
 }
 
-// The six words from p on.
+impl From<Finding> for [u32; 7] {
+    ghost from_gives = { λ finding words. words ≡ words_of finding };
+
+    fn from(f: Finding) -> [u32; 7] {
+        [f.code, f.start, f.end, f.name, f.one, f.two, f.mark]
+    }
+}
+
+// The six words of a log from p on.
 pub fn six_at(words: &[u32], p: usize) -> [u32; 6]
     requires { p + 6 ≤ length words.now }
     ensures { result ≡ six_at words.now p }
@@ -47,28 +81,37 @@ pub fn six_at(words: &[u32], p: usize) -> [u32; 6]
     *words[p..].first_chunk().unwrap()
 }
 
-// The record at place i of a flat list, six words a record.
+// The record at place i of a flat list, seven words a record.
 pub fn record_at(flat: &[u32], i: usize) -> Finding
-    requires { i * 6 + 6 ≤ length flat.now }
+    requires { i * 7 + 7 ≤ length flat.now }
     ensures { result ≡ record_at flat.now i }
 {
-    Finding::from(six_at(flat, i * 6))
+    let at = i * 7;
+    Finding {
+        code: flat[at],
+        start: flat[at + 1],
+        end: flat[at + 2],
+        name: flat[at + 3],
+        one: flat[at + 4],
+        two: flat[at + 5],
+        mark: flat[at + 6],
+    }
 }
 
-// A record's six words, stored at place i of a flat list.
+// A record's seven words, stored at place i of a flat list.
 pub fn words_at(flat: &mut [u32], i: usize, f: Finding)
-    requires { i * 6 + 6 ≤ length flat.old }
-    ensures { flat.new ≡ sets flat.old (i * 6) (words_of f) }
+    requires { i * 7 + 7 ≤ length flat.old }
+    ensures { flat.new ≡ sets flat.old (i * 7) (words_of f) }
 {
-    let at = i * 6;
-    let words: [u32; 6] = f.into();
-    flat[at..at + 6].copy_from_slice(&words);
+    let at = i * 7;
+    let words: [u32; 7] = f.into();
+    flat[at..at + 7].copy_from_slice(&words);
 }
 
 // The first `count` entries become the flat list's records, and the rest is left as it was.
 #[tactic(auto, unfolding(crate::specs::Records::into))]
 pub fn store_all(list: &mut [Finding], flat: &[u32], count: usize)
-    requires { (count ≤ length list.old) × (count * 6 ≤ length flat.now) }
+    requires { (count ≤ length list.old) × (count * 7 ≤ length flat.now) }
     ensures { list.new ≡ into list.old flat.now count }
 {
     for (i, record) in list[..count].iter_mut().enumerate() {
@@ -79,7 +122,7 @@ pub fn store_all(list: &mut [Finding], flat: &[u32], count: usize)
 // The other way: the flat list's first `count` records become those of the list. By place: a record's words are stored by theirs.
 #[tactic(auto, unfolding(crate::specs::Records::out_of))]
 pub fn load_all(flat: &mut [u32], list: &[Finding], count: usize)
-    requires { (count * 6 ≤ length flat.old) × (count ≤ length list.now) }
+    requires { (count * 7 ≤ length flat.old) × (count ≤ length list.now) }
     ensures { flat.new ≡ out_of flat.old list.now count }
 {
     for i in 0..count {

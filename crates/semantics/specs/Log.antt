@@ -1,7 +1,7 @@
 -- What the walks say, in order: the log (document 01, "What comes out"). The five lists are views of it.
-use Rattle.std.specs.Prelude.{ℕ, Bool, length, Option}
+use Rattle.std.specs.Prelude.{ℕ, zero, suc, Bool, length, Option, None, Some}
 use mathlib.Core.List.{List, [], ◌∷◌, flat_map}
-use Rattle.scope.specs.Graph.{Scope, Name, Carried}
+use Rattle.scope.specs.Graph.{Scope, Name, indexed, Carried}
 
 -- "Code is the four-digit number"
 abbrev pub e1001 : ℕ
@@ -28,6 +28,11 @@ e5011 = 5011
 -- "finding records: code, start, end, name + 1 or 0, two details", and the mark of the name (document 02, CR 5)
 pub data Finding : Type 0 where
   finding : (code start stop : ℕ) (name : Option Name) (one two : ℕ) → Finding
+
+-- what "name + 1 or 0" cites
+abbrev pub cited : ℕ → Option Name
+cited zero = None
+cited (suc x) = Some (indexed x)
 
 -- "answer (variable, kind, via_projection, or unresolved)"
 pub data Answer : Type 0 where
