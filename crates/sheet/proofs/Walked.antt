@@ -1,5 +1,4 @@
--- What an accepted sheet gives the walks: its sections stand in order, its names and bindings are the statement's, and so are its head and
--- arms.
+-- What an accepted sheet gives the walks: its sections stand in order, and its names, bindings, head and arms are the statement's.
 use Prim.Native.Nat.{ℕ, ◌+◌, ◌*◌, ◌≤◌}
 use native.Mathlib.Omega.{arith}
 use mathlib.Core.Path.{◌≡◌, ◌∙◌}
