@@ -1,5 +1,4 @@
 pub mod Body
-pub mod StrictClause
 pub mod WrittenClause
 pub mod ReadsBackClause
 pub mod ErasedClause

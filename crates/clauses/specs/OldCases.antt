@@ -1,7 +1,6 @@
 -- Expressions 25 in each place of a clause, counted, and one that is read. Edits of the count are refused here.
 use Rattle.std.specs.Prelude.{ℕ, ◌≡◌, refl, List, [], ◌∷◌, map, None}
 use Rattle.heads.specs.Got.{ok, word_in}
-use Rattle.heads.specs.Head.{Tables}
 use Rattle.heads.specs.Form.{read_form, rest_of, shape_of, form_none}
 use Rattle.expr.specs.Tree.{done, more, mark, tree}
 use Rattle.expr.specs.Olds.{olds_e}
@@ -38,6 +37,6 @@ unfolding olds_as olds_a olds_cs olds_c olds_e
 arms = refl
 
 -- "they are read as before"
-pub stored : (t : Tables) → read_clause t (2 ∷ 0 ∷ 0 ∷ 25 ∷ []) ≡ ok old_where []
+pub stored : (names : ℕ) → read_clause names (2 ∷ 0 ∷ 0 ∷ 25 ∷ []) ≡ ok old_where []
 unfolding clausal read tree read_form rest_of shape_of form_none word_in
-stored t = refl
+stored names = refl

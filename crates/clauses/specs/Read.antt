@@ -1,7 +1,6 @@
--- Clauses and arms read from words (document 01, "Clause"; causes 5, 6 and 7).
-use Rattle.std.specs.Prelude.{cond, ℕ, zero, suc, List, [], ◌∷◌, Option, None, Some}
+-- Clauses and arms read from words (document 01, "Clause"; causes 5 and 6).
+use Rattle.std.specs.Prelude.{ℕ, zero, suc, List, [], ◌∷◌, Option, None, Some}
 use Rattle.heads.specs.Got.{Got, ok, no, bind, look, word_in, any_word, flag, counted}
-use Rattle.heads.specs.Head.{Tables}
 use Rattle.expr.specs.Tree.{Exprs}
 use Rattle.expr.specs.Read.{Reader, read_expr, times, no_more, marks, pattern}
 use Rattle.clauses.specs.Tree.{Projection, projection, Yield, yield, Opening, match, create, merge, Reading, where', set, remove, delete, Keys, unsorted, sorted, Clause, opening, reading, with', return, unwind, call, Arm, arm}
@@ -15,16 +14,17 @@ abbrev pub alias_of : ℕ → Option ℕ
 alias_of zero = None
 alias_of (suc x) = Some x
 
-module _ (w : Tables) where
+-- where there are so many names
+module _ (names : ℕ) where
   abbrev pub clause_expr : Reader
-  clause_expr = read_expr w max_depth
+  clause_expr = read_expr names max_depth
 
   unfoldable pub read_projection : List ℕ → Got Projection
-  read_projection ws = bind (word_in 0 (suc w.names) ws) (λ a r. bind (clause_expr r) (λ e r2. ok (projection (alias_of a) e) r2))
+  read_projection ws = bind (word_in 0 (suc names) ws) (λ a r. bind (clause_expr r) (λ e r2. ok (projection (alias_of a) e) r2))
 
   unfoldable pub read_yield : List ℕ → Got Yield
   read_yield ws =
-      bind (word_in 0 w.names ws) (λ x r. bind (word_in 0 (suc w.names) r) (λ a r2. bind (any_word r2) (λ v r3. ok (yield x (alias_of a) v) r3)))
+      bind (word_in 0 names ws) (λ x r. bind (word_in 0 (suc names) r) (λ a r2. bind (any_word r2) (λ v r3. ok (yield x (alias_of a) v) r3)))
 
   -- a count, and as many expressions
   unfoldable pub counted_exprs : List ℕ → Got Exprs
@@ -48,10 +48,10 @@ module _ (w : Tables) where
   -- What follows the kind and the span, a clause kind each; K reads the sort keys.
   module _ (a b : ℕ) where
     unfoldable pub read_match : List ℕ → Got Clause
-    read_match ws = bind (flag ws) (λ o r. bind (pattern w clause_expr r) (λ s r2. ok (opening (match o) a b s) r2))
+    read_match ws = bind (flag ws) (λ o r. bind (pattern clause_expr r) (λ s r2. ok (opening (match o) a b s) r2))
 
     unfoldable pub read_opening : Opening → List ℕ → Got Clause
-    read_opening o ws = bind (pattern w clause_expr ws) (λ s r. ok (opening o a b s) r)
+    read_opening o ws = bind (pattern clause_expr ws) (λ s r. ok (opening o a b s) r)
 
     unfoldable pub read_where : List ℕ → Got Clause
     read_where ws = bind (times 1 clause_expr no_more ws) (λ es r. ok (reading where' a b es) r)
@@ -64,9 +64,8 @@ module _ (w : Tables) where
     unfoldable pub read_return : (List ℕ → Got Keys) → List ℕ → Got Clause
     read_return K ws = bind (counted read_projection ws) (λ ps r. bind (K r) (λ ks r2. ok (return a b ps ks) r2))
 
-    -- the variable is bound: cause 7 where it is not known
     unfoldable pub read_unwind : List ℕ → Got Clause
-    read_unwind ws = bind (any_word ws) (λ v r. cond (w.known v) (bind (clause_expr r) (λ e r2. ok (unwind a b v e) r2)) (no 7))
+    read_unwind ws = bind (any_word ws) (λ v r. bind (clause_expr r) (λ e r2. ok (unwind a b v e) r2))
 
     unfoldable pub read_marked : Reading → ℕ → List ℕ → Got Clause
     read_marked which kind ws = bind (counted_marks kind ws) (λ es r. ok (reading which a b es) r)

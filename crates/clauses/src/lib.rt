@@ -5,7 +5,7 @@ mod kind;
 
 ghost use Rattle.std.specs.Prelude.{Bool, true, false, ℕ, ◌≤◌, length, drop};
 ghost use Rattle.heads.specs.Got.{counted};
-ghost use Rattle.heads.specs.Answer.{Reads, words_of, tables_of, kind_of};
+ghost use Rattle.heads.specs.Answer.{Reads, words_of, kind_of};
 ghost use Rattle.clauses.specs.Tree as tree;
 ghost use Rattle.clauses.specs.Read.{read_projection, read_yield, counted_exprs, counted_marks, no_keys, read_match, read_with, read_unwind, read_call, read_body, read_clause, read_arm};
 ghost use Rattle.clauses.specs.Kind.{code_of};
@@ -53,7 +53,7 @@ impl Item for Yield {
 // A count, and as many expressions. Not by `counted`: flat reads a row whole, with the parts of its plain heads.
 pub fn counted_exprs(section: &Section, at: usize) -> Result<usize, Refusal>
     requires { at ≤ length (words_of section.now) }
-    ensures { Reads (words_of section.now) at (counted_exprs (tables_of section.now)) result }
+    ensures { Reads (words_of section.now) at (counted_exprs section.now.names) result }
 {
     let (n, at) = section.any_word(at)?;
     read_kids(section, at, MAX_DEPTH, n as usize)
@@ -62,7 +62,7 @@ pub fn counted_exprs(section: &Section, at: usize) -> Result<usize, Refusal>
 // A count, and as many marks of a kind with their expressions. Not by `counted`: a mark's reader is told the kind, and an Item's is told nothing.
 pub fn counted_marks(section: &Section, at: usize, kind: MarkKind) -> Result<usize, Refusal>
     requires { at ≤ length (words_of section.now) }
-    ensures { Reads (words_of section.now) at (counted_marks (tables_of section.now) (kind_of kind)) result }
+    ensures { Reads (words_of section.now) at (counted_marks section.now.names (kind_of kind)) result }
 {
     let (n, at) = section.any_word(at)?;
     read_marks(section, at, MAX_DEPTH, kind, n)
@@ -71,7 +71,7 @@ pub fn counted_marks(section: &Section, at: usize, kind: MarkKind) -> Result<usi
 // Match: a flag, a pattern.
 pub fn read_match(section: &Section, at: usize) -> Result<usize, Refusal>
     requires { at ≤ length (words_of section.now) }
-    ensures { Reads (words_of section.now) at (read_match (tables_of section.now) 0 0) result }
+    ensures { Reads (words_of section.now) at (read_match section.now.names 0 0) result }
 {
     let (_, at) = section.flag(at)?;
     read_pattern(section, at, MAX_DEPTH, true)
@@ -80,7 +80,7 @@ pub fn read_match(section: &Section, at: usize) -> Result<usize, Refusal>
 // With: projections, a flag, a filter if it is 1.
 pub fn read_with(section: &Section, at: usize) -> Result<usize, Refusal>
     requires { at ≤ length (words_of section.now) }
-    ensures { Reads (words_of section.now) at (read_with (tables_of section.now) 0 0 (no_keys (tables_of section.now))) result }
+    ensures { Reads (words_of section.now) at (read_with section.now.names 0 0 (no_keys section.now.names)) result }
 {
     let at = counted::<Projection>(section, at)?;
     let (filtered, at) = section.flag(at)?;
@@ -90,7 +90,7 @@ pub fn read_with(section: &Section, at: usize) -> Result<usize, Refusal>
 // With, sorted: the same, a count, and as many sort keys.
 pub fn read_sorted_with(section: &Section, at: usize) -> Result<usize, Refusal>
     requires { at ≤ length (words_of section.now) }
-    ensures { Reads (words_of section.now) at (sorted_with (tables_of section.now)) result }
+    ensures { Reads (words_of section.now) at (sorted_with section.now.names) result }
 {
     let at = read_with(section, at)?;
     counted_exprs(section, at)
@@ -99,28 +99,25 @@ pub fn read_sorted_with(section: &Section, at: usize) -> Result<usize, Refusal>
 // Return, sorted: projections, a count, and as many sort keys.
 pub fn read_sorted_return(section: &Section, at: usize) -> Result<usize, Refusal>
     requires { at ≤ length (words_of section.now) }
-    ensures { Reads (words_of section.now) at (sorted_return (tables_of section.now)) result }
+    ensures { Reads (words_of section.now) at (sorted_return section.now.names) result }
 {
     let at = counted::<Projection>(section, at)?;
     counted_exprs(section, at)
 }
 
-// Unwind: a variable that is bound, an expression.
+// Unwind: a variable, an expression.
 pub fn read_unwind(section: &Section, at: usize) -> Result<usize, Refusal>
     requires { at ≤ length (words_of section.now) }
-    ensures { Reads (words_of section.now) at (read_unwind (tables_of section.now) 0 0) result }
+    ensures { Reads (words_of section.now) at (read_unwind section.now.names 0 0) result }
 {
-    let (v, at) = section.any_word(at)?;
-    if !section.knows(v) {
-        return Err(Refusal::Unbound);
-    }
+    let (_, at) = section.any_word(at)?;
     read_expr(section, at, MAX_DEPTH)
 }
 
 // Call: arguments, yields.
 pub fn read_call(section: &Section, at: usize) -> Result<usize, Refusal>
     requires { at ≤ length (words_of section.now) }
-    ensures { Reads (words_of section.now) at (read_call (tables_of section.now) 0 0) result }
+    ensures { Reads (words_of section.now) at (read_call section.now.names 0 0) result }
 {
     let at = counted_exprs(section, at)?;
     counted::<Yield>(section, at)
@@ -129,7 +126,7 @@ pub fn read_call(section: &Section, at: usize) -> Result<usize, Refusal>
 // What follows the kind and the span of a clause.
 pub fn read_body(section: &Section, at: usize, kind: ClauseKind) -> Result<usize, Refusal>
     requires { at ≤ length (words_of section.now) }
-    ensures { Reads (words_of section.now) at (read_body (tables_of section.now) 0 0 (code_of kind)) result }
+    ensures { Reads (words_of section.now) at (read_body section.now.names 0 0 (code_of kind)) result }
 {
     match kind {
         ClauseKind::Match => read_match(section, at),

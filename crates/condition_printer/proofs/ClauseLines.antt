@@ -6,7 +6,6 @@ use mathlib.Core.Bool.{true}
 use mathlib.Core.List.{List, [], ◌∷◌, ◌++◌, append-nil, flat_map}
 use lib.ListN.{length, get_or, drop, length-drop}
 use Rattle.heads.specs.Got.{Got, ok, bind, bare, is_ok, many}
-use Rattle.heads.specs.Head.{Tables}
 use Rattle.expr.specs.Tree.{Expr}
 use Rattle.expr.specs.Read.{read_expr}
 use Rattle.expr.specs.Write.{write_e}
@@ -25,9 +24,9 @@ use Rattle.condition_printer.proofs.Clauses.{ArmAt, arm_at}
 rest-is : {A : Type 0} {g : Got A} {x : A} {r q : List ℕ} → g ≡ ok x r → bare g ≡ ok tt q → r ≡ q
 rest-is p q = let z = rw p at q in cc
 
-module _ (ws : List ℕ) (t : Tables) (at k : ℕ) (old : List ℕ) (h : Ready (read_clause t (drop at ws)) ws at k (length old)) where
+module _ (ws : List ℕ) (names at k : ℕ) (old : List ℕ) (h : Ready (read_clause names (drop at ws)) ws at k (length old)) where
   abbrev found : Got Clause
-  found = read_clause t (drop at ws)
+  found = read_clause names (drop at ws)
 
   abbrev clause : Clause
   clause = (ok-inverse found h.fine).0
@@ -39,7 +38,7 @@ module _ (ws : List ℕ) (t : Tables) (at k : ℕ) (old : List ℕ) (h : Ready (
   reads_so = (ok-inverse found h.fine).1.1
 
   spelt : drop at ws ≡ write_clause clause ++ after
-  spelt = (clause-written t (drop at ws) clause after reads_so).0
+  spelt = (clause-written names (drop at ws) clause after reads_so).0
 
   -- the clause ends at the word `next`
   module _ (next : ℕ) (e : bare found ≡ ok tt (drop next ws)) (f : at ≤ next) (w : next ≤ length ws) where
@@ -48,23 +47,23 @@ module _ (ws : List ℕ) (t : Tables) (at k : ℕ) (old : List ℕ) (h : Ready (
     line-none n = put (begin next 0 h f w (omega arith)) clause reads_so (rest-is reads_so e) spelt h.inside (sym (ap page_of (n clause after reads_so)))
 
     -- its condition stands at the word q
-    module _ (q : ℕ) (s : Stands ws t at q) where
+    module _ (q : ℕ) (s : Stands ws names at q) where
       abbrev condition : Expr
-      condition = (ok-inverse (read_expr t max_depth (drop q ws)) s.fine).0
+      condition = (ok-inverse (read_expr names max_depth (drop q ws)) s.fine).0
 
       abbrev behind : List ℕ
-      behind = (ok-inverse (read_expr t max_depth (drop q ws)) s.fine).1.0
+      behind = (ok-inverse (read_expr names max_depth (drop q ws)) s.fine).1.0
 
-      condition-is : read_expr t max_depth (drop q ws) ≡ ok condition behind
-      condition-is = (ok-inverse (read_expr t max_depth (drop q ws)) s.fine).1.1
+      condition-is : read_expr names max_depth (drop q ws) ≡ ok condition behind
+      condition-is = (ok-inverse (read_expr names max_depth (drop q ws)) s.fine).1.1
 
       begun : Stage ws at k old [] q 15 old k
       begun = begin q 15 h (omega (arith, s.from)) s.within (omega (arith, s.from))
 
-      pub line-ready : Ready (read_expr t max_depth (drop q ws)) ws q k (length old)
-      line-ready = ready begun (read_expr t max_depth (drop q ws)) s.fine h.few
+      pub line-ready : Ready (read_expr names max_depth (drop q ws)) ws q k (length old)
+      line-ready = ready begun (read_expr names max_depth (drop q ws)) s.fine h.few
 
-      module _ {x j : ℕ} {mid : List ℕ} (u : Put (read_expr t max_depth (drop q ws)) write_e (printed_at 0 q) ws q k old mid x j) where
+      module _ {x j : ℕ} {mid : List ℕ} (u : Put (read_expr names max_depth (drop q ws)) write_e (printed_at 0 q) ws q k old mid x j) where
         pub line-fits : j + 1 ≤ length mid
         line-fits = fits (part begun u condition behind condition-is) 1 1 (omega arith) (omega arith)
 
@@ -82,12 +81,12 @@ bind_ok : {A B : Type 0} {g : Got A} {x : A} {r : List ℕ} (f : A → B) → g 
 bind_ok f e = rw e
 
 -- an arm's clauses stand from the word at + 3 on
-module _ (ws : List ℕ) (t : Tables) (at k : ℕ) (old : List ℕ) (h : Ready (read_arm t (drop at ws)) ws at k (length old)) where
+module _ (ws : List ℕ) (names at k : ℕ) (old : List ℕ) (h : Ready (read_arm names (drop at ws)) ws at k (length old)) where
   abbrev clauses : Got (List Clause)
-  clauses = many (read_clause t) (get_or ws (at + 2) 0) (drop (at + 3) ws)
+  clauses = many (read_clause names) (get_or ws (at + 2) 0) (drop (at + 3) ws)
 
-  an-arm : ArmAt ws t at h.fine
-  an-arm = arm_at ws t at h.fine
+  an-arm : ArmAt ws names at h.fine
+  an-arm = arm_at ws names at h.fine
 
   clauses-fine : is_ok clauses ≡ true
   clauses-fine = ok-left clauses _ (rw an-arm.same at h.fine)
@@ -101,9 +100,9 @@ module _ (ws : List ℕ) (t : Tables) (at k : ℕ) (old : List ℕ) (h : Ready (
   pub arm-inside : at + 3 ≤ length ws
   arm-inside = an-arm.inside
 
-  pub arm-put : {new : List ℕ} {next end : ℕ} → Put clauses (row_words write_clause) (text_of (in_row write_clause of_clause) (at + 3)) ws (at + 3) k old new next end → Put (read_arm t (drop at ws)) write_arm (text_of of_arm at) ws at k old new next end
+  pub arm-put : {new : List ℕ} {next end : ℕ} → Put clauses (row_words write_clause) (text_of (in_row write_clause of_clause) (at + 3)) ws (at + 3) k old new next end → Put (read_arm names (drop at ws)) write_arm (text_of of_arm at) ws at k old new next end
   unfolding of_arm
   arm-put u =
       let i = ok-inverse clauses clauses-fine in
-      let e : read_arm t (drop at ws) ≡ ok (arm an-arm.start an-arm.stop i.0) i.1.0 = an-arm.same ∙ bind_ok (arm an-arm.start an-arm.stop) i.1.1 in
-      put (part arm-begun u i.0 i.1.0 i.1.1) (arm an-arm.start an-arm.stop i.0) e (u.is i.0 i.1.0 i.1.1).0 (arm_written t (drop at ws) _ i.1.0 e).0 h.inside refl
+      let e : read_arm names (drop at ws) ≡ ok (arm an-arm.start an-arm.stop i.0) i.1.0 = an-arm.same ∙ bind_ok (arm an-arm.start an-arm.stop) i.1.1 in
+      put (part arm-begun u i.0 i.1.0 i.1.1) (arm an-arm.start an-arm.stop i.0) e (u.is i.0 i.1.0 i.1.1).0 (arm_written names (drop at ws) _ i.1.0 e).0 h.inside refl

@@ -9,7 +9,6 @@ use mathlib.Core.List.{List, [], ◌∷◌, ◌++◌}
 use lib.ListN.{length, get_or, drop, length-append, length-drop}
 use lib.Seq.{get_or-drop}
 use Rattle.heads.specs.Got.{Got, ok, bind, bare, is_ok, word_in, any_word, flag, counted, many}
-use Rattle.heads.specs.Head.{Tables}
 use Rattle.heads.specs.Answer.{Reads}
 use Rattle.std.specs.Prelude.{◌≢◌, Result, Ok, Err}
 use Rattle.std.specs.Result.{IsOk}
@@ -33,13 +32,13 @@ use Rattle.condition_printer.specs.Conditions.{of_clause}
 use Rattle.condition_printer.specs.Page.{IsWith, Stands}
 
 -- a clause's kind and span, and what follows
-record Opened (t : Tables) (ws : List ℕ) (at : ℕ) : Type 0 where
-  same : read_clause t (drop at ws) ≡ read_body t (get_or ws (at + 1) 0) (get_or ws (at + 2) 0) (get_or ws at 0) (drop (at + 3) ws)
+record Opened (names : ℕ) (ws : List ℕ) (at : ℕ) : Type 0 where
+  same : read_clause names (drop at ws) ≡ read_body names (get_or ws (at + 1) 0) (get_or ws (at + 2) 0) (get_or ws at 0) (drop (at + 3) ws)
   inside : at + 3 ≤ length ws
 
-opens : (t : Tables) (ws : List ℕ) (at : ℕ) → is_ok (read_clause t (drop at ws)) ≡ true → Opened t ws at
+opens : (names : ℕ) (ws : List ℕ) (at : ℕ) → is_ok (read_clause names (drop at ws)) ≡ true → Opened names ws at
 unfolding read_clause
-opens t ws at o =
+opens names ws at o =
     let a = word-there 0 4294967296 ws at (ok-left (any_word (drop at ws)) _ o) in
     let p = rw a.1 at o in
     let b = word-there 0 4294967296 ws (at + 1) (ok-left (any_word (drop (at + 1) ws)) _ p) in
@@ -104,12 +103,12 @@ filter-begins ws at q a b ps e ks r l m x y =
     omega (arith, length-drop at ws, length-drop (q + 1) ws, ap length x, ap length y, length-append (key_code 3 12 ks ∷ a ∷ b ∷ c ++ (kid_count (more e done) ∷ f ++ k)) r, length-append c (kid_count (more e done) ∷ f ++ k), length-append f k, length-append (write_e e) [], length-append (write_e e) (k ++ r), length-append k r)
 
 -- how a WITH's sort keys are read, by its kind: their words are those up to the end of the clause
-module _ (t : Tables) {kind : ℕ} where
+module _ (names : ℕ) {kind : ℕ} where
   abbrev keys_read : IsWith kind → List ℕ → Got Keys
-  keys_read (inl k) = no_keys t
-  keys_read (inr k) = some_keys t
+  keys_read (inl k) = no_keys names
+  keys_read (inr k) = some_keys names
 
-  with-body : (k : IsWith kind) (a b : ℕ) (l : List ℕ) → read_body t a b kind l ≡ read_with t a b (keys_read k) l
+  with-body : (k : IsWith kind) (a b : ℕ) (l : List ℕ) → read_body names a b kind l ≡ read_with names a b (keys_read k) l
   unfolding read_body
   with-body (inl k) a b l = rw k
   with-body (inr k) a b l = rw k
@@ -117,37 +116,37 @@ module _ (t : Tables) {kind : ℕ} where
   keys-give : (k : IsWith kind) (l : List ℕ) → Gives (keys_read k l) (λ ks r. l ≡ write_keys ks ++ r)
   unfolding no_keys some_keys counted_exprs write_keys
   keys-give (inl k) l = gave refl
-  keys-give (inr k) l = after (after (word-gives 0 4294967296 l) (λ n r p. so (row_gives t max_depth (clause_expr t) (expr-gives t max_depth) n r) (λ es u q. cc))) (λ es r p. gave p)
+  keys-give (inr k) l = after (after (word-gives 0 4294967296 l) (λ n r p. so (row_gives names max_depth (clause_expr names) (expr-gives names max_depth) n r) (λ es u q. cc))) (λ es r p. gave p)
 
-module _ (ws : List ℕ) (t : Tables) (at : ℕ) (o : is_ok (read_clause t (drop at ws)) ≡ true) where
+module _ (ws : List ℕ) (names at : ℕ) (o : is_ok (read_clause names (drop at ws)) ≡ true) where
   abbrev P : Reader
-  P = clause_expr t
+  P = clause_expr names
 
-  other-word : (get_or ws at 0 ≡ 2 → ⊥) × (IsWith (get_or ws at 0) → ⊥) → (c : Clause) (r : List ℕ) → read_clause t (drop at ws) ≡ ok c r → of_clause c at ≡ []
+  other-word : (get_or ws at 0 ≡ 2 → ⊥) × (IsWith (get_or ws at 0) → ⊥) → (c : Clause) (r : List ℕ) → read_clause names (drop at ws) ≡ ok c r → of_clause c at ≡ []
   other-word h c r e =
       let g : get_or (drop at ws) 0 0 ≡ get_or ws at 0 = get_or-drop at ws 0 0 ∙ (let z : at + 0 ≡ at = omega arith in rw z) in
-      no-condition c at (drop at ws) r (clause-written t (drop at ws) c r e).0 (λ q. h.0 (sym g ∙ q)) (λ q. h.1 (rw g at q))
+      no-condition c at (drop at ws) r (clause-written names (drop at ws) c r e).0 (λ q. h.0 (sym g ∙ q)) (λ q. h.1 (rw g at q))
 
   -- a kind that has none, and a code that no kind has
-  pub other-kind : (k : ClauseKind) → code_of k ≡ get_or ws at 0 → (k ≡ Where → ⊥) → (k ≡ With → ⊥) → (k ≡ SortedWith → ⊥) → (c : Clause) (r : List ℕ) → read_clause t (drop at ws) ≡ ok c r → of_clause c at ≡ []
+  pub other-kind : (k : ClauseKind) → code_of k ≡ get_or ws at 0 → (k ≡ Where → ⊥) → (k ≡ With → ⊥) → (k ≡ SortedWith → ⊥) → (c : Clause) (r : List ℕ) → read_clause names (drop at ws) ≡ ok c r → of_clause c at ≡ []
   other-kind k e x y z = other-word (rw e at (other-code k x y z))
 
-  pub no-kind : {e : Refusal} → Decodes (get_or ws at 0) (Err e) → (c : Clause) (r : List ℕ) → read_clause t (drop at ws) ≡ ok c r → of_clause c at ≡ []
+  pub no-kind : {e : Refusal} → Decodes (get_or ws at 0) (Err e) → (c : Clause) (r : List ℕ) → read_clause names (drop at ws) ≡ ok c r → of_clause c at ≡ []
   no-kind h = other-word (no-code (get_or ws at 0) h.1)
 
   -- a WHERE
-  where-is : get_or ws at 0 ≡ 2 → read_clause t (drop at ws) ≡ read_where t (get_or ws (at + 1) 0) (get_or ws (at + 2) 0) (drop (at + 3) ws)
+  where-is : get_or ws at 0 ≡ 2 → read_clause names (drop at ws) ≡ read_where names (get_or ws (at + 1) 0) (get_or ws (at + 2) 0) (drop (at + 3) ws)
   unfolding read_body
-  where-is k = (opens t ws at o).same ∙ rw k
+  where-is k = (opens names ws at o).same ∙ rw k
 
-  pub where-stands : get_or ws at 0 ≡ 2 → Stands ws t at (at + 3)
+  pub where-stands : get_or ws at 0 ≡ 2 → Stands ws names at (at + 3)
   unfolding read_where of_clause cond_e
   where-stands k =
       let s = where-is k in
       record {
         fine = one-fine P (drop (at + 3) ws) (ok-left (times 1 P no_more (drop (at + 3) ws)) _ (rw s at o));
         from = omega arith;
-        within = (opens t ws at o).inside;
+        within = (opens names ws at o).inside;
         is = λ c r e q h g. (
             let w : ok (reading where' (get_or ws (at + 1) 0) (get_or ws (at + 2) 0) (more e done)) q ≡ ok c r = rw (s, one-row P (drop (at + 3) ws) g) at h in
             let x : reading where' (get_or ws (at + 1) 0) (get_or ws (at + 2) 0) (more e done) ≡ c = cc in
@@ -157,35 +156,35 @@ module _ (ws : List ℕ) (t : Tables) (at : ℕ) (o : is_ok (read_clause t (drop
 
   -- a WITH, its projections read up to the word q
   module _ (k : IsWith (get_or ws at 0)) where
-    with-is : read_clause t (drop at ws) ≡ read_with t (get_or ws (at + 1) 0) (get_or ws (at + 2) 0) (keys_read t k) (drop (at + 3) ws)
-    with-is = (opens t ws at o).same ∙ with-body t k _ _ _
+    with-is : read_clause names (drop at ws) ≡ read_with names (get_or ws (at + 1) 0) (get_or ws (at + 2) 0) (keys_read names k) (drop (at + 3) ws)
+    with-is = (opens names ws at o).same ∙ with-body names k _ _ _
 
     pub projections-begin : at + 3 ≤ length ws
-    projections-begin = (opens t ws at o).inside
+    projections-begin = (opens names ws at o).inside
 
-    projections-fine : is_ok (counted (read_projection t) (drop (at + 3) ws)) ≡ true
+    projections-fine : is_ok (counted (read_projection names) (drop (at + 3) ws)) ≡ true
     unfolding read_with
-    projections-fine = ok-left (counted (read_projection t) (drop (at + 3) ws)) _ (rw with-is at o)
+    projections-fine = ok-left (counted (read_projection names) (drop (at + 3) ws)) _ (rw with-is at o)
 
-    pub projections-there : (r : Result ℕ Refusal) → Reads ws (at + 3) (counted (read_projection t)) r → IsOk r
+    pub projections-there : (r : Result ℕ Refusal) → Reads ws (at + 3) (counted (read_projection names)) r → IsOk r
     projections-there (Ok p) u = refl
-    projections-there (Err e) u = refused (counted (read_projection t) (drop (at + 3) ws)) (number_of e) projections-fine u.same
+    projections-there (Err e) u = refused (counted (read_projection names) (drop (at + 3) ws)) (number_of e) projections-fine u.same
 
-    module _ (q : ℕ) (h : bare (counted (read_projection t) (drop (at + 3) ws)) ≡ ok tt (drop q ws)) where
+    module _ (q : ℕ) (h : bare (counted (read_projection names) (drop (at + 3) ws)) ≡ ok tt (drop q ws)) where
       abbrev ps : List Projection
-      ps = (inverse (counted (read_projection t) (drop (at + 3) ws)) (drop q ws) h).0
+      ps = (inverse (counted (read_projection names) (drop (at + 3) ws)) (drop q ws) h).0
 
       abbrev filtered : ℕ → List ℕ → Got Clause
-      filtered g l = bind (times g P no_more l) (λ es r3. bind (keys_read t k r3) (λ ks r4. ok (with' (get_or ws (at + 1) 0) (get_or ws (at + 2) 0) ps es ks) r4))
+      filtered g l = bind (times g P no_more l) (λ es r3. bind (keys_read names k r3) (λ ks r4. ok (with' (get_or ws (at + 1) 0) (get_or ws (at + 2) 0) ps es ks) r4))
 
       -- after the filter its sort keys follow
-      keyed : (es : Exprs) (l : List ℕ) → Gives (bind (keys_read t k l) (λ ks r4. ok (with' (get_or ws (at + 1) 0) (get_or ws (at + 2) 0) ps es ks) r4)) (λ c r. (ks : Keys) × ((c ≡ with' (get_or ws (at + 1) 0) (get_or ws (at + 2) 0) ps es ks) × (l ≡ write_keys ks ++ r)))
-      keyed es l = after (keys-give t k l) (λ ks r p. gave (ks, (refl, p)))
+      keyed : (es : Exprs) (l : List ℕ) → Gives (bind (keys_read names k l) (λ ks r4. ok (with' (get_or ws (at + 1) 0) (get_or ws (at + 2) 0) ps es ks) r4)) (λ c r. (ks : Keys) × ((c ≡ with' (get_or ws (at + 1) 0) (get_or ws (at + 2) 0) ps es ks) × (l ≡ write_keys ks ++ r)))
+      keyed es l = after (keys-give names k l) (λ ks r p. gave (ks, (refl, p)))
 
-      flag_is : (q < length ws) × ((get_or ws q 0 < 2) × (read_clause t (drop at ws) ≡ filtered (get_or ws q 0) (drop (q + 1) ws)))
+      flag_is : (q < length ws) × ((get_or ws q 0 < 2) × (read_clause names (drop at ws) ≡ filtered (get_or ws q 0) (drop (q + 1) ws)))
       unfolding read_with
       flag_is =
-          let i = (inverse (counted (read_projection t) (drop (at + 3) ws)) (drop q ws) h).1 in
+          let i = (inverse (counted (read_projection names) (drop (at + 3) ws)) (drop q ws) h).1 in
           let s = rw i at with-is in
           let w = word-there 0 2 ws q (ok-left (flag (drop q ws)) _ (rw s at o)) in
           (w.0, (((word-gives 0 2 (drop q ws)).given (get_or ws q 0) (drop (q + 1) ws) w.1).2, rw w.1 at s))
@@ -193,33 +192,33 @@ module _ (ws : List ℕ) (t : Tables) (at : ℕ) (o : is_ok (read_clause t (drop
       pub flag-inside : q < length ws
       flag-inside = flag_is.0
 
-      pub filter-stands : at + 3 ≤ q → get_or ws q 0 ≡ 1 → Stands ws t at (q + 1)
+      pub filter-stands : at + 3 ≤ q → get_or ws q 0 ≡ 1 → Stands ws names at (q + 1)
       unfolding of_clause cond_e
       filter-stands f g =
-          let s : read_clause t (drop at ws) ≡ filtered 1 (drop (q + 1) ws) = rw g at flag_is.1.1 in
+          let s : read_clause names (drop at ws) ≡ filtered 1 (drop (q + 1) ws) = rw g at flag_is.1.1 in
           record {
             fine = one-fine P (drop (q + 1) ws) (ok-left (times 1 P no_more (drop (q + 1) ws)) _ (rw s at o));
             from = omega arith;
             within = omega (arith, flag_is.0);
             is = λ c r e u x y. (
                 let w = (keyed (more e done) u).given c r (rw (s, one-row P (drop (q + 1) ws) y) at x) in
-                let n = filter-begins ws at q (get_or ws (at + 1) 0) (get_or ws (at + 2) 0) ps e w.0 r (omega (arith, projections-begin)) flag_is.0 (clause-written t (drop at ws) _ r (rw w.1.0 at x)).0 (rw w.1.1 at (written t max_depth (drop (q + 1) ws) e u y).0) in
+                let n = filter-begins ws at q (get_or ws (at + 1) 0) (get_or ws (at + 2) 0) ps e w.0 r (omega (arith, projections-begin)) flag_is.0 (clause-written names (drop at ws) _ r (rw w.1.0 at x)).0 (rw w.1.1 at (written names max_depth (drop (q + 1) ws) e u y).0) in
                 (ap (λ (z : Clause). of_clause z at) w.1.0 ∙ ap (λ (i : ℕ). cond_e e i ∷ []) n, omega (arith, ap length w.1.1, length-append (write_keys w.0) r)));
           }
 
-      pub no-filter : (get_or ws q 0 ≡ 1 → ⊥) → (c : Clause) (r : List ℕ) → read_clause t (drop at ws) ≡ ok c r → of_clause c at ≡ []
+      pub no-filter : (get_or ws q 0 ≡ 1 → ⊥) → (c : Clause) (r : List ℕ) → read_clause names (drop at ws) ≡ ok c r → of_clause c at ≡ []
       unfolding of_clause times cond_e
       no-filter g c r x =
           let z : get_or ws q 0 ≡ 0 = omega (arith, flag_is.1.0, g) in
-          let s : read_clause t (drop at ws) ≡ filtered 0 (drop (q + 1) ws) = rw z at flag_is.1.1 in
+          let s : read_clause names (drop at ws) ≡ filtered 0 (drop (q + 1) ws) = rw z at flag_is.1.1 in
           ap (λ (u : Clause). of_clause u at) ((keyed done (drop (q + 1) ws)).given c r (rw s at x)).1.0
 
 -- an arm: its clauses, after its span and their count
-module _ (ws : List ℕ) (t : Tables) (at : ℕ) (o : is_ok (read_arm t (drop at ws)) ≡ true) where
+module _ (ws : List ℕ) (names at : ℕ) (o : is_ok (read_arm names (drop at ws)) ≡ true) where
   pub record ArmAt : Type 0 where
     pub start : ℕ
     pub stop : ℕ
-    pub same : read_arm t (drop at ws) ≡ bind (many (read_clause t) (get_or ws (at + 2) 0) (drop (at + 3) ws)) (λ cs r. ok (arm start stop cs) r)
+    pub same : read_arm names (drop at ws) ≡ bind (many (read_clause names) (get_or ws (at + 2) 0) (drop (at + 3) ws)) (λ cs r. ok (arm start stop cs) r)
     pub inside : at + 3 ≤ length ws
 
   pub arm_at : ArmAt

@@ -2,6 +2,5 @@ pub mod Rows
 pub mod RowKinds
 pub mod Clauses
 pub mod ClauseLines
-pub mod Unbound
 pub mod Laid
 pub mod Showing

@@ -1,13 +1,11 @@
 -- The conditions of a sheet in sheet order: "The predicates of WHERE clauses and the filters of WITH", head and then arms.
-use Rattle.std.specs.Prelude.{ℕ, ◌+◌, ◌*◌, List, [], ◌∷◌, ◌++◌, length, take}
+use Rattle.std.specs.Prelude.{ℕ, ◌+◌, List, [], ◌∷◌, ◌++◌, length}
 use Rattle.words.specs.Words.{words}
-use Rattle.heads.specs.Got.{many}
 use Rattle.clauses.specs.Tree.{Reading, where', set, remove, delete, Clause, opening, reading, with', return, unwind, call, Arm, arm}
-use Rattle.clauses.specs.Read.{read_clause, read_arm}
 use Rattle.clauses.specs.Write.{write_projection, counted_words, write_clause, write_arm}
 use Rattle.expr.specs.Tree.{Exprs}
-use Rattle.sheet.specs.Trailer.{section}
-use Rattle.sheet.specs.Read.{Sheet, accepted, then', used_up, any_binder, read_names, read_rows, locate}
+use Rattle.sheet.specs.Trailer.{places_of}
+use Rattle.sheet.specs.Read.{Sheet, accepted, then', read_sheet}
 use Rattle.sheet.specs.declared.trailer.Places.{Places}
 use Rattle.condition.specs.Cond.{Cond}
 use Rattle.condition_text.specs.Tree.{cond_es}
@@ -41,16 +39,6 @@ of_arm (arm a b cs) at = in_row write_clause of_clause cs (at + 3)
 abbrev pub conditions_of : Places → List Clause → List Arm → List Cond
 conditions_of p head arms = in_row write_clause of_clause head p.head ++ in_row write_arm of_arm arms p.tail
 
--- causes 5 and 6 in head and arms
-unfoldable pub read_parts : List ℕ → Places → Sheet (List Clause × List Arm)
-read_parts ws p =
-    then' (used_up (many (read_clause (any_binder p.names)) p.clauses (section ws p.head p.tail)))
-    (λ head. then' (used_up (many (read_arm (any_binder p.names)) p.arms (section ws p.tail p.trailer))) (λ arms. accepted (head, arms)))
-
--- "a sheet refused by 1 to 6 gives that number": a variable without a binding is no hindrance here
+-- those of an accepted sheet: "a sheet refused by 1 to 6 gives that number"
 unfoldable pub read_conditions : List ℕ → Sheet (List Cond)
-read_conditions s =
-    then' (locate s)
-    (λ p. then' (read_names p.names (take (p.rows * 4) s))
-    (λ names. then' (read_rows p.names p.bindings (section (words s) p.rows p.head))
-    (λ rows. then' (read_parts (words s) p) (λ x. accepted (conditions_of p x.0 x.1)))))
+read_conditions s = then' (read_sheet s) (λ st. accepted (conditions_of (places_of (words s)) st.head st.arms))

@@ -5,47 +5,33 @@ mod lines;
 
 ghost use Rattle.std.specs.Prelude.{◌≡◌, ◌≤◌, length, IfOk};
 ghost use Rattle.sheet.specs.Read.{accepted};
-ghost use Rattle.sheet.specs.Answer.{sheet_of};
+ghost use Rattle.sheet.specs.Answer.{sheet_of, opened_as};
 ghost use Rattle.condition_text.specs.Write.{Adds};
 ghost use Rattle.condition_printer.specs.Conditions.{read_conditions};
-ghost use Rattle.condition_printer.specs.Page.{page_of, conditions_as, page_as, conds_in, opened_for};
+ghost use Rattle.condition_printer.specs.Page.{page_of, conditions_as, page_as, conds_in};
 
 use condition_text::Page;
 use lines::{print_arms, print_clauses};
 use refusal::Refusal;
-use sheet::{Places, check_both, find_places, open};
+use sheet::{Places, open};
 
 // Room for 15 bytes for each word of the longest sheet, which no text exceeds.
 pub const ROOM: usize = 15 * 2048;
 
-// Where the sections stand, or which of the causes 1 to 6 the sheet has. Only where a variable has no binding, head and arms are read again,
-// with binders not looked up.
-fn open_unbound(s: &[u8]) -> Result<Places, Refusal>
-    ensures { sheet_of result ≡ opened_for (read_conditions s.now) s.now }
-{
-    let told = open(s);
-    if told.err() != Some(Refusal::Unbound) {
-        return told;
-    }
-    let p = find_places(s)?;
-    check_both(s, p, None)?;
-    Ok(p)
-}
-
 // Writes the text of head and arms on an empty page.
 fn print_all(s: &[u8], p: Places, page: &mut Page<'_>)
-    requires { (accepted p ≡ opened_for (read_conditions s.now) s.now) × ((page.old.end ≡ 0) × (30720 ≤ length page.old.bytes.now)) }
+    requires { (accepted p ≡ opened_as s.now) × ((page.old.end ≡ 0) × (30720 ≤ length page.old.bytes.now)) }
     ensures { Adds (page_of (conds_in (read_conditions s.now))) page.old page.new }
 {
-    let head = p.section(s, p.tail, None);
-    let arms = p.section(s, p.trailer, None);
+    let head = p.section(s, p.tail);
+    let arms = p.section(s, p.trailer);
     print_clauses(&head, p.head, p.clauses, page);
     print_arms(&arms, p.tail, p.arms, page);
 }
 
 // The text is made first, in an array of the largest size (no heap), so that a page that is too short stays as it was.
 fn show(s: &[u8], p: Places, page: &mut [u8]) -> Result<usize, Refusal>
-    requires { accepted p ≡ opened_for (read_conditions s.now) s.now }
+    requires { accepted p ≡ opened_as s.now }
     ensures answer { sheet_of result ≡ conditions_as (read_conditions s.now) (length page.old) }
     ensures page { page.new ≡ page_as (read_conditions s.now) page.old }
     ensures within { IfOk result (λ n. n ≤ length page.new) }
@@ -68,6 +54,6 @@ pub fn conditions(s: &[u8], page: &mut [u8]) -> Result<usize, Refusal>
     ensures page { page.new ≡ page_as (read_conditions s.now) page.old }
     ensures within { IfOk result (λ n. n ≤ length page.new) }
 {
-    let p = open_unbound(s)?;
+    let p = open(s)?;
     show(s, p, page)
 }

@@ -8,7 +8,6 @@ use mathlib.Core.List.{List, [], ◌++◌}
 use lib.ListN.{length, get_or, drop, length-append}
 use lib.Seq.{get_or-drop}
 use Rattle.heads.specs.Got.{Got, ok, no, is_ok, bind, word_in, any_word}
-use Rattle.heads.specs.Head.{Tables}
 use Rattle.heads.specs.Form.{form_words, read_form, rest_of, shape_of, limit_of, form_one}
 use Rattle.heads.specs.declared.Form.{Form}
 use Rattle.heads.specs.declared.Form.TheVariants.{Leaf, Var, Unresolved, Prop, Two as Form-Two, Slice, Many, BinOp, UnaryOp, Case, IsNull, PatternPredicate, ListComprehension, PatternComprehension, ListPredicate, MapProjection}
@@ -62,9 +61,9 @@ pub record Two (P : Reader) (o : ℕ) (r : List ℕ) (e : Expr) (rest : List ℕ
   pub first : P r ≡ ok left mid
   pub second : P mid ≡ ok right rest
 
-two : (t : Tables) (P : Reader) (o : ℕ) (r : List ℕ) (e : Expr) (rest : List ℕ) → after_form t P (BinOp o) r ≡ ok e rest → Two P o r e rest
+two : (P : Reader) (o : ℕ) (r : List ℕ) (e : Expr) (rest : List ℕ) → after_form P (BinOp o) r ≡ ok e rest → Two P o r e rest
 unfolding after_form maybe_pattern times marks tree
-two t P o r e rest h = go (P r) refl h
+two P o r e rest h = go (P r) refl h
   where
     after : (l : Expr) (mid : List ℕ) → P r ≡ ok l mid → (y : Got Expr) → P mid ≡ y → bind (bind (bind y (λ x r2. ok (more x done) r2)) (λ es r2. ok (more l es) r2)) (λ es r3. ok (node (BinOp o) es) r3) ≡ ok e rest → Two P o r e rest
     after l mid p (ok x q) y h =
@@ -82,9 +81,9 @@ pub record One (P : Reader) (o : ℕ) (r : List ℕ) (e : Expr) (rest : List ℕ
   pub is : e ≡ node (UnaryOp o) (more operand done)
   pub first : P r ≡ ok operand rest
 
-one : (t : Tables) (P : Reader) (o : ℕ) (r : List ℕ) (e : Expr) (rest : List ℕ) → after_form t P (UnaryOp o) r ≡ ok e rest → One P o r e rest
+one : (P : Reader) (o : ℕ) (r : List ℕ) (e : Expr) (rest : List ℕ) → after_form P (UnaryOp o) r ≡ ok e rest → One P o r e rest
 unfolding after_form maybe_pattern times marks tree
-one t P o r e rest h = go (P r) refl h
+one P o r e rest h = go (P r) refl h
   where
     go : (x : Got Expr) → P r ≡ x → bind (bind x (λ l mid. ok (more l done) mid)) (λ es r3. ok (node (UnaryOp o) es) r3) ≡ ok e rest → One P o r e rest
     go (ok l mid) p h =
@@ -103,21 +102,21 @@ unfolding write_e form_words
 one-long o x = omega (arith, length-append (write_e x) [])
 
 -- an operator where its code stands
-pub record BinaryAt (t : Tables) (room : ℕ) (ws : List ℕ) (at : ℕ) (e : Expr) (rest : List ℕ) : Type 0 where
+pub record BinaryAt (names room : ℕ) (ws : List ℕ) (at : ℕ) (e : Expr) (rest : List ℕ) : Type 0 where
   pub left : Expr
   pub right : Expr
   pub mid : List ℕ
-  pub first : read_expr t (room - 1) (drop (at + 2) ws) ≡ ok left mid
-  pub second : read_expr t (room - 1) mid ≡ ok right rest
+  pub first : read_expr names (room - 1) (drop (at + 2) ws) ≡ ok left mid
+  pub second : read_expr names (room - 1) mid ≡ ok right rest
   pub known : get_or ws (at + 1) 0 < 20
   pub is : cond_e e at ≡ binary (get_or ws (at + 1) 0) (cond_e left (at + 2)) (cond_e right (at + 2 + length (write_e left)))
   pub long : length (write_e e) ≡ 2 + (length (write_e left) + length (write_e right))
   pub inside : at + 2 ≤ length ws
   pub deep : 0 < room
 
-pub record UnaryAt (t : Tables) (room : ℕ) (ws : List ℕ) (at : ℕ) (e : Expr) (rest : List ℕ) : Type 0 where
+pub record UnaryAt (names room : ℕ) (ws : List ℕ) (at : ℕ) (e : Expr) (rest : List ℕ) : Type 0 where
   pub operand : Expr
-  pub first : read_expr t (room - 1) (drop (at + 2) ws) ≡ ok operand rest
+  pub first : read_expr names (room - 1) (drop (at + 2) ws) ≡ ok operand rest
   pub known : get_or ws (at + 1) 0 < 2
   pub is : cond_e e at ≡ unary (get_or ws (at + 1) 0) (cond_e operand (at + 2))
   pub long : length (write_e e) ≡ 2 + length (write_e operand)
@@ -152,43 +151,43 @@ atom-is (node f es) at ws rest w a b = other f es at ws rest w a b
 atom-is (predicate s) at ws rest w a b = refl
 atom-is (comprehension x y s es) at ws rest w a b = refl
 
-module _ (t : Tables) (room : ℕ) (ws : List ℕ) (at : ℕ) (e : Expr) (rest : List ℕ) (h : read_expr t room (drop at ws) ≡ ok e rest) where
+module _ (names room : ℕ) (ws : List ℕ) (at : ℕ) (e : Expr) (rest : List ℕ) (h : read_expr names room (drop at ws) ≡ ok e rest) where
   some-room : 0 < room
-  some-room = room-left t room (drop at ws) (ap is_ok h)
+  some-room = room-left names room (drop at ws) (ap is_ok h)
 
-  head_ok : (f : Form) × ((r : List ℕ) × (read_form t.names (drop at ws) ≡ ok f r))
+  head_ok : (f : Form) × ((r : List ℕ) × (read_form names (drop at ws) ≡ ok f r))
   unfolding read_expr
-  head_ok = ok-inverse (read_form t.names (drop at ws)) (go room some-room (ap is_ok h))
+  head_ok = ok-inverse (read_form names (drop at ws)) (go room some-room (ap is_ok h))
     where
-      go : (d : ℕ) → 0 < d → is_ok (read_expr t d (drop at ws)) ≡ true → is_ok (read_form t.names (drop at ws)) ≡ true
+      go : (d : ℕ) → 0 < d → is_ok (read_expr names d (drop at ws)) ≡ true → is_ok (read_form names (drop at ws)) ≡ true
       go zero z o = absurd (omega arith)
-      go (suc d) z o = ok-left (read_form t.names (drop at ws)) _ o
+      go (suc d) z o = ok-left (read_form names (drop at ws)) _ o
 
-  pub binary-at : get_or ws at 0 ≡ 15 → BinaryAt t room ws at e rest
+  pub binary-at : get_or ws at 0 ≡ 15 → BinaryAt names room ws at e rest
   unfolding cond_e WellE
   binary-at c =
       let k = head_ok in
-      let b = binary-head ws at t.names k.0 k.1.0 k.1.1 c in
+      let b = binary-head ws at names k.0 k.1.0 k.1.1 c in
       let o = get_or ws (at + 1) 0 in
-      let f : read_form t.names (drop at ws) ≡ ok (BinOp o) (drop (at + 2) ws) = rw (b.0, b.1.0) at k.1.1 in
-      let x = two t (read_expr t (room - 1)) o (drop (at + 2) ws) e rest (sym (expr-is t room (drop at ws) (BinOp o) (drop (at + 2) ws) some-room f) ∙ h) in
-      let w = written t room (drop at ws) e rest h in
-      let v : WellE t (node (BinOp o) (more x.left (more x.right done))) room = rw x.is at w.1 in
+      let f : read_form names (drop at ws) ≡ ok (BinOp o) (drop (at + 2) ws) = rw (b.0, b.1.0) at k.1.1 in
+      let x = two (read_expr names (room - 1)) o (drop (at + 2) ws) e rest (sym (expr-is names room (drop at ws) (BinOp o) (drop (at + 2) ws) some-room f) ∙ h) in
+      let w = written names room (drop at ws) e rest h in
+      let v : WellE names (node (BinOp o) (more x.left (more x.right done))) room = rw x.is at w.1 in
       record { left = x.left; right = x.right; mid = x.mid; first = x.first; second = x.second; known = v.1; is = ap (λ (z : Expr). cond_e z at) x.is; long = ap (λ (z : Expr). length (write_e z)) x.is ∙ two-long o x.left x.right; inside = b.1.1; deep = some-room }
 
-  pub unary-at : get_or ws at 0 ≡ 16 → UnaryAt t room ws at e rest
+  pub unary-at : get_or ws at 0 ≡ 16 → UnaryAt names room ws at e rest
   unfolding cond_e WellE
   unary-at c =
       let k = head_ok in
-      let b = unary-head ws at t.names k.0 k.1.0 k.1.1 c in
+      let b = unary-head ws at names k.0 k.1.0 k.1.1 c in
       let o = get_or ws (at + 1) 0 in
-      let f : read_form t.names (drop at ws) ≡ ok (UnaryOp o) (drop (at + 2) ws) = rw (b.0, b.1.0) at k.1.1 in
-      let x = one t (read_expr t (room - 1)) o (drop (at + 2) ws) e rest (sym (expr-is t room (drop at ws) (UnaryOp o) (drop (at + 2) ws) some-room f) ∙ h) in
-      let w = written t room (drop at ws) e rest h in
-      let v : WellE t (node (UnaryOp o) (more x.operand done)) room = rw x.is at w.1 in
+      let f : read_form names (drop at ws) ≡ ok (UnaryOp o) (drop (at + 2) ws) = rw (b.0, b.1.0) at k.1.1 in
+      let x = one (read_expr names (room - 1)) o (drop (at + 2) ws) e rest (sym (expr-is names room (drop at ws) (UnaryOp o) (drop (at + 2) ws) some-room f) ∙ h) in
+      let w = written names room (drop at ws) e rest h in
+      let v : WellE names (node (UnaryOp o) (more x.operand done)) room = rw x.is at w.1 in
       record { operand = x.operand; first = x.first; known = v.1; is = ap (λ (z : Expr). cond_e z at) x.is; long = ap (λ (z : Expr). length (write_e z)) x.is ∙ one-long o x.operand; inside = b.1.1; deep = some-room }
 
   pub atom-at : (get_or ws at 0 ≡ 15 → ⊥) → (get_or ws at 0 ≡ 16 → ⊥) → cond_e e at ≡ atom at
   atom-at a b =
       let g : get_or (drop at ws) 0 0 ≡ get_or ws at 0 = get_or-drop at ws 0 0 ∙ (let z : at + 0 ≡ at = omega arith in rw z) in
-      atom-is e at (drop at ws) rest (written t room (drop at ws) e rest h).0 (λ q. a (sym g ∙ q)) (λ q. b (sym g ∙ q))
+      atom-is e at (drop at ws) rest (written names room (drop at ws) e rest h).0 (λ q. a (sym g ∙ q)) (λ q. b (sym g ∙ q))

@@ -12,7 +12,6 @@ use Rattle.std.proofs.lemmas.Bool.{cases_lt}
 use Rattle.std.proofs.lemmas.List.{get_or_past}
 use Rattle.words.proofs.Digits.{length-decimal, width-le}
 use Rattle.heads.specs.Got.{Got, ok, no, bare}
-use Rattle.heads.specs.Head.{Tables}
 use Rattle.expr.specs.Tree.{Expr}
 use Rattle.expr.specs.Read.{read_expr}
 use Rattle.expr.specs.Write.{write_e}
@@ -68,16 +67,16 @@ length_of (no c) = 0
 -- an accepted expression at the word `at`, to be printed in a place of level m from byte k on
 pub record Task : Type 0 where
   pub ws : List ℕ
-  pub t : Tables
+  pub names : ℕ
   pub room : ℕ
   pub at : ℕ
   pub m : ℕ
   pub k : ℕ
   pub old : List ℕ
-  pub ready : Ready (read_expr t room (drop at ws)) ws at k (length old)
+  pub ready : Ready (read_expr names room (drop at ws)) ws at k (length old)
 
-abbrev pub task : (ws : List ℕ) (t : Tables) (room at m k : ℕ) (old : List ℕ) → Ready (read_expr t room (drop at ws)) ws at k (length old) → Task
-task ws t room at m k old h = record { ws = ws; t = t; room = room; at = at; m = m; k = k; old = old; ready = h }
+abbrev pub task : (ws : List ℕ) (names room at m k : ℕ) (old : List ℕ) → Ready (read_expr names room (drop at ws)) ws at k (length old) → Task
+task ws names room at m k old h = record { ws = ws; names = names; room = room; at = at; m = m; k = k; old = old; ready = h }
 
 rest-is : {g : Got Expr} {e : Expr} {r q : List ℕ} → g ≡ ok e r → bare g ≡ ok tt q → r ≡ q
 rest-is p q = let z = rw p at q in cc
@@ -85,7 +84,7 @@ rest-is p q = let z = rw p at q in cc
 module _ (e : Task) where
   -- what is read at a word with this room for levels
   abbrev pub reads : ℕ → ℕ → Got Expr
-  reads room at = read_expr e.t room (drop at e.ws)
+  reads room at = read_expr e.names room (drop at e.ws)
 
   abbrev tree : Expr
   tree = (ok-inverse (reads e.room e.at) e.ready.fine).0
@@ -97,7 +96,7 @@ module _ (e : Task) where
   reads_so = (ok-inverse (reads e.room e.at) e.ready.fine).1.1
 
   spelt : drop e.at e.ws ≡ write_e tree ++ left_over_lem
-  spelt = (written e.t e.room (drop e.at e.ws) tree left_over_lem reads_so).0
+  spelt = (written e.names e.room (drop e.at e.ws) tree left_over_lem reads_so).0
 
   abbrev code : ℕ
   code = get_or e.ws e.at 0
@@ -115,8 +114,8 @@ module _ (e : Task) where
 
   -- two operands
   module _ (c : code ≡ 15) where
-    pub operator : BinaryAt e.t e.room e.ws e.at tree left_over_lem
-    operator = binary-at e.t e.room e.ws e.at tree left_over_lem reads_so c
+    pub operator : BinaryAt e.names e.room e.ws e.at tree left_over_lem
+    operator = binary-at e.names e.room e.ws e.at tree left_over_lem reads_so c
 
     pub binary-begun : Sofar [] (e.at + 2) 15 e.old e.k
     binary-begun = begin (e.at + 2) 15 e.ready (omega arith) operator.inside (omega arith)
@@ -145,8 +144,8 @@ module _ (e : Task) where
 
   -- one operand
   module _ (c : code ≡ 16) where
-    pub prefix : UnaryAt e.t e.room e.ws e.at tree left_over_lem
-    prefix = unary-at e.t e.room e.ws e.at tree left_over_lem reads_so c
+    pub prefix : UnaryAt e.names e.room e.ws e.at tree left_over_lem
+    prefix = unary-at e.names e.room e.ws e.at tree left_over_lem reads_so c
 
     pub unary-begun : Sofar [] (e.at + 2) 15 e.old e.k
     unary-begun = begin (e.at + 2) 15 e.ready (omega arith) prefix.inside (omega arith)
@@ -164,9 +163,9 @@ module _ (e : Task) where
   pub atom-fits : e.k + length (atom_text e.at) ≤ length e.old
   atom-fits = omega (arith, a_word tree, ap length spelt, length-append (write_e tree) left_over_lem, length-drop e.at e.ws, e.ready.room, e.ready.inside, e.ready.few, atom-short e.at (omega (arith, e.ready.inside, e.ready.few)))
 
-  pub atom-put : {next end : ℕ} {new : List ℕ} → (code ≡ 15 → ⊥) → (code ≡ 16 → ⊥) → Skips e.ws e.t e.room e.at next → Wrote (atom_text e.at) e.k e.old new end → Puts-at e.m e.room e.at e.k e.old new next end
+  pub atom-put : {next end : ℕ} {new : List ℕ} → (code ≡ 15 → ⊥) → (code ≡ 16 → ⊥) → Skips e.ws e.names e.room e.at next → Wrote (atom_text e.at) e.k e.old new end → Puts-at e.m e.room e.at e.k e.old new next end
   unfolding printed
   atom-put {next} a b s w =
       let d : left_over_lem ≡ drop next e.ws = rest-is reads_so s.ends in
       let n : e.at < next = omega (arith, a_word tree, ap length d, length-drop next e.ws, ap length spelt, length-append (write_e tree) left_over_lem, length-drop e.at e.ws, e.ready.inside, s.within) in
-      put (piece (begin next 15 e.ready s.from s.within (omega arith)) 15 0 w (atom-short e.at (omega (arith, e.ready.inside, e.ready.few))) (omega arith)) tree reads_so d spelt e.ready.inside (sym (ap (printed e.m) (atom-at e.t e.room e.ws e.at tree left_over_lem reads_so a b)))
+      put (piece (begin next 15 e.ready s.from s.within (omega arith)) 15 0 w (atom-short e.at (omega (arith, e.ready.inside, e.ready.few))) (omega arith)) tree reads_so d spelt e.ready.inside (sym (ap (printed e.m) (atom-at e.names e.room e.ws e.at tree left_over_lem reads_so a b)))

@@ -1,7 +1,6 @@
 -- The tree of an expression: "A BinOp or UnaryOp is printed as a sign between or before its operands; every other expression is an atom, `e`
 -- and its word position in the sheet".
 use Rattle.std.specs.Prelude.{ℕ, ◌+◌, List, [], ◌∷◌, length, drop}
-use Rattle.heads.specs.Head.{Tables}
 use Rattle.heads.specs.declared.Form.{Form}
 use Rattle.heads.specs.declared.Form.TheVariants.{Leaf, Var, Unresolved, Prop, Two, Slice, Many, BinOp, UnaryOp, Case, IsNull, PatternPredicate, ListComprehension, PatternComprehension, ListPredicate, MapProjection}
 use Rattle.expr.specs.Tree.{Expr, var, unresolved, node, predicate, comprehension, Exprs, done, more, mark}
@@ -63,5 +62,5 @@ abbrev pub printed_at : ℕ → ℕ → Expr → List ℕ
 printed_at m at e = printed m (cond_e e at)
 
 -- the expression at a word is printed on a page, in a place whose bare operands have at least level m
-abbrev pub PutExpr : List ℕ → Tables → ℕ → ℕ → ℕ → Page → Page → ℕ → Type 0
-PutExpr ws t room m at old new next = PutOn (read_expr t room (drop at ws)) write_e (printed_at m at) ws at old new next
+abbrev pub PutExpr : List ℕ → ℕ → ℕ → ℕ → ℕ → Page → Page → ℕ → Type 0
+PutExpr ws names room m at old new next = PutOn (read_expr names room (drop at ws)) write_e (printed_at m at) ws at old new next

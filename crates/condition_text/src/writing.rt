@@ -1,7 +1,7 @@
 // A condition printed over the sheet's words in place. It calls itself on each operand with its level, and the expression's length falls.
 // A section and a position go as in crate heads, which says why.
 ghost use Rattle.std.specs.Prelude.{length, drop};
-ghost use Rattle.heads.specs.Answer.{words_of, tables_of};
+ghost use Rattle.heads.specs.Answer.{words_of};
 ghost use Rattle.expr.specs.Read.{reader_of};
 ghost use Rattle.condition_text.specs.Tree.{PutExpr};
 ghost use Rattle.condition_text.specs.Write.{Ready};
@@ -15,7 +15,7 @@ use words::word;
 // Writes the expression at `at` in a place whose bare operands have at least the level `least`, and answers where it ends.
 pub fn print(section: &Section, at: usize, room: u32, least: usize, page: &mut Page<'_>) -> usize
     requires { Ready (reader_of section.now room (drop at (words_of section.now))) (words_of section.now) at page.old.end (length page.old.bytes.now) }
-    ensures { PutExpr (words_of section.now) (tables_of section.now) room least at page.old page.new result }
+    ensures { PutExpr (words_of section.now) section.now.names room least at page.old page.new result }
 {
     match word(section.bytes, at) {
         BINARY => {

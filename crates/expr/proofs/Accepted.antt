@@ -3,13 +3,13 @@
 use Prim.Native.Nat.{ℕ, zero, suc, ◌+◌, ◌-◌, ◌≤◌, ◌<◌}
 use native.Mathlib.Omega.{arith}
 use mathlib.Core.Path.{◌≡◌, refl, ap, sym, ◌∙◌}
-use mathlib.Core.Bool.{Bool, true, false, cond}
+use mathlib.Core.Bool.{Bool, true}
 use mathlib.Core.List.{List, ◌∷◌}
 use lib.ListN.{length, get_or, drop, length-drop, length-append}
 use Rattle.words.proofs.Words.{drop-word}
 use Rattle.heads.specs.Got.{Got, ok, no, bind, bare, is_ok, word_in, any_word}
 use Rattle.heads.specs.Form.{read_form, kids_of, items_of, has_pattern}
-use Rattle.heads.specs.Head.{Tables, allowed, read_part, read_elem, mark_low, mark_high, mark_kids}
+use Rattle.heads.specs.Head.{read_part, read_elem, mark_low, mark_high, mark_kids}
 use Rattle.heads.specs.declared.Form.{Form}
 use Rattle.heads.specs.declared.Part.{Part}
 use Rattle.heads.specs.declared.Elem.{Elem}
@@ -45,10 +45,6 @@ not-ok (no d) c h e = never (cc)
 pub refused : {A X : Type 0} (g : Got A) (c : ℕ) → is_ok g ≡ true → bare g ≡ no c → X
 refused (ok a r) c o e = never (cc)
 refused (no d) c o e = never (cc)
-
-pub picked : {A : Type 0} (b : Bool) (g : Got A) (c : ℕ) → is_ok (cond b g (no c)) ≡ true → cond b g (no c) ≡ g
-picked true g c o = refl
-picked false g c o = never (cc)
 
 -- one reading and then another
 module _ {A B C : Type 0} (g : Got A) (F : List ℕ → Got B) (j : A → B → C) (o : is_ok (bind g (λ a r. bind (F r) (λ b r2. ok (j a b) r2))) ≡ true) where
@@ -111,7 +107,7 @@ module _ (kind : ℕ) (P : Reader) (ws : List ℕ) (at : ℕ) (o : is_ok (mark_f
     mark-bare = ap bare mark-is ∙ bare-map (times n P no_more (drop (at + 1) ws)) (mark x)
 
 -- a pattern
-module _ (t : Tables) (P : Reader) (ws : List ℕ) (at : ℕ) (has : Bool) (h : has ≡ true) (o : is_ok (maybe_pattern has t P (drop at ws)) ≡ true) where
+module _ (P : Reader) (ws : List ℕ) (at : ℕ) (has : Bool) (h : has ≡ true) (o : is_ok (maybe_pattern has P (drop at ws)) ≡ true) where
   count-fine : (at < length ws) × (any_word (drop at ws) ≡ ok (get_or ws at 0) (drop (at + 1) ws))
   unfolding pattern maybe_pattern
   count-fine = word-there 0 4294967296 ws at (ok-left (any_word (drop at ws)) _ (rw h at o))
@@ -119,41 +115,41 @@ module _ (t : Tables) (P : Reader) (ws : List ℕ) (at : ℕ) (has : Bool) (h : 
   pub pattern-room : at < length ws
   pattern-room = count-fine.0
 
-  pub pattern-is : (n : ℕ) → n ≡ get_or ws at 0 → maybe_pattern has t P (drop at ws) ≡ parts n t P (drop (at + 1) ws)
+  pub pattern-is : (n : ℕ) → n ≡ get_or ws at 0 → maybe_pattern has P (drop at ws) ≡ parts n P (drop (at + 1) ws)
   unfolding pattern maybe_pattern
   pattern-is n e = rw (h, count-fine.1, e)
 
 -- a part
-module _ (t : Tables) (P : Reader) (r : List ℕ) (h : Part) (r1 : List ℕ) (e : read_part r ≡ ok h r1) (o : is_ok (part_full t P r) ≡ true) where
-  pub part-is : part_full t P r ≡ bind (elems h.count t P no_steps r1) (λ s r2. ok (part h.path s) r2)
+module _ (P : Reader) (r : List ℕ) (h : Part) (r1 : List ℕ) (e : read_part r ≡ ok h r1) (o : is_ok (part_full P r) ≡ true) where
+  pub part-is : part_full P r ≡ bind (elems h.count P no_steps r1) (λ s r2. ok (part h.path s) r2)
   unfolding part_full
-  part-is = rw e (picked (allowed t h.path) _ 7 (rw e at o))
+  part-is = rw e
 
-  pub elems-fine : is_ok (elems h.count t P no_steps r1) ≡ true
-  elems-fine = ok-left (elems h.count t P no_steps r1) _ (rw part-is at o)
+  pub elems-fine : is_ok (elems h.count P no_steps r1) ≡ true
+  elems-fine = ok-left (elems h.count P no_steps r1) _ (rw part-is at o)
 
-  pub part-bare : bare (part_full t P r) ≡ bare (elems h.count t P no_steps r1)
-  part-bare = ap bare part-is ∙ bare-map (elems h.count t P no_steps r1) (part h.path)
+  pub part-bare : bare (part_full P r) ≡ bare (elems h.count P no_steps r1)
+  part-bare = ap bare part-is ∙ bare-map (elems h.count P no_steps r1) (part h.path)
 
-pub part_none : {X : Type 0} (t : Tables) (P : Reader) (r : List ℕ) → is_ok (part_full t P r) ≡ true → read_part r ≡ no 5 → X
+pub part_none : {X : Type 0} (P : Reader) (r : List ℕ) → is_ok (part_full P r) ≡ true → read_part r ≡ no 5 → X
 unfolding part_full
-part_none t P r o e = not-ok (part_full t P r) 5 o (rw e)
+part_none P r o e = not-ok (part_full P r) 5 o (rw e)
 
 -- an element
-module _ (t : Tables) (P : Reader) (r : List ℕ) (h : Elem) (r1 : List ℕ) (e : read_elem r ≡ ok h r1) (o : is_ok (elem_one t P r) ≡ true) where
-  pub elem_is : elem_one t P r ≡ bind (times h.property P no_more r1) (λ es r2. ok (h, es) r2)
+module _ (P : Reader) (r : List ℕ) (h : Elem) (r1 : List ℕ) (e : read_elem r ≡ ok h r1) (o : is_ok (elem_one P r) ≡ true) where
+  pub elem_is : elem_one P r ≡ bind (times h.property P no_more r1) (λ es r2. ok (h, es) r2)
   unfolding elem_one
-  elem_is = rw e (picked (allowed t h.variable) _ 7 (rw e at o))
+  elem_is = rw e
 
   pub property-fine : is_ok (times h.property P no_more r1) ≡ true
   property-fine = ok-left (times h.property P no_more r1) _ (rw elem_is at o)
 
-  pub elem-bare : bare (elem_one t P r) ≡ bare (times h.property P no_more r1)
+  pub elem-bare : bare (elem_one P r) ≡ bare (times h.property P no_more r1)
   elem-bare = ap bare elem_is ∙ bare-map (times h.property P no_more r1) (λ es. (h, es))
 
-pub elem-none : {X : Type 0} (t : Tables) (P : Reader) (r : List ℕ) → is_ok (elem_one t P r) ≡ true → read_elem r ≡ no 5 → X
+pub elem-none : {X : Type 0} (P : Reader) (r : List ℕ) → is_ok (elem_one P r) ≡ true → read_elem r ≡ no 5 → X
 unfolding elem_one
-elem-none t P r o e = not-ok (elem_one t P r) 5 o (rw e)
+elem-none P r o e = not-ok (elem_one P r) 5 o (rw e)
 
 -- a head takes at least a word
 pub part-longer : (ws : List ℕ) (at p : ℕ) (h : Part) → p ≤ length ws → read_part (drop at ws) ≡ ok h (drop p ws) → at < p
@@ -172,32 +168,32 @@ pub elem-kind : (ws : List ℕ) (h : Elem) (r : List ℕ) → read_elem ws ≡ o
 elem-kind ws h r e = ((elem-gives ws).given h r e).1.1
 
 -- an expression: room is left, and its head decides
-pub room-left : (t : Tables) (room : ℕ) (r : List ℕ) → is_ok (read_expr t room r) ≡ true → 0 < room
+pub room-left : (names room : ℕ) (r : List ℕ) → is_ok (read_expr names room r) ≡ true → 0 < room
 unfolding read_expr
-room-left t zero r o = never (cc)
-room-left t (suc d) r o = omega arith
+room-left names zero r o = never (cc)
+room-left names (suc d) r o = omega arith
 
-expr-suc : (t : Tables) (room : ℕ) (r : List ℕ) → 0 < room → read_expr t room r ≡ bind (read_form t.names r) (λ f r1. after_form t (read_expr t (room - 1)) f r1)
+expr-suc : (names room : ℕ) (r : List ℕ) → 0 < room → read_expr names room r ≡ bind (read_form names r) (λ f r1. after_form (read_expr names (room - 1)) f r1)
 unfolding read_expr
-expr-suc t room r h = let e : room ≡ suc (room - 1) = omega arith in ap (λ (d : ℕ). read_expr t d r) e
+expr-suc names room r h = let e : room ≡ suc (room - 1) = omega arith in ap (λ (d : ℕ). read_expr names d r) e
 
-pub expr-is : (t : Tables) (room : ℕ) (r : List ℕ) (f : Form) (r1 : List ℕ) → 0 < room → read_form t.names r ≡ ok f r1 → read_expr t room r ≡ after_form t (read_expr t (room - 1)) f r1
-expr-is t room r f r1 h e = expr-suc t room r h ∙ ap (λ (g : Got Form). bind g (λ f r1. after_form t (read_expr t (room - 1)) f r1)) e
+pub expr-is : (names room : ℕ) (r : List ℕ) (f : Form) (r1 : List ℕ) → 0 < room → read_form names r ≡ ok f r1 → read_expr names room r ≡ after_form (read_expr names (room - 1)) f r1
+expr-is names room r f r1 h e = expr-suc names room r h ∙ ap (λ (g : Got Form). bind g (λ f r1. after_form (read_expr names (room - 1)) f r1)) e
 
-pub expr-none : {X : Type 0} (t : Tables) (room : ℕ) (r : List ℕ) → is_ok (read_expr t room r) ≡ true → read_form t.names r ≡ no 5 → X
-expr-none t room r o e = not-ok (read_expr t room r) 5 o (expr-suc t room r (room-left t room r o) ∙ ap (λ (g : Got Form). bind g (λ f r1. after_form t (read_expr t (room - 1)) f r1)) e)
+pub expr-none : {X : Type 0} (names room : ℕ) (r : List ℕ) → is_ok (read_expr names room r) ≡ true → read_form names r ≡ no 5 → X
+expr-none names room r o e = not-ok (read_expr names room r) 5 o (expr-suc names room r (room-left names room r o) ∙ ap (λ (g : Got Form). bind g (λ f r1. after_form (read_expr names (room - 1)) f r1)) e)
 
 -- what follows its head, part by part
-module _ (t : Tables) (P : Reader) (f : Form) (r : List ℕ) (o : is_ok (after_form t P f r) ≡ true) where
-  pub pattern-fine : is_ok (maybe_pattern (has_pattern f) t P r) ≡ true
+module _ (P : Reader) (f : Form) (r : List ℕ) (o : is_ok (after_form P f r) ≡ true) where
+  pub pattern-fine : is_ok (maybe_pattern (has_pattern f) P r) ≡ true
   unfolding after_form
-  pattern-fine = ok-left (maybe_pattern (has_pattern f) t P r) _ o
+  pattern-fine = ok-left (maybe_pattern (has_pattern f) P r) _ o
 
-  module _ (r2 : List ℕ) (e2 : bare (maybe_pattern (has_pattern f) t P r) ≡ ok tt r2) where
+  module _ (r2 : List ℕ) (e2 : bare (maybe_pattern (has_pattern f) P r) ≡ ok tt r2) where
     row_fine : is_ok (times (kids_of f) P (marks 0 (items_of f) P) r2) ≡ true
     unfolding after_form
     row_fine =
-        let i = inverse (maybe_pattern (has_pattern f) t P r) r2 e2 in
+        let i = inverse (maybe_pattern (has_pattern f) P r) r2 e2 in
         ok-left (times (kids_of f) P (marks 0 (items_of f) P) r2) _ (rw i.1 at o)
 
     pub kids-fine : is_ok (times (kids_of f) P no_more r2) ≡ true
@@ -210,10 +206,10 @@ module _ (t : Tables) (P : Reader) (f : Form) (r : List ℕ) (o : is_ok (after_f
           ok-left (marks 0 (items_of f) P r3) _ (rw (times-split P (marks 0 (items_of f) P) (kids_of f) r2, i.1) at row_fine)
 
       module _ (r4 : List ℕ) (e4 : bare (marks 0 (items_of f) P r3) ≡ ok tt r4) where
-        pub after-bare : bare (after_form t P f r) ≡ ok tt r4
+        pub after-bare : bare (after_form P f r) ≡ ok tt r4
         unfolding after_form
         after-bare =
-            let i2 = inverse (maybe_pattern (has_pattern f) t P r) r2 e2 in
+            let i2 = inverse (maybe_pattern (has_pattern f) P r) r2 e2 in
             let i3 = inverse (times (kids_of f) P no_more r2) r3 e3 in
             let i4 = inverse (marks 0 (items_of f) P r3) r4 e4 in
             rw (i2.1, times-split P (marks 0 (items_of f) P) (kids_of f) r2, i3.1, i4.1)

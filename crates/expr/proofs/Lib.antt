@@ -1,5 +1,4 @@
 pub mod Rows
-pub mod Strict
 pub mod Inverse
 pub mod Heads
 pub mod Split

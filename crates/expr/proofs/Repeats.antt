@@ -5,7 +5,6 @@ use mathlib.Core.Path.{◌≡◌, refl, ap, ◌∙◌}
 use mathlib.Core.Bool.{true}
 use mathlib.Core.List.{List, [], ◌∷◌}
 use Rattle.heads.specs.Got.{Got, ok, bind, bare, is_ok, many}
-use Rattle.heads.specs.Head.{Tables}
 use Rattle.heads.specs.declared.Elem.{Elem}
 use Rattle.heads.proofs.Shapes.{bare-map}
 use Rattle.expr.specs.Tree.{Expr, Exprs, done, more, Steps, end}
@@ -61,24 +60,24 @@ abbrev pub marks_of_row : ℕ → Reader → Repeats Exprs Exprs
 marks_of_row kind P = record { all = λ k r. marks kind k P r; one = mark_full kind P; join = join_e; none = done; step = marks-step kind P; stop = marks-stop kind P }
 
 -- elements
-pub elems-step : (w : Tables) (P : Reader) (k : ℕ) (ws : List ℕ) → elems (suc k) w P no_steps ws ≡ bind (elem_one w P ws) (λ x r. bind (elems k w P no_steps r) (λ s r2. ok (elem_then x s) r2))
+pub elems-step : (P : Reader) (k : ℕ) (ws : List ℕ) → elems (suc k) P no_steps ws ≡ bind (elem_one P ws) (λ x r. bind (elems k P no_steps r) (λ s r2. ok (elem_then x s) r2))
 unfolding elems
-elems-step w P k ws = refl
+elems-step P k ws = refl
 
-pub elems-stop : (w : Tables) (P : Reader) (ws : List ℕ) → elems 0 w P no_steps ws ≡ ok end ws
+pub elems-stop : (P : Reader) (ws : List ℕ) → elems 0 P no_steps ws ≡ ok end ws
 unfolding elems
-elems-stop w P ws = refl
+elems-stop P ws = refl
 
-abbrev pub elems_of_row : Tables → Reader → Repeats (Elem × Exprs) Steps
-elems_of_row w P = record { all = λ k r. elems k w P no_steps r; one = elem_one w P; join = elem_then; none = end; step = elems-step w P; stop = elems-stop w P }
+abbrev pub elems_of_row : Reader → Repeats (Elem × Exprs) Steps
+elems_of_row P = record { all = λ k r. elems k P no_steps r; one = elem_one P; join = elem_then; none = end; step = elems-step P; stop = elems-stop P }
 
 -- parts
-pub parts-stop : (w : Tables) (P : Reader) (ws : List ℕ) → parts 0 w P ws ≡ ok end ws
+pub parts-stop : (P : Reader) (ws : List ℕ) → parts 0 P ws ≡ ok end ws
 unfolding parts
-parts-stop w P ws = refl
+parts-stop P ws = refl
 
-abbrev pub parts_of_row : Tables → Reader → Repeats Steps Steps
-parts_of_row w P = record { all = λ k r. parts k w P r; one = part_full w P; join = join_s; none = end; step = parts-step w P; stop = parts-stop w P }
+abbrev pub parts_of_row : Reader → Repeats Steps Steps
+parts_of_row P = record { all = λ k r. parts k P r; one = part_full P; join = join_s; none = end; step = parts-step P; stop = parts-stop P }
 
 -- anything, n times
 module _ {A : Type 0} (one : List ℕ → Got A) where

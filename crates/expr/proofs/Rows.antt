@@ -1,9 +1,8 @@
 -- The rows of an expression and a pattern: expressions, marks with their expressions, elements, parts.
 use Rattle.std.proofs.Common.{drop, arith}
 use Rattle.heads.specs.Answer.{Ans}
-use mathlib.Core.Bool.{cond}
 use Rattle.heads.proofs.Rows.{Rows, rows-rest}
-use Rattle.heads.proofs.Shapes.{Rest, bare-bind, bare-head, bare-row, bare-map, bare-pick, bare-pick-row}
+use Rattle.heads.proofs.Shapes.{Rest, bare-bind, bare-head, bare-row, bare-map}
 use Prim.Native.Nat.{ℕ, suc}
 use mathlib.Core.Path.{◌≡◌, refl, ◌∙◌}
 use mathlib.Core.List.{List}
@@ -11,7 +10,7 @@ use Rattle.heads.specs.Got.{Got, ok, no, bind, next, bare, word_in}
 use Rattle.heads.specs.declared.Form.{Form}
 use Rattle.heads.specs.Form.{read_form, kids_of, items_of, has_pattern}
 use Rattle.heads.proofs.Reading.{onward, none, past, beyond, ended}
-use Rattle.heads.specs.Head.{Tables, allowed, read_part, mark_low, mark_high, mark_kids}
+use Rattle.heads.specs.Head.{read_part, mark_low, mark_high, mark_kids}
 use Rattle.expr.specs.Tree.{more, mark, elem, part, tree}
 use Rattle.expr.specs.Read.{Reader, RestE, RestS, no_more, no_steps, times, marks, elem_one, elems, part_one, parts, maybe_pattern, after_form, read_expr}
 
@@ -65,53 +64,53 @@ module _ {ws : List ℕ} {at : ℕ} (kind : ℕ) (P : Reader) where
   mark_then a b = onward (λ w r. bare (times (mark_kids kind w) P no_more r)) a b
 
 -- elements
-module _ (w : Tables) (P : Reader) where
-  pub elems-more : (K : RestS) (n : ℕ) (ws : List ℕ) → bare (elems (suc n) w P K ws) ≡ next (bare (elem_one w P ws)) (λ r. bare (elems n w P K r))
+module _ (P : Reader) where
+  pub elems-more : (K : RestS) (n : ℕ) (ws : List ℕ) → bare (elems (suc n) P K ws) ≡ next (bare (elem_one P ws)) (λ r. bare (elems n P K r))
   unfolding elems
   elems-more K n ws =
-      bare-bind (elem_one w P ws) _ _ (λ x r. bare-map (elems n w P K r) (λ s. elem x.0.kind x.0.start x.0.end x.0.variable x.1 s))
+      bare-bind (elem_one P ws) _ _ (λ x r. bare-map (elems n P K r) (λ s. elem x.0.kind x.0.start x.0.end x.0.variable x.1 s))
 
-  pub elems-end : (K : RestS) (ws : List ℕ) → bare (elems 0 w P K ws) ≡ bare (K ws)
+  pub elems-end : (K : RestS) (ws : List ℕ) → bare (elems 0 P K ws) ≡ bare (K ws)
   unfolding elems
   elems-end K ws = refl
 
   abbrev pub elem_rows : Rows
-  elem_rows = record { all = λ n r. bare (elems n w P no_steps r); one = λ r. bare (elem_one w P r); more = elems-more no_steps; end = elems-end no_steps }
+  elem_rows = record { all = λ n r. bare (elems n P no_steps r); one = λ r. bare (elem_one P r); more = elems-more no_steps; end = elems-end no_steps }
 
-  pub elems-rest : (K : RestS) (n : ℕ) (ws : List ℕ) → bare (elems n w P K ws) ≡ next (bare (elems n w P no_steps ws)) (λ r. bare (K r))
-  elems-rest K = rows-rest elem_rows (λ n r. bare (elems n w P K r)) (λ r. bare (K r)) (elems-more K) (elems-end K)
+  pub elems-rest : (K : RestS) (n : ℕ) (ws : List ℕ) → bare (elems n P K ws) ≡ next (bare (elems n P no_steps ws)) (λ r. bare (K r))
+  elems-rest K = rows-rest elem_rows (λ n r. bare (elems n P K r)) (λ r. bare (K r)) (elems-more K) (elems-end K)
 
   -- parts
-  part-one : (ws : List ℕ) → bare (part_one w P ws) ≡ bind (read_part ws) (λ h r. cond (allowed w h.path) (bare (elems h.count w P no_steps r)) (no 7))
+  part-one : (ws : List ℕ) → bare (part_one P ws) ≡ bind (read_part ws) (λ h r. bare (elems h.count P no_steps r))
   unfolding part_one
-  part-one ws = bare-head (read_part ws) _ _ (λ h r. bare-pick 7 (allowed w h.path) _ _ refl)
+  part-one ws = bare-head (read_part ws) _ _ (λ h r. refl)
 
-  pub parts_more : (n : ℕ) (ws : List ℕ) → bare (parts (suc n) w P ws) ≡ next (bare (part_one w P ws)) (λ r. bare (parts n w P r))
+  pub parts_more : (n : ℕ) (ws : List ℕ) → bare (parts (suc n) P ws) ≡ next (bare (part_one P ws)) (λ r. bare (parts n P r))
   unfolding parts
   parts_more n ws =
       rw part-one
       (bare-row (read_part ws) _ _ _
-      (λ h r. bare-pick-row 7 (allowed w h.path) _ _ _ (bare-map (elems h.count w P (parts n w P) r) (λ s. part h.path s) ∙ elems-rest (parts n w P) h.count r)))
+      (λ h r. bare-map (elems h.count P (parts n P) r) (λ s. part h.path s) ∙ elems-rest (parts n P) h.count r))
 
-  pub parts-end : (ws : List ℕ) → bare (parts 0 w P ws) ≡ ok tt ws
+  pub parts-end : (ws : List ℕ) → bare (parts 0 P ws) ≡ ok tt ws
   unfolding parts
   parts-end ws = refl
 
   abbrev pub part_rows : Rows
-  part_rows = record { all = λ n r. bare (parts n w P r); one = λ r. bare (part_one w P r); more = parts_more; end = parts-end }
+  part_rows = record { all = λ n r. bare (parts n P r); one = λ r. bare (part_one P r); more = parts_more; end = parts-end }
 
 -- an expression: its head, the pattern if there is one, its own list and the items
-module _ {ws : List ℕ} {at p q : ℕ} {f : Form} (w : Tables) (room d : ℕ) (l : room ≡ suc d) (one : Ans ws at (read_form w.names (drop at ws)) (ok f (drop p ws)) p) (two : Ans ws p (bare (maybe_pattern (has_pattern f) w (read_expr w d) (drop p ws))) (ok tt (drop q ws)) q) where
-  more_of : {h : Got (Unit {0})} {e : ℕ} → Ans ws q (bare (times (kids_of f) (read_expr w d) (marks 0 (items_of f) (read_expr w d)) (drop q ws))) h e → Ans ws at (bare (read_expr w room (drop at ws))) h e
+module _ {ws : List ℕ} {at p q : ℕ} {f : Form} (names : ℕ) (room d : ℕ) (l : room ≡ suc d) (one : Ans ws at (read_form names (drop at ws)) (ok f (drop p ws)) p) (two : Ans ws p (bare (maybe_pattern (has_pattern f) (read_expr names d) (drop p ws))) (ok tt (drop q ws)) q) where
+  more_of : {h : Got (Unit {0})} {e : ℕ} → Ans ws q (bare (times (kids_of f) (read_expr names d) (marks 0 (items_of f) (read_expr names d)) (drop q ws))) h e → Ans ws at (bare (read_expr names room (drop at ws))) h e
   unfolding read_expr after_form
   more_of a =
       rw l
-      (past (λ f r. after_form w (read_expr w d) f r) one
-      (beyond (maybe_pattern (has_pattern f) w (read_expr w d) (drop p ws)) (λ s r. bind (times (kids_of f) (read_expr w d) (marks 0 (items_of f) (read_expr w d)) r) (λ es t. ok (tree f s es) t)) two
-      (λ s. ended (times (kids_of f) (read_expr w d) (marks 0 (items_of f) (read_expr w d)) (drop q ws)) (λ es t. ok (tree f s es) t) (λ x r. refl) a)))
+      (past (λ f r. after_form (read_expr names d) f r) one
+      (beyond (maybe_pattern (has_pattern f) (read_expr names d) (drop p ws)) (λ s r. bind (times (kids_of f) (read_expr names d) (marks 0 (items_of f) (read_expr names d)) r) (λ es t. ok (tree f s es) t)) two
+      (λ s. ended (times (kids_of f) (read_expr names d) (marks 0 (items_of f) (read_expr names d)) (drop q ws)) (λ es t. ok (tree f s es) t) (λ x r. refl) a)))
 
-  pub kids_refused : {t c : ℕ} → Ans ws q (bare (times (kids_of f) (read_expr w d) no_more (drop q ws))) (no c) t → Ans ws at (bare (read_expr w room (drop at ws))) (no c) t
+  pub kids_refused : {t c : ℕ} → Ans ws q (bare (times (kids_of f) (read_expr names d) no_more (drop q ws))) (no c) t → Ans ws at (bare (read_expr names room (drop at ws))) (no c) t
   kids_refused a = more_of (kids_none _ _ _ a)
 
-  pub items_read : {t : ℕ} {h : Got (Unit {0})} {e : ℕ} → Ans ws q (bare (times (kids_of f) (read_expr w d) no_more (drop q ws))) (ok tt (drop t ws)) t → Ans ws t (bare (marks 0 (items_of f) (read_expr w d) (drop t ws))) h e → Ans ws at (bare (read_expr w room (drop at ws))) h e
+  pub items_read : {t : ℕ} {h : Got (Unit {0})} {e : ℕ} → Ans ws q (bare (times (kids_of f) (read_expr names d) no_more (drop q ws))) (ok tt (drop t ws)) t → Ans ws t (bare (marks 0 (items_of f) (read_expr names d) (drop t ws))) h e → Ans ws at (bare (read_expr names room (drop at ws))) h e
   items_read a b = more_of (kids_then _ _ _ a b)

@@ -1,10 +1,9 @@
 -- A row, and what is read after it: the reader of both is the reader of the row and then of the rest, whose trees are put together.
 use Prim.Native.Nat.{ℕ, zero, suc}
 use mathlib.Core.Path.{◌≡◌, refl, ap, ◌∙◌}
-use mathlib.Core.Bool.{Bool, true, false, cond}
 use mathlib.Core.List.{List}
 use Rattle.heads.specs.Got.{Got, ok, no, bind, word_in}
-use Rattle.heads.specs.Head.{Tables, allowed, read_part, mark_low, mark_high, mark_kids}
+use Rattle.heads.specs.Head.{read_part, mark_low, mark_high, mark_kids}
 use Rattle.heads.specs.declared.Part.{Part}
 use Rattle.heads.specs.declared.Elem.{Elem}
 use Rattle.expr.specs.Tree.{Expr, Exprs, done, more, mark, Steps, end, part, elem}
@@ -62,30 +61,26 @@ marks-step kind P n ws = turn (word_in (mark_low kind) (mark_high kind) ws)
 abbrev pub elem_then : Elem × Exprs → Steps → Steps
 elem_then x s = elem x.0.kind x.0.start x.0.end x.0.variable x.1 s
 
-module _ (w : Tables) (P : Reader) where
+module _ (P : Reader) where
   -- n elements and the rest
-  pub elems-split : (K : RestS) (n : ℕ) (ws : List ℕ) → elems n w P K ws ≡ bind (elems n w P no_steps ws) (λ s r. bind (K r) (λ s2 r2. ok (join_s s s2) r2))
+  pub elems-split : (K : RestS) (n : ℕ) (ws : List ℕ) → elems n P K ws ≡ bind (elems n P no_steps ws) (λ s r. bind (K r) (λ s2 r2. ok (join_s s s2) r2))
   unfolding elems join_s
   elems-split K zero ws = none (K ws)
     where
       none : (g : Got Steps) → g ≡ bind g (λ ms r2. ok ms r2)
       none (ok a r) = refl
       none (no c) = refl
-  elems-split K (suc n) ws = turn (elem_one w P ws) (elems-split K n)
+  elems-split K (suc n) ws = turn (elem_one P ws) (elems-split K n)
     where
-      turn : (g : Got (Elem × Exprs)) → ((r : List ℕ) → elems n w P K r ≡ bind (elems n w P no_steps r) (λ s r1. bind (K r1) (λ s2 r2. ok (join_s s s2) r2))) → bind g (λ x r. bind (elems n w P K r) (λ s r2. ok (elem_then x s) r2)) ≡ bind (bind g (λ x r. bind (elems n w P no_steps r) (λ s r2. ok (elem_then x s) r2))) (λ s r. bind (K r) (λ s2 r2. ok (join_s s s2) r2))
-      turn (ok x r) ih = split_by join_s (elem_then x) (λ a b. refl) (elems n w P no_steps r) (elems n w P K r) K (ih r)
+      turn : (g : Got (Elem × Exprs)) → ((r : List ℕ) → elems n P K r ≡ bind (elems n P no_steps r) (λ s r1. bind (K r1) (λ s2 r2. ok (join_s s s2) r2))) → bind g (λ x r. bind (elems n P K r) (λ s r2. ok (elem_then x s) r2)) ≡ bind (bind g (λ x r. bind (elems n P no_steps r) (λ s r2. ok (elem_then x s) r2))) (λ s r. bind (K r) (λ s2 r2. ok (join_s s s2) r2))
+      turn (ok x r) ih = split_by join_s (elem_then x) (λ a b. refl) (elems n P no_steps r) (elems n P K r) K (ih r)
       turn (no c) ih = refl
 
   -- parts, the first with its elements
-  pub parts-step : (n : ℕ) (ws : List ℕ) → parts (suc n) w P ws ≡ bind (part_full w P ws) (λ a r. bind (parts n w P r) (λ b r2. ok (join_s a b) r2))
+  pub parts-step : (n : ℕ) (ws : List ℕ) → parts (suc n) P ws ≡ bind (part_full P ws) (λ a r. bind (parts n P r) (λ b r2. ok (join_s a b) r2))
   unfolding parts part_full join_s
   parts-step n ws = turn (read_part ws)
     where
-      tested : (t : Bool) (h : Part) (r : List ℕ) → cond t (bind (elems h.count w P (parts n w P) r) (λ s r2. ok (part h.path s) r2)) (no 7) ≡ bind (cond t (bind (elems h.count w P no_steps r) (λ s r2. ok (part h.path s) r2)) (no 7)) (λ a r. bind (parts n w P r) (λ b r2. ok (join_s a b) r2))
-      tested true h r = split_by join_s (part h.path) (λ a b. refl) (elems h.count w P no_steps r) (elems h.count w P (parts n w P) r) (parts n w P) (elems-split (parts n w P) h.count r)
-      tested false h r = refl
-
-      turn : (g : Got Part) → bind g (λ h r. cond (allowed w h.path) (bind (elems h.count w P (parts n w P) r) (λ s r2. ok (part h.path s) r2)) (no 7)) ≡ bind (bind g (λ h r. cond (allowed w h.path) (bind (elems h.count w P no_steps r) (λ s r2. ok (part h.path s) r2)) (no 7))) (λ a r. bind (parts n w P r) (λ b r2. ok (join_s a b) r2))
-      turn (ok h r) = tested (allowed w h.path) h r
+      turn : (g : Got Part) → bind g (λ h r. bind (elems h.count P (parts n P) r) (λ s r2. ok (part h.path s) r2)) ≡ bind (bind g (λ h r. bind (elems h.count P no_steps r) (λ s r2. ok (part h.path s) r2))) (λ a r. bind (parts n P r) (λ b r2. ok (join_s a b) r2))
+      turn (ok h r) = split_by join_s (part h.path) (λ a b. refl) (elems h.count P no_steps r) (elems h.count P (parts n P) r) (parts n P) (elems-split (parts n P) h.count r)
       turn (no c) = refl

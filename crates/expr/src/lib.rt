@@ -6,7 +6,7 @@
 mod types;
 
 ghost use Rattle.std.specs.Prelude.{Bool, ℕ, ◌≤◌, length, drop};
-ghost use Rattle.heads.specs.Answer.{Reads, words_of, tables_of, kind_of};
+ghost use Rattle.heads.specs.Answer.{Reads, words_of, kind_of};
 ghost use Rattle.expr.specs.Read.{reader_of, no_more, no_steps, times, marks, elem_one, elems, part_one, parts, maybe_pattern};
 
 use heads::{MarkKind, Section};
@@ -66,7 +66,7 @@ pub fn read_marks(
 #[tactic(auto, using(heads::proofs::Reading::steps), unfolding(crate::specs::Read::maybe_pattern, crate::specs::Read::pattern))]
 pub fn read_pattern(section: &Section, at: usize, room: u32, has: bool) -> Result<usize, Refusal>
     requires { at ≤ length (words_of section.now) }
-    ensures { Reads (words_of section.now) at (maybe_pattern has (tables_of section.now) (reader_of section.now room)) result }
+    ensures { Reads (words_of section.now) at (maybe_pattern has (reader_of section.now room)) result }
 {
     if !has {
         return Ok(at);
@@ -79,7 +79,7 @@ pub fn read_pattern(section: &Section, at: usize, room: u32, has: bool) -> Resul
 #[cycle(readers)]
 pub fn read_parts(section: &Section, at: usize, room: u32, n: u32) -> Result<usize, Refusal>
     requires { at ≤ length (words_of section.now) }
-    ensures { Reads (words_of section.now) at (parts n (tables_of section.now) (reader_of section.now room)) result }
+    ensures { Reads (words_of section.now) at (parts n (reader_of section.now room)) result }
 {
     let mut p = at;
     for _ in 0..n {
@@ -93,12 +93,9 @@ pub fn read_parts(section: &Section, at: usize, room: u32, n: u32) -> Result<usi
 #[tactic(auto, using(heads::proofs::Reading::steps), unfolding(crate::specs::Read::part_one))]
 pub fn read_part(section: &Section, at: usize, room: u32) -> Result<usize, Refusal>
     requires { at ≤ length (words_of section.now) }
-    ensures { Reads (words_of section.now) at (part_one (tables_of section.now) (reader_of section.now room)) result }
+    ensures { Reads (words_of section.now) at (part_one (reader_of section.now room)) result }
 {
     let (part, at) = section.read_part(at)?;
-    if !section.may_bind(part.path) {
-        return Err(Refusal::Unbound);
-    }
     read_elems(section, at, room, part.count)
 }
 
@@ -106,7 +103,7 @@ pub fn read_part(section: &Section, at: usize, room: u32) -> Result<usize, Refus
 #[cycle(readers)]
 pub fn read_elems(section: &Section, at: usize, room: u32, n: u32) -> Result<usize, Refusal>
     requires { at ≤ length (words_of section.now) }
-    ensures { Reads (words_of section.now) at (elems n (tables_of section.now) (reader_of section.now room) no_steps) result }
+    ensures { Reads (words_of section.now) at (elems n (reader_of section.now room) no_steps) result }
 {
     let mut p = at;
     for _ in 0..n {
@@ -120,11 +117,8 @@ pub fn read_elems(section: &Section, at: usize, room: u32, n: u32) -> Result<usi
 #[tactic(auto, using(heads::proofs::Reading::steps), unfolding(crate::specs::Read::elem_one))]
 pub fn read_elem(section: &Section, at: usize, room: u32) -> Result<usize, Refusal>
     requires { at ≤ length (words_of section.now) }
-    ensures { Reads (words_of section.now) at (elem_one (tables_of section.now) (reader_of section.now room)) result }
+    ensures { Reads (words_of section.now) at (elem_one (reader_of section.now room)) result }
 {
     let (elem, at) = section.read_elem(at)?;
-    if !section.may_bind(elem.variable) {
-        return Err(Refusal::Unbound);
-    }
     read_kids(section, at, room, elem.property as usize)
 }

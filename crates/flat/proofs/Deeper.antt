@@ -1,11 +1,11 @@
 -- With one level more of room a reading is the same, but where less room refuses it by cause 6.
 use Prim.Native.Nat.{ℕ, zero, suc}
-use mathlib.Core.Bool.{Bool, true, false, cond}
+use mathlib.Core.Bool.{Bool, true, false}
 use mathlib.Core.Path.{◌≡◌}
 use mathlib.Core.List.{List, [], ◌∷◌}
 use Rattle.heads.specs.Got.{Got, ok, no, bind, next, bare, word_in, any_word}
 use Rattle.heads.specs.Form.{read_form, kids_of, items_of, has_pattern}
-use Rattle.heads.specs.Head.{Tables, allowed, read_part, read_elem, mark_low, mark_high, mark_kids, deep_cause}
+use Rattle.heads.specs.Head.{read_part, read_elem, mark_low, mark_high, mark_kids, deep_cause}
 use Rattle.heads.specs.declared.Form.{Form}
 use Rattle.heads.proofs.Shapes.{Rest}
 use Rattle.expr.specs.Read.{Reader, RestE, RestS, no_more, times, marks, elem_one, elems, parts, pattern, maybe_pattern, after_form, read_expr}
@@ -43,10 +43,6 @@ pub deep-ok : {A : Type 0} {g h : Got A} {a : A} {r : List ℕ} → Deep g h →
 deep-ok same e = e
 deep-ok deep e = never (cc)
 
-deep-pick : {A : Type 0} {g h : Got A} (b : Bool) → Deep g h → Deep (cond b g (no 7)) (cond b h (no 7))
-deep-pick true d = d
-deep-pick false d = same
-
 pub deep-times : (n : ℕ) {P P' : Reader} {K K' : RestE} → Deeper P P' → Deeper K K' → Deeper (times n P K) (times n P' K')
 unfolding times
 deep-times zero p k ws = k ws
@@ -55,40 +51,40 @@ deep-times (suc n) p k ws = deep-bind (p ws) (λ e r. deep-bind (deep-times n p 
 pub deep-row : (n : ℕ) {P P' : Reader} → Deeper P P' → Deeper (times n P no_more) (times n P' no_more)
 deep-row n p = deep-times n p (λ ws. same)
 
-module _ (w : Tables) {P P' : Reader} (p : Deeper P P') where
+module _ {P P' : Reader} (p : Deeper P P') where
   deep-marks : (kind n : ℕ) → Deeper (marks kind n P) (marks kind n P')
   unfolding marks
   deep-marks kind zero ws = same
   deep-marks kind (suc n) ws =
       deep-head (word_in (mark_low kind) (mark_high kind) ws) (λ m r. deep-bind (deep-times (mark_kids kind m) p (deep-marks kind n) r) (λ es r2. same))
 
-  deep-elem : Deeper (elem_one w P) (elem_one w P')
+  deep-elem : Deeper (elem_one P) (elem_one P')
   unfolding elem_one
-  deep-elem ws = deep-head (read_elem ws) (λ h r. deep-pick (allowed w h.variable) (deep-bind (deep-row h.property p r) (λ es r2. same)))
+  deep-elem ws = deep-head (read_elem ws) (λ h r. deep-bind (deep-row h.property p r) (λ es r2. same))
 
-  deep-elems : (n : ℕ) {K K' : RestS} → Deeper K K' → Deeper (elems n w P K) (elems n w P' K')
+  deep-elems : (n : ℕ) {K K' : RestS} → Deeper K K' → Deeper (elems n P K) (elems n P' K')
   unfolding elems
   deep-elems zero k ws = k ws
   deep-elems (suc n) k ws = deep-bind (deep-elem ws) (λ x r. deep-bind (deep-elems n k r) (λ s r2. same))
 
-  deep-parts : (n : ℕ) → Deeper (parts n w P) (parts n w P')
+  deep-parts : (n : ℕ) → Deeper (parts n P) (parts n P')
   unfolding parts
   deep-parts zero ws = same
   deep-parts (suc n) ws =
-      deep-head (read_part ws) (λ h r. deep-pick (allowed w h.path) (deep-bind (deep-elems h.count (deep-parts n) r) (λ s r2. same)))
+      deep-head (read_part ws) (λ h r. deep-bind (deep-elems h.count (deep-parts n) r) (λ s r2. same))
 
-  deep-pattern : (b : Bool) → Deeper (maybe_pattern b w P) (maybe_pattern b w P')
+  deep-pattern : (b : Bool) → Deeper (maybe_pattern b P) (maybe_pattern b P')
   unfolding maybe_pattern pattern
   deep-pattern true ws = deep-head (any_word ws) (λ n r. deep-parts n r)
   deep-pattern false ws = same
 
-  deep-after : (f : Form) → Deeper (after_form w P f) (after_form w P' f)
+  deep-after : (f : Form) → Deeper (after_form P f) (after_form P' f)
   unfolding after_form
   deep-after f r =
       deep-bind (deep-pattern (has_pattern f) r) (λ s r2. deep-bind (deep-times (kids_of f) p (deep-marks 0 (items_of f)) r2) (λ es r3. same))
 
-pub deep-expr : (w : Tables) (room : ℕ) (ws : List ℕ) → Deep (read_expr w (suc room) ws) (read_expr w room ws)
+pub deep-expr : (names : ℕ) (room : ℕ) (ws : List ℕ) → Deep (read_expr names (suc room) ws) (read_expr names room ws)
 unfolding read_expr deep_cause read_form word_in
-deep-expr w zero [] = same
-deep-expr w zero (x ∷ ws) = deep
-deep-expr w (suc room) ws = deep-head (read_form w.names ws) (λ f r. deep-after w (deep-expr w room) f r)
+deep-expr names zero [] = same
+deep-expr names zero (x ∷ ws) = deep
+deep-expr names (suc room) ws = deep-head (read_form names ws) (λ f r. deep-after (deep-expr names room) f r)

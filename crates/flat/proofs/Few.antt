@@ -7,7 +7,6 @@ use mathlib.Core.List.{List}
 use lib.ListN.{length, length-append}
 use Rattle.heads.specs.Got.{is_ok}
 use Rattle.heads.specs.Form.{form_words}
-use Rattle.heads.specs.Head.{Tables}
 use Rattle.heads.specs.declared.Form.{Form}
 use Rattle.heads.specs.declared.Form.TheVariants.{Leaf, Var, Unresolved, Prop, Two, Slice, Many, BinOp, UnaryOp, Case, IsNull, PatternPredicate, ListComprehension, PatternComprehension, ListPredicate, MapProjection}
 use Rattle.expr.specs.Tree.{Expr, var, unresolved, node, predicate, comprehension, Exprs, done, more, mark, kid_count}
@@ -50,8 +49,8 @@ kids-few done = omega arith
 kids-few (more e es) = simp length-append (omega (arith, a_word e, kids-few es))
 kids-few (mark m es) = omega arith
 
-pub row-few : (w : Tables) (room n : ℕ) (ws : List ℕ) → is_ok (times n (read_expr w room) no_more ws) ≡ true → n ≤ length ws
-row-few w room n ws o =
-    let i = ok-inverse (times n (read_expr w room) no_more ws) o in
-    let g = row_written w room n ws i.0 i.1.0 i.1.1 in
+pub row-few : (names room n : ℕ) (ws : List ℕ) → is_ok (times n (read_expr names room) no_more ws) ≡ true → n ≤ length ws
+row-few names room n ws o =
+    let i = ok-inverse (times n (read_expr names room) no_more ws) o in
+    let g = row_written names room n ws i.0 i.1.0 i.1.1 in
     omega (arith, g.kids, kids-few i.0, simp length-append at (ap length g.words))

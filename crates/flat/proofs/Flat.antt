@@ -8,7 +8,6 @@ use mathlib.Core.Path.{◌≡◌, refl, ap, sym, ◌∙◌}
 use mathlib.Core.List.{List}
 use Rattle.heads.specs.Got.{Got, ok, no, bind, next, bare, is_ok}
 use Rattle.heads.specs.Form.{read_form, kids_of, items_of, has_pattern}
-use Rattle.heads.specs.Head.{Tables}
 use Rattle.heads.specs.declared.Form.{Form}
 use Rattle.heads.proofs.Shapes.{bare-map, bind-each}
 use Rattle.expr.specs.Tree.{Exprs, more, end, tree}
@@ -81,42 +80,42 @@ flat-end : {whole rest : Got Exprs} (f : Form) (es : Exprs) (g : Got Exprs) → 
 flat-end f es (ok os l) x y o = record { kids = es; others = os; left = l; whole_is = x; rest-is = y }
 flat-end {whole} f es (no c) x y o = not-ok whole c o x
 
-module _ (w : Tables) (k : ℕ) (ws : List ℕ) (f : Form) (r : List ℕ) (s : Simple f k) (e : read_form w.names ws ≡ ok f r) where
-  pub plain-expr : (d : ℕ) → read_expr w (suc d) ws ≡ bind (times k (read_expr w d) no_more r) (λ es r2. ok (tree f end es) r2)
+module _ (names k : ℕ) (ws : List ℕ) (f : Form) (r : List ℕ) (s : Simple f k) (e : read_form names ws ≡ ok f r) where
+  pub plain-expr : (d : ℕ) → read_expr names (suc d) ws ≡ bind (times k (read_expr names d) no_more r) (λ es r2. ok (tree f end es) r2)
   unfolding read_expr after_form maybe_pattern marks
   plain-expr d = rw (e, simple-pattern s, simple-items s, simple-kids s)
 
-  whole_row : (d m : ℕ) → bare (times (suc m) (read_expr w (suc d)) no_more ws) ≡ next (bare (times k (read_expr w d) no_more r)) (λ t. bare (times m (read_expr w (suc d)) no_more t))
+  whole_row : (d m : ℕ) → bare (times (suc m) (read_expr names (suc d)) no_more ws) ≡ next (bare (times k (read_expr names d) no_more r)) (λ t. bare (times m (read_expr names (suc d)) no_more t))
   whole_row d m =
-      times_more (read_expr w (suc d)) no_more m ws
-      ∙ ap (λ (g : Got (Unit {0})). next g (λ t. bare (times m (read_expr w (suc d)) no_more t)))
-      (ap bare (plain-expr d) ∙ bare-map (times k (read_expr w d) no_more r) (tree f end))
+      times_more (read_expr names (suc d)) no_more m ws
+      ∙ ap (λ (g : Got (Unit {0})). next g (λ t. bare (times m (read_expr names (suc d)) no_more t)))
+      (ap bare (plain-expr d) ∙ bare-map (times k (read_expr names d) no_more r) (tree f end))
 
-  pub flat-deep : (d m : ℕ) → Deep (bare (times (suc m) (read_expr w (suc d)) no_more ws)) (bare (times (k + m) (read_expr w d) no_more r))
+  pub flat-deep : (d m : ℕ) → Deep (bare (times (suc m) (read_expr names (suc d)) no_more ws)) (bare (times (k + m) (read_expr names d) no_more r))
   flat-deep d m =
-      rw (whole_row d m, two-rows (read_expr w d) m k r)
-      (deep-next (bare (times k (read_expr w d) no_more r)) (λ t. deep-bare (deep-row m (deep-expr w d) t)))
+      rw (whole_row d m, two-rows (read_expr names d) m k r)
+      (deep-next (bare (times k (read_expr names d) no_more r)) (λ t. deep-bare (deep-row m (deep-expr names d) t)))
 
-  pub flat-none : (d m : ℕ) → k ≡ 0 → bare (times (suc m) (read_expr w (suc d)) no_more ws) ≡ bare (times m (read_expr w (suc d)) no_more r)
+  pub flat-none : (d m : ℕ) → k ≡ 0 → bare (times (suc m) (read_expr names (suc d)) no_more ws) ≡ bare (times m (read_expr names (suc d)) no_more r)
   unfolding times
   flat-none d m z = whole_row d m ∙ rw z
 
   -- where the parts are read, so is the rest of the row
-  module _ (d m : ℕ) (es : Exprs) (t : List ℕ) (a : times k (read_expr w d) no_more r ≡ ok es t) where
-    whole-after : times (suc m) (read_expr w (suc d)) no_more ws ≡ bind (times m (read_expr w (suc d)) no_more t) (λ os l. ok (more (tree f end es) os) l)
+  module _ (d m : ℕ) (es : Exprs) (t : List ℕ) (a : times k (read_expr names d) no_more r ≡ ok es t) where
+    whole-after : times (suc m) (read_expr names (suc d)) no_more ws ≡ bind (times m (read_expr names (suc d)) no_more t) (λ os l. ok (more (tree f end es) os) l)
     unfolding times
     whole-after = rw (plain-expr d, a)
 
-    rest-after : times (k + m) (read_expr w (suc d)) no_more r ≡ bind (times m (read_expr w (suc d)) no_more t) (λ os l. ok (join_e es os) l)
+    rest-after : times (k + m) (read_expr names (suc d)) no_more r ≡ bind (times m (read_expr names (suc d)) no_more t) (λ os l. ok (join_e es os) l)
     rest-after =
-        times-add (read_expr w (suc d)) m k r
-        ∙ times-split (read_expr w (suc d)) (times m (read_expr w (suc d)) no_more) k r
-        ∙ rw (deep-ok (deep-row k (deep-expr w d) r) a)
+        times-add (read_expr names (suc d)) m k r
+        ∙ times-split (read_expr names (suc d)) (times m (read_expr names (suc d)) no_more) k r
+        ∙ rw (deep-ok (deep-row k (deep-expr names d) r) a)
 
-  pub flat_ok : (room m : ℕ) → is_ok (times (suc m) (read_expr w room) no_more ws) ≡ true → Flattened (times (suc m) (read_expr w room) no_more ws) (times (k + m) (read_expr w room) no_more r) f
+  pub flat_ok : (room m : ℕ) → is_ok (times (suc m) (read_expr names room) no_more ws) ≡ true → Flattened (times (suc m) (read_expr names room) no_more ws) (times (k + m) (read_expr names room) no_more r) f
   unfolding times
-  flat_ok zero m o = absurd (omega (arith, room-left w zero ws (ok-left (read_expr w zero ws) _ o)))
+  flat_ok zero m o = absurd (omega (arith, room-left names zero ws (ok-left (read_expr names zero ws) _ o)))
   flat_ok (suc d) m o =
-      let first : is_ok (bind (times k (read_expr w d) no_more r) (λ es l. ok (tree f end es) l)) ≡ true = sym (ap is_ok (plain-expr d)) ∙ ok-left (read_expr w (suc d) ws) _ o in
-      let a = ok-inverse (times k (read_expr w d) no_more r) (ok-left (times k (read_expr w d) no_more r) _ first) in
-      flat-end f a.0 (times m (read_expr w (suc d)) no_more a.1.0) (whole-after d m a.0 a.1.0 a.1.1) (rest-after d m a.0 a.1.0 a.1.1) o
+      let first : is_ok (bind (times k (read_expr names d) no_more r) (λ es l. ok (tree f end es) l)) ≡ true = sym (ap is_ok (plain-expr d)) ∙ ok-left (read_expr names (suc d) ws) _ o in
+      let a = ok-inverse (times k (read_expr names d) no_more r) (ok-left (times k (read_expr names d) no_more r) _ first) in
+      flat-end f a.0 (times m (read_expr names (suc d)) no_more a.1.0) (whole-after d m a.0 a.1.0 a.1.1) (rest-after d m a.0 a.1.0 a.1.1) o

@@ -12,7 +12,6 @@ use mathlib.Core.List.{List}
 use lib.ListN.{length, drop}
 use Rattle.heads.specs.Got.{Got, ok, no, bare}
 use Rattle.heads.specs.Form.{read_form, kids_of}
-use Rattle.heads.specs.Head.{Tables}
 use Rattle.heads.specs.Answer.{Ans, read_got, read_end, Reads}
 use Rattle.heads.specs.declared.Form.{Form}
 use Rattle.heads.specs.declared.Form.TheVariants.{Leaf, Var, Unresolved, Prop, Two, Slice, Many, BinOp, UnaryOp, Case, IsNull, PatternPredicate, ListComprehension, PatternComprehension, ListPredicate, MapProjection}
@@ -81,62 +80,62 @@ found {ws} {names} {p} {q} {k} y =
     }
 
 -- an expression whose head is none, and the row of a plain head
-module _ (w : Tables) where
-  no-head : {d n : ℕ} (c : ℕ) (r : List ℕ) → d ≡ suc c → read_form w.names r ≡ no n → read_expr w d r ≡ no n
+module _ (names : ℕ) where
+  no-head : {d n : ℕ} (c : ℕ) (r : List ℕ) → d ≡ suc c → read_form names r ≡ no n → read_expr names d r ≡ no n
   unfolding read_expr
   no-head c r z e = rw (z, e)
 
-  module _ {ws : List ℕ} {p q k : ℕ} (f : Found ws w.names p q k) {left d rest : ℕ} (l c : ℕ) (x : left ≡ suc l) (y : d ≡ suc c) where
-    plain-parts : rest ≡ k + l → Deep (bare (times left (read_expr w d) no_more (drop p ws))) (bare (times rest (read_expr w c) no_more (drop q ws)))
-    plain-parts z = rw (x, y, z) (flat-deep w k (drop p ws) f.head (drop q ws) f.simple f.reads c l)
+  module _ {ws : List ℕ} {p q k : ℕ} (f : Found ws names p q k) {left d rest : ℕ} (l c : ℕ) (x : left ≡ suc l) (y : d ≡ suc c) where
+    plain-parts : rest ≡ k + l → Deep (bare (times left (read_expr names d) no_more (drop p ws))) (bare (times rest (read_expr names c) no_more (drop q ws)))
+    plain-parts z = rw (x, y, z) (flat-deep names k (drop p ws) f.head (drop q ws) f.simple f.reads c l)
 
-    plain-none : k ≡ 0 → rest ≡ l → bare (times left (read_expr w d) no_more (drop p ws)) ≡ bare (times rest (read_expr w d) no_more (drop q ws))
-    plain-none z t = rw (x, y, t) (flat-none w k (drop p ws) f.head (drop q ws) f.simple f.reads c l z)
+    plain-none : k ≡ 0 → rest ≡ l → bare (times left (read_expr names d) no_more (drop p ws)) ≡ bare (times rest (read_expr names d) no_more (drop q ws))
+    plain-none z t = rw (x, y, t) (flat-none names k (drop p ws) f.head (drop q ws) f.simple f.reads c l z)
 
 -- the loop's invariant: of the n from at on, those before p are read, and left are left, with room d
-pub record Skimmed (w : Tables) (ws : List ℕ) (at room n p left d : ℕ) : Type 0 where
-  pub same : Under (bare (times n (read_expr w room) no_more (drop at ws))) (bare (times left (read_expr w d) no_more (drop p ws)))
+pub record Skimmed (names : ℕ) (ws : List ℕ) (at room n p left d : ℕ) : Type 0 where
+  pub same : Under (bare (times n (read_expr names room) no_more (drop at ws))) (bare (times left (read_expr names d) no_more (drop p ws)))
   pub from : at ≤ p
   pub within : p ≤ length ws
 
-pub skim-begin : (w : Tables) (ws : List ℕ) (at room n : ℕ) → at ≤ length ws → Skimmed w ws at room n at n room
-skim-begin w ws at room n h = record { same = record { tells = λ x. refl }; from = omega arith; within = h }
+pub skim-begin : (names : ℕ) (ws : List ℕ) (at room n : ℕ) → at ≤ length ws → Skimmed names ws at room n at n room
+skim-begin names ws at room n h = record { same = record { tells = λ x. refl }; from = omega arith; within = h }
 
 -- room ran out, or there are too many
 pub skim-deep : {A : Type 0} {ws : List ℕ} {at : ℕ} {f : List ℕ → Got A} → at ≤ length ws → Skims ws at f (Err Depth)
 skim-deep h = record { same = λ x. absurd (x refl); from = h; within = omega arith }
 
-module _ {w : Tables} {ws : List ℕ} {at room n p left d : ℕ} (l : Skimmed w ws at room n p left d) where
+module _ {names : ℕ} {ws : List ℕ} {at room n p left d : ℕ} (l : Skimmed names ws at room n p left d) where
   -- what the rest of the row gives
-  skim-ends : (r : Result ℕ Refusal) → Ans ws p (bare (times left (read_expr w d) no_more (drop p ws))) (read_got ws r) (read_end ws r) → Skims ws at (times n (read_expr w room) no_more) r
+  skim-ends : (r : Result ℕ Refusal) → Ans ws p (bare (times left (read_expr names d) no_more (drop p ws))) (read_got ws r) (read_end ws r) → Skims ws at (times n (read_expr names room) no_more) r
   skim-ends r y = record { same = (under_same l.same y.same).tells; from = omega arith; within = y.within }
 
-  row : Row (kid_rows (read_expr w d)) ws p left 0 p
+  row : Row (kid_rows (read_expr names d)) ws p left 0 p
   row = row_begun _ _ _ _ l.within
 
-  pub skim-done : left ≤ 0 → Skims ws at (times n (read_expr w room) no_more) (Ok p)
+  pub skim-done : left ≤ 0 → Skims ws at (times n (read_expr names room) no_more) (Ok p)
   skim-done h = skim-ends (Ok p) (row_done row h)
 
   module _ (h : 0 < left) where
-    pub skim-next : {q : ℕ} → Ans ws p (bare (read_expr w d (drop p ws))) (ok tt (drop q ws)) q → Skimmed w ws at room n q (left - 1) d
+    pub skim-next : {q : ℕ} → Ans ws p (bare (read_expr names d (drop p ws))) (ok tt (drop q ws)) q → Skimmed names ws at room n q (left - 1) d
     skim-next x =
         let y = row_next row h x in
         record { same = under_same l.same y.same; from = omega arith; within = y.within }
 
-    pub skim-stop : {q : ℕ} (e : Refusal) (r : Result ℕ Refusal) → Ans ws p (bare (read_expr w d (drop p ws))) (no (number_of e)) q → IsErr r × IsErrAnd r (λ y. y ≡ e) → Skims ws at (times n (read_expr w room) no_more) r
+    pub skim-stop : {q : ℕ} (e : Refusal) (r : Result ℕ Refusal) → Ans ws p (bare (read_expr names d (drop p ws))) (no (number_of e)) q → IsErr r × IsErrAnd r (λ y. y ≡ e) → Skims ws at (times n (read_expr names room) no_more) r
     skim-stop e r x f = skim-ends r (row_stop row e r h x f)
 
     module _ (i : 0 < d) where
-      pub skim-no : (e : Refusal) (r : Result ℕ Refusal) → PlainAt ws w.names p (Err e) → IsErr r × IsErrAnd r (λ y. y ≡ e) → Skims ws at (times n (read_expr w room) no_more) r
+      pub skim-no : (e : Refusal) (r : Result ℕ Refusal) → PlainAt ws names p (Err e) → IsErr r × IsErrAnd r (λ y. y ≡ e) → Skims ws at (times n (read_expr names room) no_more) r
       skim-no e r x f =
-          skim-stop {q = p} e r (record { same = ap bare (no-head w (d - 1) (drop p ws) (omega arith) x); from = omega arith; within = omega arith }) f
+          skim-stop {q = p} e r (record { same = ap bare (no-head names (d - 1) (drop p ws) (omega arith) x); from = omega arith; within = omega arith }) f
 
-      module _ {q k : ℕ} (f : Found ws w.names p q k) where
-        pub skim-parts : Skimmed w ws at room n q (left - 1 + k) (d - 1)
-        skim-parts = record { same = under-deep l.same (plain-parts w f (left - 1) (d - 1) (omega arith) (omega arith) (omega arith)); from = omega arith; within = f.within }
+      module _ {q k : ℕ} (f : Found ws names p q k) where
+        pub skim-parts : Skimmed names ws at room n q (left - 1 + k) (d - 1)
+        skim-parts = record { same = under-deep l.same (plain-parts names f (left - 1) (d - 1) (omega arith) (omega arith) (omega arith)); from = omega arith; within = f.within }
 
-        pub skim-none : k ≤ 0 → Skimmed w ws at room n q (left - 1 + k) d
-        skim-none z = record { same = under_same l.same (plain-none w f (left - 1) (d - 1) (omega arith) (omega arith) (omega arith) (omega arith)); from = omega arith; within = f.within }
+        pub skim-none : k ≤ 0 → Skimmed names ws at room n q (left - 1 + k) d
+        skim-none z = record { same = under_same l.same (plain-none names f (left - 1) (d - 1) (omega arith) (omega arith) (omega arith) (omega arith)); from = omega arith; within = f.within }
 
 -- an answer that is not Depth is the definition's
 pub told : {A : Type 0} {ws : List ℕ} {at : ℕ} {f : List ℕ → Got A} (r : Result ℕ Refusal) → Skims ws at f r → (r ≡ Err Depth → ⊥) → Reads ws at f r

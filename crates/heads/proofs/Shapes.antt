@@ -1,7 +1,6 @@
 -- What `bare` keeps of a reader put together from others: that something is read and what follows, or the cause, and not what it is.
 use Prim.Native.Nat.{ℕ}
 use mathlib.Core.Path.{◌≡◌, refl}
-use mathlib.Core.Bool.{Bool, true, false, cond}
 use mathlib.Core.List.{List}
 use Rattle.heads.specs.Got.{Got, ok, no, bind, next, bare}
 
@@ -48,13 +47,3 @@ module _ {A : Type 0} where
   pub bare-end : (g : Got A) → bare g ≡ bind g (λ a r. ok tt r)
   bare-end (ok a r) = refl
   bare-end (no c) = refl
-
--- a test that refuses
-module _ {A : Type 0} (c : ℕ) where
-  pub bare-pick : (b : Bool) (g : Got A) (x : Got (Unit {0})) → bare g ≡ x → bare (cond b g (no c)) ≡ cond b x (no c)
-  bare-pick true g x e = e
-  bare-pick false g x e = refl
-
-  pub bare-pick-row : (b : Bool) (g : Got A) (x : Got (Unit {0})) (h : Rest) → bare g ≡ next x h → bare (cond b g (no c)) ≡ next (cond b x (no c)) h
-  bare-pick-row true g x h e = e
-  bare-pick-row false g x h e = refl

@@ -2,8 +2,7 @@
 // reader.
 ghost use Rattle.std.specs.Prelude.{ℕ, List, ◌≤◌, length, drop};
 ghost use Rattle.heads.specs.Got.{Got, many, counted};
-ghost use Rattle.heads.specs.Head.{Tables};
-ghost use Rattle.heads.specs.Answer.{Reads, words_of, tables_of};
+ghost use Rattle.heads.specs.Answer.{Reads, words_of};
 
 use crate::Section;
 use refusal::Refusal;
@@ -13,19 +12,19 @@ pub trait Item {
     // one of them as a tree
     ghost Tree: { Type 0 };
 
-    // how the definition reads one
-    ghost one: { Tables → List ℕ → Got Tree };
+    // how the definition reads one, where there are so many names
+    ghost one: { ℕ → List ℕ → Got Tree };
 
     // Reads one.
     fn read(section: &Section, at: usize) -> Result<usize, Refusal>
         requires { at ≤ length (words_of section.now) }
-        ensures { Reads (words_of section.now) at (one (tables_of section.now)) result };
+        ensures { Reads (words_of section.now) at (one section.now.names) result };
 }
 
 // n items of a kind.
 pub fn read_many<I: Item>(section: &Section, at: usize, n: u32) -> Result<usize, Refusal>
     requires { at ≤ length (words_of section.now) }
-    ensures { Reads (words_of section.now) at (many (I.one (tables_of section.now)) n) result }
+    ensures { Reads (words_of section.now) at (many (I.one section.now.names) n) result }
 {
     let mut p = at;
     for _ in 0..n {
@@ -37,7 +36,7 @@ pub fn read_many<I: Item>(section: &Section, at: usize, n: u32) -> Result<usize,
 // A count, and as many items of a kind.
 pub fn counted<I: Item>(section: &Section, at: usize) -> Result<usize, Refusal>
     requires { at ≤ length (words_of section.now) }
-    ensures { Reads (words_of section.now) at (counted (I.one (tables_of section.now))) result }
+    ensures { Reads (words_of section.now) at (counted (I.one section.now.names)) result }
 {
     let (n, at) = section.any_word(at)?;
     read_many::<I>(section, at, n)

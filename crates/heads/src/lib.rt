@@ -11,8 +11,8 @@ ghost use Rattle.words.specs.Words.{words};
 ghost use Rattle.refusal.specs.Number.{number_of};
 ghost use Rattle.heads.specs.Got.{word_in, any_word, flag};
 ghost use Rattle.heads.specs.Form.{shape_of, limit_of, form_none, form_one, case_rest, comp_rest, rest_of, read_form, kids_of, items_of, has_pattern};
-ghost use Rattle.heads.specs.Head.{allowed, read_maybe, read_part, read_elem, mark_low, mark_high, mark_kids, deep_cause};
-ghost use Rattle.heads.specs.Answer.{Takes, one_on, longer, words_of, tables_of, is_in, row_ids, kind_of};
+ghost use Rattle.heads.specs.Head.{read_maybe, read_part, read_elem, mark_low, mark_high, mark_kids, deep_cause};
+ghost use Rattle.heads.specs.Answer.{Takes, one_on, longer, words_of, is_in, row_ids, kind_of};
 
 pub use item::{Item, counted, read_many};
 use refusal::Refusal;
@@ -57,14 +57,12 @@ pub struct Elem {
     pub property: u32,
 }
 
-// A section, how many names the sheet has, and the bindings among which binders are sought: how many from which word on, or none, where
-// any variable may be bound.
+// A section, how many names the sheet has, and the word from which on its bindings stand.
 #[derive(Clone, Copy)]
 pub struct Section<'a> {
     pub bytes: &'a [u8],
     pub names: u32,
     pub rows: usize,
-    pub bound: Option<usize>,
 }
 
 // By code: 1 where no word follows, 2 where one does, 3 Case, 4 PatternComprehension, 0 no code. They are numbers, as the definition's table has
@@ -275,28 +273,6 @@ impl Section<'_> {
             at += 5;
         }
         false
-    }
-
-    // Whether a variable may be bound. A match, here and below: tried with `is_none_or` over a closure that calls a method on `self`, and the proof
-    // didn't close.
-    #[tactic(auto, unfolding(crate::specs::Answer::known_at))]
-    pub fn knows(&self, v: u32) -> bool
-        ensures { result ≡ (tables_of self.now).known v }
-    {
-        match self.bound {
-            None => true,
-            Some(n) => self.has_row(n, v),
-        }
-    }
-
-    // Whether a variable, if there is one, may be bound.
-    pub fn may_bind(&self, variable: Option<u32>) -> bool
-        ensures { result ≡ allowed (tables_of self.now) variable }
-    {
-        match variable {
-            None => true,
-            Some(v) => self.knows(v),
-        }
     }
 
     // The refusal where no room is left: a word there is too deep, and a missing one is missing.

@@ -2,10 +2,10 @@
 use Rattle.std.proofs.Common.{◌≡◌, ◌∙◌, refl, sym, ap, ℕ, ◌<◌, [], ◌∷◌, get_or, arith}
 use Rattle.refusal.specs.Number.{number_of}
 use Rattle.refusal.specs.declared.Refusal.{Refusal}
-use Rattle.refusal.specs.declared.Refusal.TheVariants.{Size, Places, Names, Bindings, Word, Depth, Unbound, Entries, Asked, Page, Room}
+use Rattle.refusal.specs.declared.Refusal.TheVariants.{Size, Places, Names, Bindings, Word, Depth, Entries, Asked, Page, Room}
 
 abbrev cause_at : ℕ → Refusal
-cause_at n = get_or (Size ∷ Size ∷ Places ∷ Names ∷ Bindings ∷ Word ∷ Depth ∷ Unbound ∷ Entries ∷ Asked ∷ Page ∷ []) n Room
+cause_at n = get_or (Size ∷ Size ∷ Places ∷ Names ∷ Bindings ∷ Word ∷ Depth ∷ Depth ∷ Entries ∷ Asked ∷ Page ∷ []) n Room
 
 placed : (e : Refusal) → (cause_at (number_of e) ≡ e) × (number_of e < 13)
 placed Size = (refl, omega arith)
@@ -14,7 +14,6 @@ placed Names = (refl, omega arith)
 placed Bindings = (refl, omega arith)
 placed Word = (refl, omega arith)
 placed Depth = (refl, omega arith)
-placed Unbound = (refl, omega arith)
 placed Entries = (refl, omega arith)
 placed Asked = (refl, omega arith)
 placed Page = (refl, omega arith)

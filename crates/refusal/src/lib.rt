@@ -15,7 +15,6 @@ pub enum Refusal {
     Bindings = 4,
     Word = 5,
     Depth = 6,
-    Unbound = 7,
     Entries = 8,
     Asked = 9,
     Page = 10,

@@ -4,18 +4,16 @@ use Prim.Native.Nat.{ℕ, ◌*◌, ◌≤◌}
 use native.Mathlib.Omega.{arith}
 use mathlib.Core.Path.{◌≡◌, refl, ◌∙◌}
 use mathlib.Core.Bool.{Bool, true, false}
-use mathlib.Core.List.{List, [], ◌∷◌, ◌++◌, map, flat_map, append-nil}
+use mathlib.Core.List.{List, [], ◌∷◌, map, flat_map, append-nil}
 use lib.ListN.{length, take}
 use Rattle.words.specs.Words.{words}
 use Rattle.words.proofs.Words.{length-words}
 use Rattle.heads.specs.Got.{Got, ok, no, many}
 use Rattle.heads.specs.Answer.{is_in}
-use Rattle.expr.specs.Binders.{all_known}
 use Rattle.expr.proofs.Inverse.{never}
 use Rattle.clauses.specs.Tree.{Clause, Arm}
 use Rattle.clauses.specs.Read.{read_clause, read_arm}
 use Rattle.clauses.specs.Write.{write_clause, write_arm}
-use Rattle.clauses.specs.Binders.{binders_c, binders_a}
 use Rattle.clauses.specs.Well.{Each, WellClause, WellArm}
 use Rattle.clauses.proofs.WrittenClause.{many-gives, clause-gives, arm-gives}
 use Rattle.tables.specs.Distinct.{name_in, distinct}
@@ -23,7 +21,7 @@ use Rattle.tables.specs.Name.{read_name}
 use Rattle.tables.specs.Row.{Row, row_id, read_row}
 use Rattle.sheet.specs.Trailer.{sized, trailer_at, in_place, places_of, section}
 use Rattle.sheet.specs.Statement.{Statement}
-use Rattle.sheet.specs.Read.{Sheet, accepted, refused, then', unless, entire, used_up, any_binder, read_names, read_rows, read_clauses, locate, read_sections, read_sheet}
+use Rattle.sheet.specs.Read.{Sheet, accepted, refused, then', unless, entire, used_up, read_names, read_rows, read_clauses, locate, read_sections, read_sheet}
 use Rattle.sheet.specs.declared.trailer.Places.{Places}
 use Rattle.sheet.proofs.Placing.{Sized, size_of, Falling, is-falling}
 
@@ -73,48 +71,41 @@ pub rows-hold : (names n : ℕ) (ws : List ℕ) → Holds (read_rows names n ws)
 unfolding read_rows
 rows-hold names n ws = next (read_whole 4 (many (read_row names) n ws)) (λ rs h. tested 4 (distinct is_in (map row_id rs)) (λ one. holds (h, one)))
 
--- the head's clauses and the arms are what their sections give, their words stand there, and these are within the tables
+-- the head's clauses and the arms are what their sections give, their words stand there, and they are well-formed
 pub record Sections (ws : List ℕ) (p : Places) (head : List Clause) (arms : List Arm) : Type 0 where
-  pub head_read : many (read_clause (any_binder p.names)) p.clauses (section ws p.head p.tail) ≡ ok head []
-  pub arms_read : many (read_arm (any_binder p.names)) p.arms (section ws p.tail p.trailer) ≡ ok arms []
+  pub head_read : many (read_clause p.names) p.clauses (section ws p.head p.tail) ≡ ok head []
+  pub arms_read : many (read_arm p.names) p.arms (section ws p.tail p.trailer) ≡ ok arms []
   pub head_words : section ws p.head p.tail ≡ flat_map write_clause head
   pub arm_words : section ws p.tail p.trailer ≡ flat_map write_arm arms
-  pub head_well : Each (WellClause (any_binder p.names)) head
-  pub arms_well : Each (WellArm (any_binder p.names)) arms
+  pub head_well : Each (WellClause p.names) head
+  pub arms_well : Each (WellArm p.names) arms
   pub clauses : length head ≡ p.clauses
   pub armed : length arms ≡ p.arms
 
--- every variable that head and arms bind is one of these
-abbrev Bound : List ℕ → List Clause → List Arm → Type 0
-Bound ids head arms = all_known (λ v. is_in v ids) (flat_map binders_c head ++ flat_map binders_a arms) ≡ true
-
-clauses-hold : (ws : List ℕ) (p : Places) (ids : List ℕ) → Holds (read_clauses ws p ids) (λ x. Sections ws p x.0 x.1 × Bound ids x.0 x.1)
+clauses-hold : (ws : List ℕ) (p : Places) → Holds (read_clauses ws p) (λ x. Sections ws p x.0 x.1)
 unfolding read_clauses
-clauses-hold ws p ids =
-    let w = any_binder p.names in
+clauses-hold ws p =
     let before = section ws p.head p.tail in
     let after = section ws p.tail p.trailer in
-    next (used-up (many (read_clause w) p.clauses before))
-    (λ head h. next (used-up (many (read_arm w) p.arms after))
-    (λ arms g. tested 7 (all_known (λ v. is_in v ids) (flat_map binders_c head ++ flat_map binders_a arms))
-    (λ known.
-    let x = (many-gives write_clause (WellClause w) (clause-gives w) p.clauses before).given head [] h in
-    let y = (many-gives write_arm (WellArm w) (arm-gives w) p.arms after).given arms [] g in
-    holds (record { head_read = h; arms_read = g; head_words = x.0 ∙ append-nil _; arm_words = y.0 ∙ append-nil _; head_well = x.1; arms_well = y.1; clauses = x.2; armed = y.2 }, known))))
+    next (used-up (many (read_clause p.names) p.clauses before))
+    (λ head h. next (used-up (many (read_arm p.names) p.arms after))
+    (λ arms g.
+    let x = (many-gives write_clause (WellClause p.names) (clause-gives p.names) p.clauses before).given head [] h in
+    let y = (many-gives write_arm (WellArm p.names) (arm-gives p.names) p.arms after).given arms [] g in
+    holds (record { head_read = h; arms_read = g; head_words = x.0 ∙ append-nil _; arm_words = y.0 ∙ append-nil _; head_well = x.1; arms_well = y.1; clauses = x.2; armed = y.2 })))
 
--- the span is the trailer's, and every binder has a binding
+-- the span is the trailer's
 pub record Framed (p : Places) (st : Statement) : Type 0 where
   pub start : st.start ≡ p.start
   pub stop : st.stop ≡ p.end
-  pub bound : Bound (map row_id st.bindings) st.head st.arms
 
 sections-hold : (s ws : List ℕ) (p : Places) → Holds (read_sections s ws p) (λ st. Sections ws p st.head st.arms × TwoTables s ws p st.names st.bindings × Framed p st)
 unfolding read_sections
 sections-hold s ws p =
     next (names-hold p.names (take (p.rows * 4) s))
     (λ names n. next (rows-hold p.names p.bindings (section ws p.rows p.head))
-    (λ rs r. next (clauses-hold ws p (map row_id rs))
-    (λ x h. holds (h.0, record { names_read = n.0; rows_read = r.0; apart = n.1; once = r.1 }, record { start = refl; stop = refl; bound = h.1 }))))
+    (λ rs r. next (clauses-hold ws p)
+    (λ x h. holds (h, record { names_read = n.0; rows_read = r.0; apart = n.1; once = r.1 }, record { start = refl; stop = refl }))))
 
 -- causes 1 and 2 are not given
 abbrev Placed : List ℕ → Type 0

@@ -3,7 +3,7 @@
 use Prim.Native.Nat.{ℕ, ◌+◌, ◌-◌, ◌≤◌}
 use native.Mathlib.Omega.{arith}
 use mathlib.Core.Path.{◌≡◌, refl, sym, ◌∙◌}
-use mathlib.Core.List.{List, [], ◌++◌, append-nil, map, flat_map}
+use mathlib.Core.List.{List, [], ◌++◌, append-nil, flat_map}
 use lib.ListN.{length, take, get_or, length-append}
 use lib.Seq.{take-append-add, drop-append-add, take-append_seam, drop-append_seam, get_or-append-add}
 use Rattle.heads.specs.Got.{Got, ok, many}
@@ -12,10 +12,10 @@ use Rattle.clauses.specs.Well.{Each, WellClause, WellArm}
 use Rattle.clauses.specs.Read.{read_clause, read_arm}
 use Rattle.clauses.specs.Write.{write_clause, write_arm}
 use Rattle.clauses.proofs.ReadsBackClause.{many-back, clause-back, arm_back}
-use Rattle.tables.specs.Row.{Row, row, row_id, read_row, row_words}
+use Rattle.tables.specs.Row.{Row, row, read_row, row_words}
 use Rattle.sheet.specs.Trailer.{trailer_at, trailer, places_of, section}
 use Rattle.sheet.specs.Statement.{Statement}
-use Rattle.sheet.specs.Read.{accepted, any_binder, read_names, read_rows, read_clauses, locate, read_sections, read_sheet}
+use Rattle.sheet.specs.Read.{accepted, read_names, read_rows, read_clauses, locate, read_sections, read_sheet}
 use Rattle.sheet.specs.Write.{bytes_of, names_words, table_words, head_words, arms_words, trailer_of, sheet_words, WellRow, WellStatement}
 use Rattle.sheet.specs.declared.trailer.Places.{Places}
 use Rattle.sheet.proofs.Placing.{Sized, is-sized, Falling, falls-in-place}
@@ -47,11 +47,11 @@ module _ (st : Statement) (h : WellStatement st) where
   -- head and arms, where they stand
   clauses-read : (ws : List ℕ) (p : Places) → p.names ≡ length st.names → p.clauses ≡ length st.head → p.arms ≡ length st.arms →
       section ws p.head p.tail ≡ head_words st → section ws p.tail p.trailer ≡ arms_words st →
-      read_clauses ws p (map row_id st.bindings) ≡ accepted (st.head, st.arms)
+      read_clauses ws p ≡ accepted (st.head, st.arms)
   unfolding read_clauses head_words arms_words
   clauses-read ws p names clauses arms head tail =
-      let w = any_binder (length st.names) in
-      rw (names, clauses, arms, head, tail, all_back (read_clause w) write_clause (WellClause w) (clause-back w) st.head h.head, all_back (read_arm w) write_arm (WellArm w) (arm_back w) st.arms h.arms, h.bound)
+      let w = length st.names in
+      rw (names, clauses, arms, head, tail, all_back (read_clause w) write_clause (WellClause w) (clause-back w) st.head h.head, all_back (read_arm w) write_arm (WellArm w) (arm_back w) st.arms h.arms)
 
 -- ---- where the sections stand, one after the other
 

@@ -1,6 +1,4 @@
--- What an accepted sheet gives the walks: its sections stand in order, its names and bindings are the statement's, and so are its head and
--- arms as the walks read them, where every variable may be bound.
-use Rattle.std.specs.Prelude.{None}
+-- What an accepted sheet gives the walks: its sections stand in order, and its names, bindings, head and arms are the statement's.
 use Prim.Native.Nat.{ℕ, ◌+◌, ◌*◌, ◌≤◌}
 use native.Mathlib.Omega.{arith}
 use mathlib.Core.Path.{◌≡◌, ◌∙◌}
@@ -10,7 +8,6 @@ use lib.Seq.{take-take}
 use Rattle.words.specs.Words.{words}
 use Rattle.words.proofs.Words.{length-words}
 use Rattle.heads.specs.Got.{ok, many}
-use Rattle.heads.specs.Answer.{known_at}
 use Rattle.clauses.specs.Read.{read_clause, read_arm}
 use Rattle.clauses.specs.Well.{Each}
 use Rattle.clauses.proofs.WrittenClause.{many-gives}
@@ -18,7 +15,7 @@ use Rattle.tables.specs.Row.{row_words}
 use Rattle.sheet.specs.Trailer.{places_of, section}
 use Rattle.sheet.specs.Statement.{Statement}
 use Rattle.sheet.specs.Read.{accepted, read_sheet}
-use Rattle.sheet.specs.Answer.{InPlaces, tables_to}
+use Rattle.sheet.specs.Answer.{InPlaces}
 use Rattle.sheet.specs.Write.{WellRow}
 use Rattle.sheet.specs.declared.trailer.Places.{Places}
 use Rattle.sheet.proofs.Placing.{within}
@@ -40,13 +37,12 @@ pub record WalkedSheet (s : List ℕ) (p : Places) (st : Statement) : Type 0 whe
   pub rows : section (words s) p.rows p.head ≡ flat_map row_words st.bindings
   pub rows_well : Each (WellRow p.names) st.bindings
   -- the head and the arms
-  pub head_read : many (read_clause (tables_to s p None p.tail)) p.clauses (section (words s) p.head p.tail) ≡ ok st.head []
-  pub arms_read : many (read_arm (tables_to s p None p.trailer)) p.arms (section (words s) p.tail p.trailer) ≡ ok st.arms []
+  pub head_read : many (read_clause p.names) p.clauses (section (words s) p.head p.tail) ≡ ok st.head []
+  pub arms_read : many (read_arm p.names) p.arms (section (words s) p.tail p.trailer) ≡ ok st.arms []
 
 module _ (s : List ℕ) (p : Places) (st : Statement) where
   -- the bindings are their section's words, so they fill it
   walks : InPlaces s p → Sections (words s) p st.head st.arms → TwoTables s (words s) p st.names st.bindings → WalkedSheet s p st
-  unfolding known_at
   walks h x t =
       let ws = words s in
       let names = (names-give p.names (take (p.rows * 4) s)).given st.names [] t.names_read in

@@ -1,28 +1,24 @@
 -- The whole sheet from its pieces: where the places, the tables, or head and arms are refused, so is the sheet, and else it is accepted,
 -- and the lent tables hold its names.
-use Prim.Native.Nat.{ℕ, ◌+◌, ◌*◌, ◌≤◌}
+use Prim.Native.Nat.{ℕ, ◌*◌}
 use native.Mathlib.Omega.{arith}
 use mathlib.Core.Path.{◌≡◌, refl, sym, ap, subst, ◌∙◌}
 use mathlib.Core.Bool.{true}
 use mathlib.Core.List.{List, map}
-use lib.ListN.{length, take, drop, length-take, length-drop}
+use lib.ListN.{take, length-take}
 use Rattle.words.specs.Words.{words}
 use Rattle.words.specs.Fnv.{use_id}
-use Rattle.words.proofs.Words.{length-words}
-use Rattle.heads.specs.Answer.{row_ids}
 use Rattle.expr.proofs.Inverse.{never}
 use Rattle.clauses.specs.Tree.{Clause, Arm}
 use Rattle.tables.specs.Answer.{names_in}
-use Rattle.tables.specs.Row.{Row, row_id}
+use Rattle.tables.specs.Row.{Row}
 use Rattle.sheet.specs.Trailer.{places_of}
 use Rattle.sheet.specs.Statement.{Statement}
-use Rattle.sheet.specs.Read.{Sheet, accepted, refused, then', read_names, read_rows, read_clauses, locate, read_sections, read_sheet}
-use Rattle.sheet.specs.Answer.{InPlaces, with_value, opened_as, Tabled, Names, judged, rows_of, tables_of}
+use Rattle.sheet.specs.Read.{Sheet, accepted, refused, then', read_names, read_clauses, locate, read_sections, read_sheet}
+use Rattle.sheet.specs.Answer.{with_value, opened_as, Tabled, Names, judged, rows_of, tables_of}
 use Rattle.sheet.specs.declared.trailer.Places.{Places}
 use Rattle.sheet.proofs.Placing.{places-of}
-use Rattle.sheet.proofs.Cutting.{ids-take}
-use Rattle.sheet.proofs.Reading.{rows-read}
-use Rattle.sheet.proofs.Accepted.{names-hold, rows-hold, accepted-words}
+use Rattle.sheet.proofs.Accepted.{names-hold, accepted-words}
 
 -- ---- the places
 
@@ -37,7 +33,7 @@ abbrev names_of : List ℕ → Places → Sheet (List (List ℕ))
 names_of s p = read_names p.names (take (p.rows * 4) s)
 
 abbrev pub clauses_of : List ℕ → Places → Sheet (List Clause × List Arm)
-clauses_of s p = read_clauses (words s) p (row_ids p.bindings (drop p.rows (words s)))
+clauses_of s p = read_clauses (words s) p
 
 abbrev statement_of : Places → List (List ℕ) → List Row → List Clause × List Arm → Statement
 statement_of p ns rs x = record { names = ns; bindings = rs; head = x.0; arms = x.1; start = p.start; stop = p.end }
@@ -48,9 +44,6 @@ record TablesRead (s : List ℕ) (p : Places) : Type 0 where
   rows : List Row
   named : names_of s p ≡ accepted names
   rowed : rows_of s p ≡ accepted rows
-
-rows-sized : (names n : ℕ) (ws : List ℕ) (rs : List Row) → read_rows names n ws ≡ accepted rs → (map row_id rs ≡ row_ids n ws) × (length ws ≡ n * 5)
-rows-sized names n ws rs e = rows-read names n ws rs ((rows-hold names n ws).held rs e).0
 
 module _ (s : List ℕ) (p : Places) where
   tables-read : judged (tables_of s p) ≡ accepted tt → TablesRead s p
@@ -81,24 +74,15 @@ module _ (s : List ℕ) (p : Places) where
 
     pub tables-refused : {c : ℕ} → refused c ≡ judged (tables_of s p) → refused c ≡ opened_as s
     unfolding read_sections
-    tables-refused g = rw at_places (tables-stop (λ ns rs. then' (read_clauses (words s) p (map row_id rs)) (λ x. accepted (statement_of p ns rs x))) (names_of s p) (rows_of s p) g)
+    tables-refused g = rw at_places (tables-stop (λ ns rs. then' (read_clauses (words s) p) (λ x. accepted (statement_of p ns rs x))) (names_of s p) (rows_of s p) g)
 
-    module _ (h : InPlaces s p) (t : accepted tt ≡ judged (tables_of s p)) where
-      pub rows_fit : p.rows + p.bindings * 5 ≤ p.head
-      rows_fit =
-          let r = tables-read (sym t) in
-          let l = (rows-sized _ _ _ _ r.rowed).1 in
-          omega (arith, l, length-drop p.rows (take p.head (words s)), length-take p.head (words s), length-words s)
-
+    module _ (t : accepted tt ≡ judged (tables_of s p)) where
       tables : TablesRead s p
       tables = tables-read (sym t)
 
       sections-read : read_sheet s ≡ then' (clauses_of s p) (λ x. accepted (statement_of p tables.names tables.rows x))
       unfolding read_sections
-      sections-read =
-          let r = tables in
-          let ids = (rows-sized _ _ _ _ r.rowed).0 ∙ ids-take p.bindings p.rows p.head (words s) rows_fit (omega (arith, length-words s)) in
-          at_places ∙ rw (r.named, r.rowed, ids)
+      sections-read = at_places ∙ rw (tables.named, tables.rowed)
 
       pub clauses-refused : {c : ℕ} → refused c ≡ judged (clauses_of s p) → refused c ≡ opened_as s
       clauses-refused g = rw sections-read (clauses-stop (statement_of p tables.names tables.rows) (clauses_of s p) g)

@@ -125,7 +125,6 @@ written-sheet s st e =
         once = a.2.once;
         head = rw n.2 a.1.head_well;
         arms = rw n.2 a.1.arms_well;
-        bound = a.3.bound;
         span = rw (a.3.start, a.3.stop) a.4.1.span;
         size = rw (← same) (omega (arith, length-words s, a.4.0.whole, a.4.0.most));
       },

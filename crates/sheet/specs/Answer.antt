@@ -1,14 +1,10 @@
 -- The answers of the public calls, by document 01's numbers.
-use Rattle.std.specs.Prelude.{ℕ, ◌+◌, ◌*◌, ◌/◌, ◌≤◌, ◌≡◌, Bool, true, false, not, List, [], map, ltb, length, take, get_or, Option, Result, Ok, Err}
+use Rattle.std.specs.Prelude.{ℕ, ◌+◌, ◌*◌, ◌/◌, ◌≤◌, ◌≡◌, Bool, true, false, not, List, [], map, ltb, length, take, get_or, Result, Ok, Err}
 use denote.Ref.{Bor}
 use Rattle.words.specs.Words.{words}
 use Rattle.words.specs.Fnv.{use_id}
 use Rattle.heads.specs.Got.{Got, many}
-use Rattle.heads.specs.Head.{Tables}
-use Rattle.heads.specs.Answer.{tables}
 use Rattle.heads.specs.declared.Section.{Section}
-use Rattle.clauses.specs.Tree.{Arm}
-use Rattle.clauses.specs.Read.{read_clause, read_arm}
 use Rattle.tables.specs.Answer.{names_in}
 use Rattle.tables.specs.Name.{name_at, places_from}
 use Rattle.tables.specs.Row.{Row, read_row}
@@ -98,25 +94,15 @@ pub record Settled (s : List ℕ) (p : Places) (tab ids : List ℕ) (r : Result 
 abbrev pub reached : ℕ → ℕ → Sheet (Unit {0})
 reached at end = unless 5 (not (ltb at end)) (accepted tt)
 
--- the tables of a section that ends at the word `to`: binders are sought among so many bindings, or not at all
-abbrev pub tables_to : List ℕ → Places → Option ℕ → ℕ → Tables
-tables_to s p bound to = tables (take to (words s)) p.names p.rows bound
-
--- a section that has the words of a sheet before `to`, with those tables
-pub record Part (s : List ℕ) (p : Places) (to : ℕ) (bound : Option ℕ) (x : Section) : Type 0 where
+-- a section that has the words of a sheet before `to`
+pub record Part (s : List ℕ) (p : Places) (to : ℕ) (x : Section) : Type 0 where
   pub bytes : x.bytes.now ≡ take (to * 4) s
   pub names : x.names ≡ p.names
   pub rows : x.rows ≡ p.rows
-  pub among : x.bound ≡ bound
 
 -- n of a kind in the section between two words
-abbrev pub section_of : {A : Type 0} → (Tables → List ℕ → Got A) → List ℕ → Places → Option ℕ → ℕ → ℕ → ℕ → Sheet (List A)
-section_of one s p bound n from to = used_up (many (one (tables_to s p bound to)) n (section (words s) from to))
-
--- the head, then the arms
-abbrev pub sections_of : List ℕ → Places → Option ℕ → Sheet (List Arm)
-sections_of s p bound =
-    then' (section_of read_clause s p bound p.clauses p.head p.tail) (λ head. section_of read_arm s p bound p.arms p.tail p.trailer)
+abbrev pub section_of : {A : Type 0} → (ℕ → List ℕ → Got A) → List ℕ → Places → ℕ → ℕ → ℕ → Sheet (List A)
+section_of one s p n from to = used_up (many (one p.names) n (section (words s) from to))
 
 -- a name found: the byte where its length stands, and the end of the names section; an index past the table is cause 5
 abbrev pub found_as : Sheet (List (List ℕ)) → (end i : ℕ) → Sheet (ℕ × ℕ)

@@ -1,14 +1,11 @@
 -- A sheet read: the statement that its bytes hold, or the refusal of document 01's table that comes first.
 use Rattle.std.specs.Prelude.{ℕ, ◌*◌, Bool, true, false, ltb, take, get_or}
-use mathlib.Core.List.{List, [], ◌∷◌, ◌++◌, map, flat_map}
+use mathlib.Core.List.{List, [], ◌∷◌, map}
 use Rattle.words.specs.Words.{words}
 use Rattle.heads.specs.Got.{Got, ok, no, many}
-use Rattle.heads.specs.Head.{Tables}
 use Rattle.heads.specs.Answer.{is_in}
-use Rattle.expr.specs.Binders.{all_known}
 use Rattle.clauses.specs.Tree.{Clause, Arm}
 use Rattle.clauses.specs.Read.{read_clause, read_arm}
-use Rattle.clauses.specs.Binders.{binders_c, binders_a}
 use Rattle.tables.specs.Distinct.{name_in, distinct}
 use Rattle.tables.specs.Name.{read_name}
 use Rattle.tables.specs.Row.{Row, row_id, read_row}
@@ -49,27 +46,22 @@ read_names n s = then' (entire 3 (many read_name n s)) (λ ns. unless 3 (distinc
 unfoldable pub read_rows : ℕ → ℕ → List ℕ → Sheet (List Row)
 read_rows names n ws = then' (entire 4 (many (read_row names) n ws)) (λ rs. unless 4 (distinct is_in (map row_id rs)) (accepted rs))
 
--- while 5 and 6 are looked for, every variable may be bound
-abbrev pub any_binder : ℕ → Tables
-any_binder names = record { names = names; known = λ v. true }
-
--- causes 5 and 6 in head and arms; then cause 7, "a node, relationship, path or Unwind variable anywhere without a binding"
-unfoldable pub read_clauses : List ℕ → Places → List ℕ → Sheet (List Clause × List Arm)
-read_clauses ws p ids =
-    then' (used_up (many (read_clause (any_binder p.names)) p.clauses (section ws p.head p.tail)))
-    (λ head. then' (used_up (many (read_arm (any_binder p.names)) p.arms (section ws p.tail p.trailer)))
-    (λ arms. unless 7 (all_known (λ v. is_in v ids) (flat_map binders_c head ++ flat_map binders_a arms)) (accepted (head, arms))))
+-- causes 5 and 6 in head and arms
+unfoldable pub read_clauses : List ℕ → Places → Sheet (List Clause × List Arm)
+read_clauses ws p =
+    then' (used_up (many (read_clause p.names) p.clauses (section ws p.head p.tail)))
+    (λ head. then' (used_up (many (read_arm p.names) p.arms (section ws p.tail p.trailer))) (λ arms. accepted (head, arms)))
 
 -- causes 1 and 2
 unfoldable pub locate : List ℕ → Sheet Places
 locate s = unless 1 (sized s) (unless 2 (in_place (words s)) (accepted (places_of (words s))))
 
--- causes 3 to 7, the sections in order
+-- causes 3 to 6, the sections in order
 unfoldable pub read_sections : List ℕ → List ℕ → Places → Sheet Statement
 read_sections s ws p =
     then' (read_names p.names (take (p.rows * 4) s))
     (λ names. then' (read_rows p.names p.bindings (section ws p.rows p.head))
-    (λ rs. then' (read_clauses ws p (map row_id rs))
+    (λ rs. then' (read_clauses ws p)
     (λ x. accepted (record { names = names; bindings = rs; head = x.0; arms = x.1; start = p.start; stop = p.end }))))
 
 unfoldable pub read_sheet : List ℕ → Sheet Statement

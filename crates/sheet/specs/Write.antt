@@ -4,16 +4,13 @@ use mathlib.Core.List.{List, [], ◌∷◌, ◌++◌, map, flat_map}
 use Rattle.words.specs.Utf8.{is_utf8}
 use Rattle.heads.specs.Answer.{is_in}
 use Rattle.expr.specs.Well.{IsWord, IsSpan}
-use Rattle.expr.specs.Binders.{all_known}
 use Rattle.clauses.specs.Write.{write_clause, write_arm}
 use Rattle.clauses.specs.Well.{Each, WellClause, WellArm}
-use Rattle.clauses.specs.Binders.{binders_c, binders_a}
 use Rattle.tables.specs.Distinct.{name_in, distinct}
 use Rattle.tables.specs.Name.{max_name, name_words}
 use Rattle.tables.specs.Row.{Row, row, row_id, row_words}
 use Rattle.sheet.specs.Trailer.{max_bytes}
 use Rattle.sheet.specs.Statement.{Statement}
-use Rattle.sheet.specs.Read.{any_binder}
 
 -- the bytes of words, the lowest first
 unfoldable pub bytes_of : List ℕ → List ℕ
@@ -63,14 +60,13 @@ WellName text = (length text ≤ max_name) × (is_utf8 text ≡ true)
 unfoldable pub WellRow : ℕ → Row → Type 0
 WellRow names (row i x k a b) = IsWord i × (x < names) × ((1 ≤ k) × (k ≤ 4)) × IsSpan a b
 
--- each name, binding, clause and arm is one that words give, none stands twice, every binder has a binding, and the whole fits a sheet
+-- each name, binding, clause and arm is one that words give, none stands twice, and the whole fits a sheet
 pub record WellStatement (st : Statement) : Type 0 where
   pub names : Each WellName st.names
   pub apart : distinct name_in st.names ≡ true
   pub bindings : Each (WellRow (length st.names)) st.bindings
   pub once : distinct is_in (map row_id st.bindings) ≡ true
-  pub head : Each (WellClause (any_binder (length st.names))) st.head
-  pub arms : Each (WellArm (any_binder (length st.names))) st.arms
-  pub bound : all_known (λ v. is_in v (map row_id st.bindings)) (flat_map binders_c st.head ++ flat_map binders_a st.arms) ≡ true
+  pub head : Each (WellClause (length st.names)) st.head
+  pub arms : Each (WellArm (length st.names)) st.arms
   pub span : st.start ≤ st.stop
   pub size : length (sheet_words st) * 4 ≤ max_bytes

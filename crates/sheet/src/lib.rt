@@ -1,4 +1,4 @@
-// A sheet read in place: accepted, with where its sections stand, or refused by one of the causes 1 to 7; and the text of a name.
+// A sheet read in place: accepted, with where its sections stand, or refused by one of the causes 1 to 6; and the text of a name.
 #![tactic(auto)]
 
 mod names;
@@ -11,7 +11,7 @@ ghost use Rattle.sheet.specs.Answer.{sheet_of, opened_as, Names};
 
 pub use names::{are_names, check_name, find_name, name_text, text_at};
 use refusal::Refusal;
-pub use sections::{check_both, check_end, read_bindings};
+pub use sections::{check_end, read_bindings};
 use sections::{check_clauses, check_tables};
 use trailer::MAX_BYTES;
 pub use trailer::{Places, find_places};

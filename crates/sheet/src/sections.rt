@@ -1,10 +1,9 @@
-// The sections: names, bindings, head and arms. Causes 3 to 7.
+// The sections: names, bindings, head and arms. Causes 3 to 6.
 ghost use Rattle.std.specs.Prelude.{◌≡◌, ℕ, ◌+◌, ◌*◌, ◌≤◌, length, drop};
 ghost use Rattle.words.specs.Words.{words};
-ghost use Rattle.heads.specs.Answer.{words_of, row_ids};
 ghost use Rattle.tables.specs.Answer.{Roomy};
 ghost use Rattle.sheet.specs.Read.{read_clauses};
-ghost use Rattle.sheet.specs.Answer.{InPlaces, sheet_of, judged, bindings_of, rows_of, reached, Settled, section_of, sections_of};
+ghost use Rattle.sheet.specs.Answer.{InPlaces, sheet_of, judged, bindings_of, rows_of, reached, Settled, section_of};
 
 use crate::names::are_names;
 use crate::trailer::Places;
@@ -19,7 +18,7 @@ pub fn read_bindings(s: &[u8], p: Places) -> Result<(), Refusal>
     requires { InPlaces s.now p }
     ensures { sheet_of result ≡ judged (bindings_of s.now p) }
 {
-    let section = p.section(s, p.head, None);
+    let section = p.section(s, p.head);
     if read_many::<Row>(&section, p.rows, p.bindings) == Ok(p.head) {
         return Ok(());
     }
@@ -32,7 +31,7 @@ fn check_rows(s: &[u8], p: Places) -> Result<(), Refusal>
     ensures { sheet_of result ≡ judged (rows_of s.now p) }
 {
     read_bindings(s, p)?;
-    let section = p.section(s, p.head, None);
+    let section = p.section(s, p.head);
     if distinct_ids(&section, p.bindings as usize) {
         return Ok(());
     }
@@ -60,41 +59,27 @@ pub fn check_end(at: usize, end: usize) -> Result<(), Refusal>
     Ok(())
 }
 
-// n items of a kind from one word up to another, and nothing else. Binders are sought among so many bindings, or not at all. Six parameters: its
-// two calls take the count and both ends from different fields of Places.
+// n items of a kind from one word up to another, and nothing else.
 fn check_section<I: Item>(
     s: &[u8],
     p: Places,
-    bound: Option<usize>,
     n: u32,
     from: usize,
     to: usize,
 ) -> Result<(), Refusal>
     requires { (from ≤ to) × (to * 4 ≤ length s.now) }
-    ensures { sheet_of result ≡ judged (section_of I.one s.now p bound n from to) }
+    ensures { sheet_of result ≡ judged (section_of I.one s.now p n from to) }
 {
-    let section = p.section(s, to, bound);
+    let section = p.section(s, to);
     let at = read_many::<I>(&section, from, n)?;
     check_end(at, count(section.bytes))
 }
 
-// The head, then the arms. Binders are sought among so many bindings, or not at all.
-pub fn check_both(s: &[u8], p: Places, bound: Option<usize>) -> Result<(), Refusal>
-    requires { InPlaces s.now p }
-    ensures { sheet_of result ≡ judged (sections_of s.now p bound) }
-{
-    check_section::<Clause>(s, p, bound, p.clauses, p.head, p.tail)?;
-    check_section::<Arm>(s, p, bound, p.arms, p.tail, p.trailer)
-}
-
-// Reads with binders looked up; only where one has no binding, reads again without, since 5 and 6 anywhere come before 7.
+// The head, then the arms.
 pub fn check_clauses(s: &[u8], p: Places) -> Result<(), Refusal>
-    requires { InPlaces s.now p × (p.rows + p.bindings * 5 ≤ p.head) }
-    ensures { sheet_of result ≡ judged (read_clauses (words s.now) p (row_ids p.bindings (drop p.rows (words s.now)))) }
+    requires { InPlaces s.now p }
+    ensures { sheet_of result ≡ judged (read_clauses (words s.now) p) }
 {
-    let strict = check_both(s, p, Some(p.bindings as usize));
-    if strict == Err(Refusal::Unbound) {
-        check_both(s, p, None)?;
-    }
-    strict
+    check_section::<Clause>(s, p, p.clauses, p.head, p.tail)?;
+    check_section::<Arm>(s, p, p.arms, p.tail, p.trailer)
 }

@@ -27,16 +27,15 @@ pub struct Places {
 }
 
 impl Places {
-    // The words of a sheet before `to`, where binders are sought among so many bindings, or not at all.
-    pub fn section<'a>(self, s: &'a [u8], to: usize, bound: Option<usize>) -> Section<'a>
+    // The words of a sheet before `to`.
+    pub fn section<'a>(self, s: &'a [u8], to: usize) -> Section<'a>
         requires { to * 4 ≤ length s.now }
-        ensures { Part s.now self to bound result }
+        ensures { Part s.now self to result }
     {
         Section {
             bytes: &s[..to * 4],
             names: self.names,
             rows: self.rows,
-            bound,
         }
     }
 }

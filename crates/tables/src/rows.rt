@@ -17,7 +17,7 @@ pub struct Row;
 impl Item for Row {
     ghost Tree = { tree.Row };
 
-    ghost one = { λ tables. read_row tables.names };
+    ghost one = { read_row };
 
     #[tactic(auto, using(heads::proofs::Reading::steps), unfolding(crate::specs::Row::read_row))]
     fn read(section: &Section, at: usize) -> Result<usize, Refusal> {

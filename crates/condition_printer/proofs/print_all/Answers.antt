@@ -1,6 +1,5 @@
 -- The head's lines, and the arms' after them, each within its part of the sheet; 15 bytes a word are room enough (`Laid`).
 use Rattle.std.proofs.Common.{◌∙◌, arith}
-use Prim.Native.Nat.{◌*◌}
 use Rattle.condition_printer.proofs.Laid.{laid, head-ready, arms-ready, all-put}
 use Rattle.condition_printer.proofs.print_all.Goals as goal
 

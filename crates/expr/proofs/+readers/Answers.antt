@@ -1,5 +1,5 @@
 use Rattle.std.proofs.Common.{rules, arith, ◌≡◌, ◌-◌, suc}
-use Rattle.heads.proofs.Reading.{refused, past, failed, beyond, stopped, ended, chosen, otherwise}
+use Rattle.heads.proofs.Reading.{refused, past, failed, beyond, stopped, ended}
 use Rattle.heads.proofs.Rows.{row_begun, row_next, row_stop, row_done}
 use Rattle.expr.specs.Read.{read_expr, after_form}
 use Rattle.expr.proofs.Rows.{mark_none, mark_then, kids_refused, items_read}
@@ -13,13 +13,13 @@ pub read_expr-returns-in_err-form : goal.read_expr-returns-in_err-form
 unfolding read_expr after_form
 read_expr-returns-in_err-form t c =
     let e : c.args.room ≡ suc (c.args.room - 1) = omega arith in
-    rw e (search (rules, past, failed, beyond, stopped, ended, chosen, otherwise))
+    rw e (search (rules, past, failed, beyond, stopped, ended))
 
 pub read_expr-returns-in_err-at : goal.read_expr-returns-in_err-at
 unfolding read_expr after_form
 read_expr-returns-in_err-at t c =
     let e : c.args.room ≡ suc (c.args.room - 1) = omega arith in
-    rw e (search (rules, past, failed, beyond, stopped, ended, chosen, otherwise))
+    rw e (search (rules, past, failed, beyond, stopped, ended))
 
 pub read_expr-returns-in_err-at-2 : goal.read_expr-returns-in_err-at-2
 read_expr-returns-in_err-at-2 t c = refused _ _ c.from_residual-in_err-at-2.ensures (kids_refused _ c.args.room (c.args.room - 1) (omega arith) c.in_ok-form.ensures.takes (rw c.has_pattern.ensures at c.in_ok-at.ensures) (rw c.kids.ensures at c.in_err-at-2.ensures))

@@ -1,5 +1,5 @@
 use Rattle.std.proofs.Common.{◌*◌, ◌-◌, ◌+◌, length}
-use Rattle.heads.specs.Answer.{words_of, tables_of, kind_of}
+use Rattle.heads.specs.Answer.{words_of, kind_of}
 use Rattle.heads.proofs.Rows.{Row}
 use Rattle.expr.specs.Read.{reader_of}
 use Rattle.expr.proofs.Rows.{elem_rows, kid_rows, mark_rows, part_rows}
@@ -37,7 +37,7 @@ abbrev pub invariant-read_marks-loop : goal.invariant-read_marks-loop
 invariant-read_marks-loop l = Row (mark_rows (kind_of l.kind) (reader_of l.section l.room)) (words_of l.section) l.at l.n l.counter l.p
 
 abbrev pub invariant-read_parts-loop : goal.invariant-read_parts-loop
-invariant-read_parts-loop l = Row (part_rows (tables_of l.section) (reader_of l.section l.room)) (words_of l.section) l.at l.n l.counter l.p
+invariant-read_parts-loop l = Row (part_rows (reader_of l.section l.room)) (words_of l.section) l.at l.n l.counter l.p
 
 abbrev pub invariant-read_elems-loop : goal.invariant-read_elems-loop
-invariant-read_elems-loop l = Row (elem_rows (tables_of l.section) (reader_of l.section l.room)) (words_of l.section) l.at l.n l.counter l.p
+invariant-read_elems-loop l = Row (elem_rows (reader_of l.section l.room)) (words_of l.section) l.at l.n l.counter l.p

@@ -3,12 +3,12 @@
 -- has parts.
 use Prim.Native.Nat.{◌+◌, ◌*◌, ◌-◌}
 use lib.ListN.{length}
-use Rattle.heads.specs.Answer.{words_of, tables_of}
+use Rattle.heads.specs.Answer.{words_of}
 use Rattle.flat.proofs.Skimmed.{Skimmed}
 use Rattle.flat.proofs.skim.Given as goal
 
 abbrev pub invariant-loop-left : goal.invariant-loop-left
-invariant-loop-left l = Skimmed (tables_of l.section) (words_of l.section) l.at l.room l.n l.p l.left l.d
+invariant-loop-left l = Skimmed l.section.names (words_of l.section) l.at l.room l.n l.p l.left l.d
 
 abbrev pub decreases-loop-left : goal.decreases-loop-left
 decreases-loop-left l = (length (words_of l.section) - l.p) * 17179869184 + l.left

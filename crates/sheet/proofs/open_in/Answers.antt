@@ -3,7 +3,7 @@
 use Rattle.std.proofs.Common.{refl, ◌∙◌, arith}
 use Rattle.sheet.proofs.Placing.{placed_at}
 use Rattle.sheet.proofs.Causes.{refusal_told}
-use Rattle.sheet.proofs.Whole.{places-refused, tables-refused, rows_fit, clauses-refused, whole-accepted, no_names, names-kept}
+use Rattle.sheet.proofs.Whole.{places-refused, tables-refused, clauses-refused, whole-accepted, no_names, names-kept}
 use Rattle.sheet.proofs.open_in.Goals as goal
 
 pub returns-in_err-p : goal.returns-in_err-p
@@ -25,15 +25,15 @@ returns-in_err-check_tables c =
 pub check_clauses-requires : goal.check_clauses-requires
 check_clauses-requires c =
     let placed = placed_at c.args.s.now c.in_ok-p.ensures in
-    (placed.1, rows_fit _ _ placed.0 placed.1 c.in_ok-check_tables.ensures.same)
+    placed.1
 
 pub returns-in_err-check_clauses : goal.returns-in_err-check_clauses
 returns-in_err-check_clauses c =
     let placed = placed_at c.args.s.now c.in_ok-p.ensures in
-    let e = clauses-refused _ _ placed.0 placed.1 c.in_ok-check_tables.ensures.same c.in_err-check_clauses.ensures in
+    let e = clauses-refused _ _ placed.0 c.in_ok-check_tables.ensures.same c.in_err-check_clauses.ensures in
     (refusal_told _ _ c.from_residual-in_err-check_clauses.ensures ∙ e, no_names _ _ _ e)
 
 pub returns : goal.returns
 returns c =
     let placed = placed_at c.args.s.now c.in_ok-p.ensures in
-    (whole-accepted _ _ placed.0 placed.1 c.in_ok-check_tables.ensures.same c.in_ok-check_clauses.ensures, names-kept _ _ _ _ placed.0 (c.in_ok-check_tables.ensures.names refl) _ refl)
+    (whole-accepted _ _ placed.0 c.in_ok-check_tables.ensures.same c.in_ok-check_clauses.ensures, names-kept _ _ _ _ placed.0 (c.in_ok-check_tables.ensures.names refl) _ refl)

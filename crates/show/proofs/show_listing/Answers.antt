@@ -5,7 +5,7 @@ use Rattle.std.specs.Io.KnownBytes.{Appends}
 use Rattle.words.specs.Decimal.{low_digits, width_within, width, decimal}
 use Rattle.refusal.specs.Number.{number_of}
 use Rattle.refusal.specs.declared.Refusal.{Refusal}
-use Rattle.refusal.specs.declared.Refusal.TheVariants.{Size, Places, Names, Bindings, Word, Depth, Unbound, Entries, Asked, Page, Room}
+use Rattle.refusal.specs.declared.Refusal.TheVariants.{Size, Places, Names, Bindings, Word, Depth, Entries, Asked, Page, Room}
 use Rattle.texts.specs.Bytes.{bytes}
 use Rattle.texts.proofs.Giving.{written-within}
 use Rattle.show.specs.Printed.{refusal_text, printed}
@@ -21,7 +21,6 @@ digits_same Names = refl
 digits_same Bindings = refl
 digits_same Word = refl
 digits_same Depth = refl
-digits_same Unbound = refl
 digits_same Entries = refl
 digits_same Asked = refl
 digits_same Page = refl

@@ -5,29 +5,29 @@ use Rattle.std.proofs.Math.Dec.{eqb}
 use Rattle.std.proofs.lemmas.Bool.Decides.{eqb_tells}
 use Rattle.condition_printer.specs.Page.{Placed}
 use Rattle.words.proofs.Words.{length-words}
-use Rattle.heads.specs.Answer.{words_of, tables_of}
+use Rattle.heads.specs.Answer.{words_of}
 use Rattle.condition_printer.proofs.Clauses.{projections-begin, projections-there, flag-inside, filter-stands, no-filter}
 use Rattle.condition_printer.proofs.lines.filter_of.Goals as goal
 
 pub overflow_add-at : goal.overflow_add-at
 overflow_add-at c =
     let a = c.args in
-    let begin = projections-begin (words_of a.section.now) (tables_of a.section.now) a.at c.requires.0 c.requires.1.0 in
+    let begin = projections-begin (words_of a.section.now) a.section.now.names a.at c.requires.0 c.requires.1.0 in
     omega (arith, begin, length-words a.section.now.bytes.now)
 
 pub counted-requires : goal.counted-requires
 counted-requires c =
-    let a = c.args in projections-begin (words_of a.section.now) (tables_of a.section.now) a.at c.requires.0 c.requires.1.0
+    let a = c.args in projections-begin (words_of a.section.now) a.section.now.names a.at c.requires.0 c.requires.1.0
 
 pub unwrap-q-requires : goal.unwrap-q-requires
 unwrap-q-requires c =
-    let a = c.args in projections-there (words_of a.section.now) (tables_of a.section.now) a.at c.requires.0 c.requires.1.0 _ c.counted.ensures
+    let a = c.args in projections-there (words_of a.section.now) a.section.now.names a.at c.requires.0 c.requires.1.0 _ c.counted.ensures
 
 pub overflow_add-q : goal.overflow_add-q
 overflow_add-q c =
     let a = c.args in
     let read = rw c.unwrap-q.ensures at c.counted.ensures in
-    let flag = flag-inside (words_of a.section.now) (tables_of a.section.now) a.at c.requires.0 c.requires.1.0 c.unwrap-q.result read.same in
+    let flag = flag-inside (words_of a.section.now) a.section.now.names a.at c.requires.0 c.requires.1.0 c.unwrap-q.result read.same in
     omega (arith, flag, length-words a.section.now.bytes.now)
 
 -- what holds for either value of the test holds for the answer
@@ -41,8 +41,8 @@ pub returns : goal.returns
 returns c =
     let a = c.args in
     let ws = words_of a.section.now in
-    let ts = tables_of a.section.now in
+    let names = a.section.now.names in
     let read = rw c.unwrap-q.ensures at c.counted.ensures in
-    rw c.then_some.ensures (told-by c.word.result c.unwrap-q.result (Placed ws ts a.at)
-    (λ e. filter-stands ws ts a.at c.requires.0 c.requires.1.0 c.unwrap-q.result read.same read.from (sym c.word.ensures ∙ e))
-    (λ n. no-filter ws ts a.at c.requires.0 c.requires.1.0 c.unwrap-q.result read.same (λ e. n (c.word.ensures ∙ e))))
+    rw c.then_some.ensures (told-by c.word.result c.unwrap-q.result (Placed ws names a.at)
+    (λ e. filter-stands ws names a.at c.requires.0 c.requires.1.0 c.unwrap-q.result read.same read.from (sym c.word.ensures ∙ e))
+    (λ n. no-filter ws names a.at c.requires.0 c.requires.1.0 c.unwrap-q.result read.same (λ e. n (c.word.ensures ∙ e))))

@@ -1,13 +1,12 @@
 -- One a turn (`Rows`).
 use native.Mathlib.Omega.{arith}
-use Rattle.heads.specs.Answer.{tables_of}
 use Rattle.condition_printer.proofs.RowKinds.{arms}
 use Rattle.condition_printer.proofs.Rows.{row-begins, row-ready, row-turns, row_put}
 use Rattle.condition_printer.proofs.lines.print_arms.Goals as goal
 
 pub loop-init : goal.loop-init
 loop-init c =
-    row-begins (arms (tables_of c.args.section.now)) c.args.page.now (omega arith) c.requires
+    row-begins (arms c.args.section.now.names) c.args.page.now (omega arith) c.requires
 
 pub print_arm-next-requires : goal.print_arm-next-requires
 print_arm-next-requires c =

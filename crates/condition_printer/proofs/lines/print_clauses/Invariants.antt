@@ -1,9 +1,9 @@
 -- One a turn (`Rows`).
 use Prim.Native.Nat.{◌-◌}
-use Rattle.heads.specs.Answer.{words_of, tables_of}
+use Rattle.heads.specs.Answer.{words_of}
 use Rattle.condition_printer.proofs.RowKinds.{clauses}
 use Rattle.condition_printer.proofs.Rows.{Row}
 use Rattle.condition_printer.proofs.lines.print_clauses.Given as goal
 
 abbrev pub invariant-loop : goal.invariant-loop
-invariant-loop l = Row (clauses (tables_of l.section)) (words_of l.section) l.at l.n l.initial.page l.next (l.n - l.counter) l.page
+invariant-loop l = Row (clauses l.section.names) (words_of l.section) l.at l.n l.initial.page l.next (l.n - l.counter) l.page

@@ -2,7 +2,7 @@
 -- ended, with 15 bytes of room for each word. The expression's length falls.
 use native.Mathlib.Omega.{arith}
 use mathlib.Core.Path.{refl, sym, ap, ◌∙◌}
-use Rattle.heads.specs.Answer.{words_of, tables_of}
+use Rattle.heads.specs.Answer.{words_of}
 use Rattle.heads.specs.Got.{is_ok}
 use Rattle.condition_text.proofs.Stages.{fits, piece, ready, part}
 use Rattle.condition_text.proofs.Operators.{task, bracket-short, binary-short, unary-short, operator, binary-begun, left-shorter, second, right-shorter, binary-put, prefix, unary-begun, operand-shorter, unary-put, atom-fits, atom-put}
@@ -10,13 +10,13 @@ use Rattle.condition_text.proofs.writing.+print.Goals as goal
 
 pub overflow_sub-room : goal.overflow_sub-room
 overflow_sub-room t c =
-    let two = let a = c.args in task (words_of a.section.now) (tables_of a.section.now) a.room a.at a.least a.page.now.end a.page.now.bytes.now c.requires in
+    let two = let a = c.args in task (words_of a.section.now) a.section.now.names a.room a.at a.least a.page.now.end a.page.now.bytes.now c.requires in
     let code = sym c.word.ensures ∙ c.in-15.is in
     (operator two code).deep
 
 pub print-middle-requires : goal.print-middle-requires
 print-middle-requires t c =
-    let two = let a = c.args in task (words_of a.section.now) (tables_of a.section.now) a.room a.at a.least a.page.now.end a.page.now.bytes.now c.requires in
+    let two = let a = c.args in task (words_of a.section.now) a.section.now.names a.room a.at a.least a.page.now.end a.page.now.bytes.now c.requires in
     let code = sym c.word.ensures ∙ c.in-15.is in
     let op = operator two code in
     let s1 = piece (binary-begun two code) 1 14 c.put_if.ensures.wrote (bracket-short _ _) (omega arith) in
@@ -24,7 +24,7 @@ print-middle-requires t c =
 
 pub put-requires : goal.put-requires
 put-requires t c =
-    let two = let a = c.args in task (words_of a.section.now) (tables_of a.section.now) a.room a.at a.least a.page.now.end a.page.now.bytes.now c.requires in
+    let two = let a = c.args in task (words_of a.section.now) a.section.now.names a.room a.at a.least a.page.now.end a.page.now.bytes.now c.requires in
     let code = sym c.word.ensures ∙ c.in-15.is in
     let op = operator two code in
     let s1 = piece (binary-begun two code) 1 14 c.put_if.ensures.wrote (bracket-short _ _) (omega arith) in
@@ -33,13 +33,13 @@ put-requires t c =
 
 pub overflow_sub-room-in-15 : goal.overflow_sub-room-in-15
 overflow_sub-room-in-15 t c =
-    let two = let a = c.args in task (words_of a.section.now) (tables_of a.section.now) a.room a.at a.least a.page.now.end a.page.now.bytes.now c.requires in
+    let two = let a = c.args in task (words_of a.section.now) a.section.now.names a.room a.at a.least a.page.now.end a.page.now.bytes.now c.requires in
     let code = sym c.word.ensures ∙ c.in-15.is in
     (operator two code).deep
 
 pub print-next-requires : goal.print-next-requires
 print-next-requires t c =
-    let two = let a = c.args in task (words_of a.section.now) (tables_of a.section.now) a.room a.at a.least a.page.now.end a.page.now.bytes.now c.requires in
+    let two = let a = c.args in task (words_of a.section.now) a.section.now.names a.room a.at a.least a.page.now.end a.page.now.bytes.now c.requires in
     let code = sym c.word.ensures ∙ c.in-15.is in
     let op = operator two code in
     let s1 = piece (binary-begun two code) 1 14 c.put_if.ensures.wrote (bracket-short _ _) (omega arith) in
@@ -50,7 +50,7 @@ print-next-requires t c =
 
 pub put_if-requires-in-15 : goal.put_if-requires-in-15
 put_if-requires-in-15 t c =
-    let two = let a = c.args in task (words_of a.section.now) (tables_of a.section.now) a.room a.at a.least a.page.now.end a.page.now.bytes.now c.requires in
+    let two = let a = c.args in task (words_of a.section.now) a.section.now.names a.room a.at a.least a.page.now.end a.page.now.bytes.now c.requires in
     let code = sym c.word.ensures ∙ c.in-15.is in
     let op = operator two code in
     let s1 = piece (binary-begun two code) 1 14 c.put_if.ensures.wrote (bracket-short _ _) (omega arith) in
@@ -62,7 +62,7 @@ put_if-requires-in-15 t c =
 
 pub returns-in-15 : goal.returns-in-15
 returns-in-15 t c =
-    let two = let a = c.args in task (words_of a.section.now) (tables_of a.section.now) a.room a.at a.least a.page.now.end a.page.now.bytes.now c.requires in
+    let two = let a = c.args in task (words_of a.section.now) a.section.now.names a.room a.at a.least a.page.now.end a.page.now.bytes.now c.requires in
     let code = sym c.word.ensures ∙ c.in-15.is in
     let op = operator two code in
     let s1 = piece (binary-begun two code) 1 14 c.put_if.ensures.wrote (bracket-short _ _) (omega arith) in
@@ -78,13 +78,13 @@ returns-in-15 t c =
 
 pub overflow_sub-room-in-16 : goal.overflow_sub-room-in-16
 overflow_sub-room-in-16 t c =
-    let two = let a = c.args in task (words_of a.section.now) (tables_of a.section.now) a.room a.at a.least a.page.now.end a.page.now.bytes.now c.requires in
+    let two = let a = c.args in task (words_of a.section.now) a.section.now.names a.room a.at a.least a.page.now.end a.page.now.bytes.now c.requires in
     let code = sym c.word.ensures ∙ c.in-16.is in
     (prefix two code).deep
 
 pub print-next-requires-in-16 : goal.print-next-requires-in-16
 print-next-requires-in-16 t c =
-    let two = let a = c.args in task (words_of a.section.now) (tables_of a.section.now) a.room a.at a.least a.page.now.end a.page.now.bytes.now c.requires in
+    let two = let a = c.args in task (words_of a.section.now) a.section.now.names a.room a.at a.least a.page.now.end a.page.now.bytes.now c.requires in
     let code = sym c.word.ensures ∙ c.in-16.is in
     let op = prefix two code in
     let u1 = piece (unary-begun two code) 1 14 c.put_if-in-16.ensures.wrote (bracket-short _ _) (omega arith) in
@@ -93,7 +93,7 @@ print-next-requires-in-16 t c =
 
 pub put_if-requires-in-16-2 : goal.put_if-requires-in-16-2
 put_if-requires-in-16-2 t c =
-    let two = let a = c.args in task (words_of a.section.now) (tables_of a.section.now) a.room a.at a.least a.page.now.end a.page.now.bytes.now c.requires in
+    let two = let a = c.args in task (words_of a.section.now) a.section.now.names a.room a.at a.least a.page.now.end a.page.now.bytes.now c.requires in
     let code = sym c.word.ensures ∙ c.in-16.is in
     let op = prefix two code in
     let u1 = piece (unary-begun two code) 1 14 c.put_if-in-16.ensures.wrote (bracket-short _ _) (omega arith) in
@@ -103,7 +103,7 @@ put_if-requires-in-16-2 t c =
 
 pub returns-in-16 : goal.returns-in-16
 returns-in-16 t c =
-    let two = let a = c.args in task (words_of a.section.now) (tables_of a.section.now) a.room a.at a.least a.page.now.end a.page.now.bytes.now c.requires in
+    let two = let a = c.args in task (words_of a.section.now) a.section.now.names a.room a.at a.least a.page.now.end a.page.now.bytes.now c.requires in
     let code = sym c.word.ensures ∙ c.in-16.is in
     let op = prefix two code in
     let u1 = piece (unary-begun two code) 1 14 c.put_if-in-16.ensures.wrote (bracket-short _ _) (omega arith) in
@@ -117,12 +117,12 @@ returns-in-16 t c =
 
 pub put_atom-requires : goal.put_atom-requires
 put_atom-requires t c =
-    let two = let a = c.args in task (words_of a.section.now) (tables_of a.section.now) a.room a.at a.least a.page.now.end a.page.now.bytes.now c.requires in
+    let two = let a = c.args in task (words_of a.section.now) a.section.now.names a.room a.at a.least a.page.now.end a.page.now.bytes.now c.requires in
     atom-fits two
 
 pub returns-in_default : goal.returns-in_default
 returns-in_default t c =
-    let two = let a = c.args in task (words_of a.section.now) (tables_of a.section.now) a.room a.at a.least a.page.now.end a.page.now.bytes.now c.requires in
+    let two = let a = c.args in task (words_of a.section.now) a.section.now.names a.room a.at a.least a.page.now.end a.page.now.bytes.now c.requires in
     record {
       put = atom-put two (λ e. omega (arith, e, c.word.ensures)) (λ e. omega (arith, e, c.word.ensures)) c.skip.ensures c.put_atom.ensures.wrote;
       lent = c.put_atom.ensures.lent;

@@ -1,22 +1,20 @@
--- Read strictly, and again only where that gives 7: each answer is the definition's, by how the two readings differ.
-use Rattle.std.proofs.Common.{◌≡◌, ◌∙◌, Err}
-use Rattle.refusal.specs.declared.Refusal.TheVariants.{Unbound}
-use Rattle.sheet.proofs.Causes.{clauses-both, both-first, both-again, both-unbound, is_unbound, not_unbound, refusal_told}
+-- The head's refusal is the whole's; where it is accepted, the arms decide.
+use Rattle.std.proofs.Common.{◌∙◌}
+use Rattle.clauses.specs.Read.{read_clause, read_arm}
+use Rattle.sheet.specs.Read.{read_clauses}
+use Rattle.sheet.specs.Answer.{section_of}
+use Rattle.sheet.proofs.Causes.{refusal_told, then-refused, then-accepted}
 use Rattle.sheet.proofs.sections.check_clauses.Goals as goal
 
-pub returns-else-eq : goal.returns-else-eq
-returns-else-eq c =
-    let two = clauses-both c.args.s.now c.args.p c.requires.0 c.requires.1 in
-    both-first two c.check_both-strict.ensures (not_unbound _ _ c.if-eq.ensures)
+pub returns-in_err-check_section : goal.returns-in_err-check_section
+unfolding read_clauses
+returns-in_err-check_section c =
+    let a = c.args in
+    refusal_told _ _ c.from_residual.ensures
+    ∙ then-refused (section_of read_arm a.s.now a.p a.p.arms a.p.tail a.p.trailer) (section_of read_clause a.s.now a.p a.p.clauses a.p.head a.p.tail) c.in_err-check_section.ensures
 
-pub returns-in_ok-check_both : goal.returns-in_ok-check_both
-returns-in_ok-check_both c =
-    let two = clauses-both c.args.s.now c.args.p c.requires.0 c.requires.1 in
-    let seven : c.check_both-strict.result ≡ Err Unbound = is_unbound _ _ c.if-eq.ensures in
-    rw seven (both-unbound two (rw seven at c.check_both-strict.ensures) c.in_ok-check_both.ensures)
-
-pub returns-in_err-check_both : goal.returns-in_err-check_both
-returns-in_err-check_both c =
-    let two = clauses-both c.args.s.now c.args.p c.requires.0 c.requires.1 in
-    let seven : c.check_both-strict.result ≡ Err Unbound = is_unbound _ _ c.if-eq.ensures in
-    refusal_told _ _ c.from_residual.ensures ∙ both-again two (rw seven at c.check_both-strict.ensures) c.in_err-check_both.ensures
+pub returns : goal.returns
+unfolding read_clauses
+returns c =
+    let a = c.args in
+    then-accepted (section_of read_arm a.s.now a.p a.p.arms a.p.tail a.p.trailer) (section_of read_clause a.s.now a.p a.p.clauses a.p.head a.p.tail) c.in_ok-check_section.ensures c.check_section-2.ensures

@@ -22,12 +22,12 @@ pub returns-then-distinct_ids : goal.returns-then-distinct_ids
 returns-then-distinct_ids c =
     let a = c.args in
     let fit = rows-fit _ _ c.requires c.in_ok-read_bindings.ensures in
-    let once = held c.section-section.ensures (λ ws names rows b. true ≡ distinct is_in (row_ids a.p.bindings (drop rows ws))) (sym c.if-distinct_ids.true ∙ c.distinct_ids.ensures) in
+    let once = held c.section-section.ensures (λ ws names rows. true ≡ distinct is_in (row_ids a.p.bindings (drop rows ws))) (sym c.if-distinct_ids.true ∙ c.distinct_ids.ensures) in
     rows-once _ _ c.requires c.in_ok-read_bindings.ensures {b = true} (once ∙ ap (distinct is_in) (ids-take a.p.bindings a.p.rows a.p.head (words a.s.now) fit (omega (arith, length-words a.s.now))))
 
 pub returns : goal.returns
 returns c =
     let a = c.args in
     let fit = rows-fit _ _ c.requires c.in_ok-read_bindings.ensures in
-    let once = held c.section-section.ensures (λ ws names rows b. false ≡ distinct is_in (row_ids a.p.bindings (drop rows ws))) (sym c.if-distinct_ids.false ∙ c.distinct_ids.ensures) in
+    let once = held c.section-section.ensures (λ ws names rows. false ≡ distinct is_in (row_ids a.p.bindings (drop rows ws))) (sym c.if-distinct_ids.false ∙ c.distinct_ids.ensures) in
     rows-once _ _ c.requires c.in_ok-read_bindings.ensures {b = false} (once ∙ ap (distinct is_in) (ids-take a.p.bindings a.p.rows a.p.head (words a.s.now) fit (omega (arith, length-words a.s.now))))

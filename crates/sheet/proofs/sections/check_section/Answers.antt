@@ -13,7 +13,7 @@ read_many-requires g c =
     omega (arith, ap length (part-words c.section-section.ensures), length-take a.to (words a.s.now), length-words a.s.now)
 
 pub returns-in_err-at : goal.returns-in_err-at
-returns-in_err-at g c = part_refused g.I.Item.one _ _ _ _ _ _ c.section-section.ensures _ _ c.in_err-at.ensures c.from_residual.ensures
+returns-in_err-at g c = part_refused g.I.Item.one _ _ _ _ _ c.section-section.ensures _ _ c.in_err-at.ensures c.from_residual.ensures
 
 pub returns : goal.returns
-returns g c = part_read g.I.Item.one _ _ _ _ _ _ c.section-section.ensures c.check_end.result c.in_ok-at.ensures c.count.ensures c.check_end.ensures
+returns g c = part_read g.I.Item.one _ _ _ _ _ c.section-section.ensures c.check_end.result c.in_ok-at.ensures c.count.ensures c.check_end.ensures

@@ -18,11 +18,11 @@ read_many-requires c =
 pub returns-then-eq : goal.returns-then-eq
 returns-then-eq c =
     let a = c.args in
-    let x = held c.section-section.ensures (λ ws names rows b. Reads ws a.p.rows (many (read_row names) a.p.bindings) c.read_many.result) c.read_many.ensures in
+    let x = held c.section-section.ensures (λ ws names rows. Reads ws a.p.rows (many (read_row names) a.p.bindings) c.read_many.result) c.read_many.ensures in
     rw c.if-eq.true at (read_to 4 (many (read_row a.p.names) a.p.bindings) _ c.read_many.result x (omega (arith, length-take a.p.head (words a.s.now), length-words a.s.now)) c.eq.ensures)
 
 pub returns : goal.returns
 returns c =
     let a = c.args in
-    let x = held c.section-section.ensures (λ ws names rows b. Reads ws a.p.rows (many (read_row names) a.p.bindings) c.read_many.result) c.read_many.ensures in
+    let x = held c.section-section.ensures (λ ws names rows. Reads ws a.p.rows (many (read_row names) a.p.bindings) c.read_many.result) c.read_many.ensures in
     rw c.if-eq.false at (read_to 4 (many (read_row a.p.names) a.p.bindings) _ c.read_many.result x (omega (arith, length-take a.p.head (words a.s.now), length-words a.s.now)) c.eq.ensures)
