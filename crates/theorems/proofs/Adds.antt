@@ -6,7 +6,7 @@ use Prim.Native.Nat.{ℕ}
 use mathlib.Core.Path.{◌≡◌, refl, ◌∙◌, ap}
 use mathlib.Core.Bool.{Bool, true, false}
 use mathlib.Core.List.{List, [], ◌∷◌, ◌++◌}
-use Rattle.scope.specs.Graph.{comprehension_scope, return_scope}
+use Rattle.scope.specs.Graph.{comprehension_scope, return_scope, Name, indexed}
 use Rattle.expr.specs.Tree.{Expr, var, unresolved, node, predicate, comprehension, Exprs, done, more, mark, Steps, end, part, elem}
 use Rattle.clauses.specs.Tree.{Yield, yield, Clause, opening, reading, with', return, unwind, call, Arm, arm, exprs, keys_of}
 use Rattle.tables.specs.Row.{Row, row}
@@ -44,7 +44,7 @@ module _ (w : World) (l : List Event) where
   path-after None s = refl
   path-after (Some v) s = say-after _ _ _
 
-  new-after : (o : Option Hit) (x v k : ℕ) (s : State) → bind_new w o x v k (after l s) ≡ after l (bind_new w o x v k s)
+  new-after : (o : Option Hit) (x : Name) (v k : ℕ) (s : State) → bind_new w o x v k (after l s) ≡ after l (bind_new w o x v k s)
   unfolding bind_new
   new-after None x v k s = refl
   new-after (Some u) x v k s = refl
@@ -59,7 +59,7 @@ module _ (w : World) (l : List Event) where
 
     pub resolve-after : (t : Expr) (s : State) → resolve w t (after l s) ≡ after l (resolve w t s)
     resolve-after (var v) s = var-after v (w.row v) s
-    resolve-after (unresolved x) s = visit-after (w.hushed x) x (lookup x s.visible) s
+    resolve-after (unresolved x) s = visit-after (w.hushed x) x (lookup (indexed x) s.visible) s
     resolve-after (node f es) s = resolves-after es s
     resolve-after (predicate p) s = refl
     resolve-after (comprehension a b p es) s = ap (leave s) (ap (resolves w es) (pattern-after p (enter comprehension_scope a b s)) ∙ resolves-after es _)

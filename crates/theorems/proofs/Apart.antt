@@ -12,6 +12,8 @@ use Rattle.words.specs.Fnv.{use_id}
 use Rattle.scope.specs.Graph.{Scope, scope, Entry, entry}
 use Rattle.expr.specs.Erase.{erases}
 use Rattle.clauses.specs.Tree.{keys_of}
+use Rattle.tables.specs.Index.{index_of}
+use Rattle.tables.specs.VarName.{var_name}
 use Rattle.sheet.specs.Statement.{Statement}
 use Rattle.clauses.specs.Erase.{erase_c, erase_a}
 use Rattle.semantics.specs.Log.{Answer, Bound, Write, write, Event, open', bind, carry, answer, find, scope_of, bind_of, answer_of, find_of, scopes_in, binds_in, answers_in, finds_in, opened, logs}
@@ -223,7 +225,7 @@ module _ (warns : Bool) (s : Statement) (p : Site) (q : Stands s p) where
 world-eq : (warns : Bool) (s₁ s₂ : Statement) → s₁.names ≡ s₂.names → s₁.bindings ≡ s₂.bindings → world_of warns s₁ ≡ world_of warns s₂
 unfolding world_of bytes_of
 world-eq warns s₁ s₂ p q =
-    λ i. record { id = λ x. use_id (get_or (p i) x []); is_star = λ x. star_name (get_or (p i) x []); is_id = λ x. id_name (get_or (p i) x []); hushed = λ x. false; row = λ v. row_of v (q i); warns = warns }
+    λ i. record { id = λ x. use_id (get_or (p i) x []); is_star = λ x. star_name (get_or (p i) x []); is_id = λ x. id_name (get_or (p i) x []); hushed = λ x. false; row = λ v. row_of v (q i); named = λ v. index_of (var_name v) (p i); warns = warns }
 
 module _ (warns : Bool) (s₁ s₂ : Statement) where
   module _ (p₁ p₂ : Site) (h : Agree warns s₁ s₂ p₁ p₂) where

@@ -5,6 +5,7 @@ use mathlib.Core.Path.{◌≡◌, refl, ◌∙◌, ap₂}
 use mathlib.Core.Bool.{Bool, true, false, cond, ◌&&◌}
 use mathlib.Core.List.{List, [], ◌∷◌, ◌++◌, map, map-append}
 use lib.Dec.{eqb, leb}
+use Rattle.scope.specs.Graph.{Name}
 use Rattle.expr.specs.Tree.{Expr, var, unresolved, node, predicate, comprehension, Exprs, done, more, mark, Steps, end, part, elem}
 use Rattle.clauses.specs.Tree.{Clause, opening, reading, with', return, unwind, call, exprs, keys_of}
 use Rattle.tables.specs.Row.{value_kind, path_kind, Row, row}
@@ -23,7 +24,7 @@ pub record Bare (l k : List Finding) : Type 0 where
 bare-nil : Bare [] []
 bare-nil = record { same = refl }
 
-bare-one : {c a b x o t : ℕ} → Bare (finding c a b x o t ∷ []) (finding c 0 0 x o t ∷ [])
+bare-one : {c a b : ℕ} {x : Option Name} {o t : ℕ} → Bare (finding c a b x o t ∷ []) (finding c 0 0 x o t ∷ [])
 bare-one = record { same = unfold blank_finding in refl }
 
 bare-join : {a a' b b' : List Finding} → Bare a a' → Bare b b' → Bare (a ++ b) (a' ++ b')

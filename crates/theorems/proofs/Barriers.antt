@@ -8,7 +8,7 @@ use mathlib.Core.Path.{◌≡◌, refl, ◌∙◌, ap}
 use mathlib.Core.Bool.{Bool, true, false, cond, ◌&&◌, ◌||◌}
 use mathlib.Core.List.{List, [], ◌∷◌, ◌++◌, map, reverse, reverse-cons, append_assoc}
 use lib.Dec.{eqb, ltb, lt→ltb}
-use Rattle.scope.specs.Graph.{with_barrier, Scope, scope, Carried, carried}
+use Rattle.scope.specs.Graph.{with_barrier, Scope, scope, Carried, carried, Name, same_name}
 use Rattle.scope.specs.Lookup.{carries}
 use Rattle.scope.specs.Lookup.{Looked, nothing, answer_at}
 use Rattle.clauses.specs.Tree.{exprs}
@@ -26,16 +26,17 @@ use Rattle.theorems.proofs.Looks.{newest, look-stays, look-open}
 use Rattle.theorems.proofs.Keeps.{all_keep}
 use Rattle.theorems.proofs.Shows.{named, Shows, shown, count, resolves-A, clauses-A, root-A, arm-A}
 use Rattle.theorems.proofs.Tests.{holds, eqb_same, eqb_comm}
+use Rattle.theorems.proofs.Names.{same_comm}
 
 no-binds : (b : ℕ) (cs : List Pair) → binds_in (map (carry_at b) cs) ≡ []
 unfolding logs
 no-binds b [] = refl
 no-binds b (pair x v ∷ cs) = no-binds b cs
 
-carries_own : (b : ℕ) (x : ℕ) (cs : List Pair) → carries (carries_in (map (carry_at b) cs)) b x ≡ named x cs
+carries_own : (b : ℕ) (x : Name) (cs : List Pair) → carries (carries_in (map (carry_at b) cs)) b x ≡ named x cs
 unfolding logs carries named
 carries_own b x [] = refl
-carries_own b x (pair y v ∷ cs) = rw (eqb_same b, eqb_comm y x, carries_own b x cs) refl
+carries_own b x (pair y v ∷ cs) = rw (eqb_same b, same_comm y x, carries_own b x cs) refl
 
 carried-in : (lo b : ℕ) (cs : List Pair) → lo < b → Within lo b (map (carry_at b) cs)
 unfolding inside
@@ -52,7 +53,7 @@ unfolding inside
 in-open s h = cons tt h
 
 -- at the barrier
-barrier-gives : (w : World) (a b : ℕ) (cs : List Pair) (x : ℕ) {t : State} → Shows [] [] t → look (reverse (barrier w a b cs t).log) (suc t.last) x ≡ cond (named x cs) (seen_as x t.visible) nothing
+barrier-gives : (w : World) (a b : ℕ) (cs : List Pair) (x : Name) {t : State} → Shows [] [] t → look (reverse (barrier w a b cs t).log) (suc t.last) x ≡ cond (named x cs) (seen_as x t.visible) nothing
 unfolding barrier newest named
 barrier-gives w a b cs x {t} h =
     let l = reverse t.log in
@@ -72,7 +73,7 @@ module _ (warns : Bool) (s : Statement) where
   before-A (in_head c) = clauses-A (world_of warns s) c.before (root-A warns s)
   before-A (in_arm e a b c l) = clauses-A (world_of warns s) c.before (arm-A warns s e)
 
-  at-barrier : (p : Site) (x : ℕ) → Stands s p → in_lists warns s (barrier_of warns s p) x ≡ cond (named x (pairs warns s p)) (seen_as x (before warns s p).visible) nothing
+  at-barrier : (p : Site) (x : Name) → Stands s p → in_lists warns s (barrier_of warns s p) x ≡ cond (named x (pairs warns s p)) (seen_as x (before warns s p).visible) nothing
   unfolding barrier_of at_barrier resolved pre_log
   at-barrier p x q =
       let w = world_of warns s in
@@ -85,15 +86,15 @@ module _ (warns : Bool) (s : Statement) where
       in-log = unfold in_lists look scopes bindings carried_list in refl
 
   -- The finished list has the names that the barrier carries.
-  named-listed : (b x : ℕ) (l : List Carried) → carries l b x ≡ named x (pairs_at b l)
+  named-listed : (b : ℕ) (x : Name) (l : List Carried) → carries l b x ≡ named x (pairs_at b l)
   unfolding carries named pairs_at
   named-listed b x [] = refl
-  named-listed b x (carried c y v ∷ l) = rw (eqb_comm c b, eqb_comm y x, named-listed b x l) (go (eqb b c))
+  named-listed b x (carried c y v ∷ l) = rw (eqb_comm c b, same_comm y x, named-listed b x l) (go (eqb b c))
     where
-      go : (t : Bool) → (t && eqb x y || named x (pairs_at b l)) ≡ named x (cond t (pair y v ∷ pairs_at b l) (pairs_at b l))
+      go : (t : Bool) → (t && same_name x y || named x (pairs_at b l)) ≡ named x (cond t (pair y v ∷ pairs_at b l) (pairs_at b l))
       go true = refl
       go false = refl
 
-  pub barriers : (p : Site) (x : ℕ) → Stands s p
+  pub barriers : (p : Site) (x : Name) → Stands s p
       → in_lists warns s (barrier_of warns s p) x ≡ cond (carries (carried_list warns s) (barrier_of warns s p) x) (seen_as x (before warns s p).visible) nothing
   barriers p x q = rw (named-listed (barrier_of warns s p) x (carried_list warns s), pairs-listed warns s p q) (at-barrier p x q)

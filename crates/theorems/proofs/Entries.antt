@@ -11,7 +11,7 @@ use mathlib.Core.Path.{◌≡◌, refl, sym, ◌∙◌, ap, ap₂, subst}
 use mathlib.Core.Bool.{Bool, true, false, cond, ◌&&◌}
 use mathlib.Core.List.{List, [], ◌∷◌, ◌++◌, map, append-nil, Memᴰ}
 use lib.Dec.{T, eqb, leb, ltb, eqb→eq, leb→le, le→leb, ltb→lt, lt→ltb}
-use Rattle.scope.specs.Graph.{carried, Entry, entry}
+use Rattle.scope.specs.Graph.{carried, Entry, entry, Name, same_name}
 use Rattle.semantics.specs.Log.{Answer, Bound, bound, Write, write, Event, open', bind, carry, answer, find, binds_in, logs}
 use Rattle.semantics.specs.Lists.{put, puts, note, notes, answer_for}
 use Rattle.theorems.proofs.Moved.{number_bound, up, eqb-up}
@@ -83,10 +83,10 @@ pub data Ranged (lo hi : ℕ) : List Entry → Type 0 where
   none' : Ranged lo hi []
   more' : {e : Entry} {es : List Entry} → scope_in lo hi e → Ranged lo hi es → Ranged lo hi (e ∷ es)
 
-put-ranged : {lo hi : ℕ} (s x v k : ℕ) {es : List Entry} → lo < s → s ≤ hi → Ranged lo hi es → Ranged lo hi (put (bound s x v k) es)
+put-ranged : {lo hi : ℕ} (s : ℕ) (x : Name) (v k : ℕ) {es : List Entry} → lo < s → s ≤ hi → Ranged lo hi es → Ranged lo hi (put (bound s x v k) es)
 unfolding put
 put-ranged s x v k a b none' = more' {e = entry s x v k None} (a, b) none'
-put-ranged {lo} {hi} s x v k a b (more' {e = entry t y u j r} {es = es} h p) = go (eqb s t && eqb x y) (put-ranged s x v k a b p)
+put-ranged {lo} {hi} s x v k a b (more' {e = entry t y u j r} {es = es} h p) = go (eqb s t && same_name x y) (put-ranged s x v k a b p)
   where
     go : (c : Bool) → Ranged lo hi (put (bound s x v k) es) → Ranged lo hi (cond c (entry s x v k (Some u) ∷ es) (entry t y u j r ∷ put (bound s x v k) es))
     go true q = more' {e = entry s x v k (Some u)} (a, b) p
@@ -95,7 +95,7 @@ put-ranged {lo} {hi} s x v k a b (more' {e = entry t y u j r} {es = es} h p) = g
 -- All bindings of a log lie where the log is within.
 pub data Inside (lo hi : ℕ) : List Bound → Type 0 where
   none'' : Inside lo hi []
-  more'' : {s x v k : ℕ} {bs : List Bound} → lo < s → s ≤ hi → Inside lo hi bs → Inside lo hi (bound s x v k ∷ bs)
+  more'' : {s : ℕ} {x : Name} {v k : ℕ} {bs : List Bound} → lo < s → s ≤ hi → Inside lo hi bs → Inside lo hi (bound s x v k ∷ bs)
 
 pub inside-binds : {lo hi : ℕ} {l : List Event} → Within lo hi l → Inside lo hi (binds_in l)
 unfolding logs inside
@@ -117,7 +117,7 @@ puts-append [] ys es = refl
 puts-append (x ∷ xs) ys es = puts-append xs ys (put x es)
 
 -- A binding above passes by the entries below.
-put-past : {lo mid : ℕ} (s x v k : ℕ) {us : List Entry} (es : List Entry) → mid < s → Ranged lo mid us → put (bound s x v k) (us ++ es) ≡ us ++ put (bound s x v k) es
+put-past : {lo mid : ℕ} (s : ℕ) (x : Name) (v k : ℕ) {us : List Entry} (es : List Entry) → mid < s → Ranged lo mid us → put (bound s x v k) (us ++ es) ≡ us ++ put (bound s x v k) es
 unfolding put
 put-past s x v k es a none' = refl
 put-past s x v k es a (more' {e = entry t y u j r} h p) = rw (ne→eqb s t (λ q. omega arith), put-past s x v k es a p) refl
@@ -221,7 +221,7 @@ module _ (r n : ℕ) {hi : ℕ} {os bs cs ds : List Bound} (a : Inside 0 r os) (
 put_up : (m : ℕ) (b : Bound) (es : List Entry) → put (number_bound (up m) b) (map (number_entry (up m)) es) ≡ map (number_entry (up m)) (put b es)
 unfolding put number_bound number_entry
 put_up m (bound s x v k) [] = refl
-put_up m (bound s x v k) (entry t y u j r ∷ es) = rw (eqb-up m s t) (go (eqb s t && eqb x y) (put_up m (bound s x v k) es))
+put_up m (bound s x v k) (entry t y u j r ∷ es) = rw (eqb-up m s t) (go (eqb s t && same_name x y) (put_up m (bound s x v k) es))
   where
     go : (c : Bool) → put (bound (up m s) x v k) (map (number_entry (up m)) es) ≡ map (number_entry (up m)) (put (bound s x v k) es)
         → cond c (entry (up m s) x v k (Some u) ∷ map (number_entry (up m)) es) (entry (up m t) y u j r ∷ put (bound (up m s) x v k) (map (number_entry (up m)) es))

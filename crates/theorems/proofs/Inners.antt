@@ -10,7 +10,7 @@ use mathlib.Core.Path.{◌≡◌, refl, sym, ◌∙◌, ap, ap₂}
 use mathlib.Core.Bool.{Bool, true, false, cond, ◌&&◌}
 use mathlib.Core.List.{List, [], ◌∷◌, ◌++◌, reverse, reverse-cons, reverse-append, append_assoc}
 use lib.Dec.{eqb, ltb, lt→ltb}
-use Rattle.scope.specs.Graph.{comprehension_scope, Scope, scope}
+use Rattle.scope.specs.Graph.{comprehension_scope, Scope, scope, Name, same_name}
 use Rattle.scope.specs.Lookup.{Looked, at, nothing, answer_at}
 use Rattle.expr.specs.Tree.{Exprs, Steps, end, part, elem}
 use Rattle.tables.specs.Row.{path_kind}
@@ -27,7 +27,8 @@ use Rattle.theorems.proofs.Within.{Within, nil, within-reverse, Well, enter-W, p
 use Rattle.theorems.proofs.Placed.{silent-W}
 use Rattle.theorems.proofs.Looks.{newest, newest-append, newest-out, over, under, look-open}
 use Rattle.theorems.proofs.Shows.{named, count, Shows}
-use Rattle.theorems.proofs.Tests.{holds, ne→eqb, eqb_same, eqb_comm}
+use Rattle.theorems.proofs.Tests.{holds, ne→eqb, eqb_same}
+use Rattle.theorems.proofs.Names.{same_comm}
 
 -- a scope's own binding as lookup gives it
 abbrev as_looked : ℕ → Option ℕ → Looked
@@ -39,7 +40,7 @@ looked-cond c v true o = refl
 looked-cond c v false o = refl
 
 -- what the log binds in the scope n
-abbrev binds_of : ℕ → ℕ → List Event → Option ℕ → Option ℕ
+abbrev binds_of : ℕ → Name → List Event → Option ℕ → Option ℕ
 binds_of n x l d = newest n x (binds_in (reverse l)) d
 
 -- scopes that may still be bound in
@@ -67,7 +68,7 @@ answer-parent s p (Some v) f h = refl
 answer-parent s p None f h = rw (holds (ltb p s) (lt→ltb p s h)) refl
 
 -- a run that binds only in scopes above
-above : (f : State → State) (s : State) {hi : ℕ} → f s ≡ after s.log (f (silent s)) → Within s.last hi (f (silent s)).log → (n : ℕ) (x : ℕ) (d : Option ℕ) → n ≤ s.last
+above : (f : State → State) (s : State) {hi : ℕ} → f s ≡ after s.log (f (silent s)) → Within s.last hi (f (silent s)).log → (n : ℕ) (x : Name) (d : Option ℕ) → n ≤ s.last
     → binds_of n x (f s).log d ≡ binds_of n x s.log d
 above f s e p n x d h =
     let m = (f (silent s)).log in
@@ -75,45 +76,45 @@ above f s e p n x d h =
     ∙ rw (binds-append (reverse s.log) (reverse m), newest-append) (newest-out (under h) (within-reverse p nil) x _)
 
 -- one event that binds nothing; one binding
-quiet-find : (n : ℕ) (x : ℕ) (d : Option ℕ) (b : Bool) (f : Finding) (s : State) → binds_of n x (say_if b (find f) s).log d ≡ binds_of n x s.log d
+quiet-find : (n : ℕ) (x : Name) (d : Option ℕ) (b : Bool) (f : Finding) (s : State) → binds_of n x (say_if b (find f) s).log d ≡ binds_of n x s.log d
 unfolding say_if
 quiet-find n x d true f s = ap (λ l. newest n x (binds_in l) d) (reverse-cons (find f) s.log) ∙ rw (binds-append (reverse s.log) (find f ∷ []), newest-append) (unfold logs newest in refl)
 quiet-find n x d false f s = refl
 
-one-bind : (n : ℕ) (x : ℕ) (d : Option ℕ) (y : ℕ) (v k : ℕ) (s : State)
-    → binds_of n x (bind_name y v k s).log d ≡ cond (eqb s.cur n && eqb y x) (Some v) (binds_of n x s.log d)
+one-bind : (n : ℕ) (x : Name) (d : Option ℕ) (y : Name) (v k : ℕ) (s : State)
+    → binds_of n x (bind_name y v k s).log d ≡ cond (eqb s.cur n && same_name y x) (Some v) (binds_of n x s.log d)
 one-bind n x d y v k s =
     let g = binds s.cur y s.visible in
     ap (λ l. newest n x (binds_in l) d) (reverse-cons (bind false g (bound s.cur y v k)) s.log) ∙ rw (binds-append (reverse s.log) (bind false g (bound s.cur y v k) ∷ []), newest-append) (unfold logs newest in refl)
 
 -- A pattern binds in its own scope and above.
 record Clear (n : ℕ) (s t : State) : Type 0 where
-  pub same : (x : ℕ) (d : Option ℕ) → binds_of n x t.log d ≡ binds_of n x s.log d
+  pub same : (x : Name) (d : Option ℕ) → binds_of n x t.log d ≡ binds_of n x s.log d
 
-bind-clear : (n y v k : ℕ) (s : State) → (n ≡ s.cur → ⊥) → Clear n s (bind_name y v k s)
+bind-clear : (n : ℕ) (y : Name) (v k : ℕ) (s : State) → (n ≡ s.cur → ⊥) → Clear n s (bind_name y v k s)
 bind-clear n y v k s h = record { same = λ x d. one-bind n x d y v k s ∙ rw (ne→eqb s.cur n (λ e. h (sym e))) refl }
 
 -- What a pattern's scope c binds in the end is what stands above the list before it.
 record Owns (c : ℕ) (base : List Seen) (s : State) : Type 0 where
   pub own : List Seen
   pub adds : s.visible ≡ own ++ base
-  pub owns : (x : ℕ) → as_looked c (binds_of c x s.log None) ≡ seen_as x own
+  pub owns : (x : Name) → as_looked c (binds_of c x s.log None) ≡ seen_as x own
 
-bind-O : {c : ℕ} {base : List Seen} (y v k : ℕ) (s : State) → s.cur ≡ c → Owns c base s → Owns c base (bind_name y v k s)
+bind-O : {c : ℕ} {base : List Seen} (y : Name) (v k : ℕ) (s : State) → s.cur ≡ c → Owns c base s → Owns c base (bind_name y v k s)
 unfolding seen_as variable_of
 bind-O {c} y v k s e h = record {
   own = seen y (hit v 0) s.cur ∷ h.own;
   adds = ap (◌∷◌ (seen y (hit v 0) s.cur)) h.adds;
   owns = λ x.
       ap (as_looked c) (one-bind c x None y v k s)
-      ∙ rw (e, eqb_same c, eqb_comm y x) (looked-cond c v (eqb x y) (binds_of c x s.log None) ∙ ap (cond (eqb x y) (at v c)) (h.owns x));
+      ∙ rw (e, eqb_same c, same_comm y x) (looked-cond c v (same_name x y) (binds_of c x s.log None) ∙ ap (cond (same_name x y) (at v c)) (h.owns x));
 }
 
 find-O : {c : ℕ} {base : List Seen} (b : Bool) (f : Finding) (s : State) → Owns c base s → Owns c base (say_if b (find f) s)
 find-O {c} b f s h = record { own = h.own; adds = (say_if-keeps b (find f) s).visible ∙ h.adds; owns = λ x. ap (as_looked c) (quiet-find c x None b f s) ∙ h.owns x }
 
 -- a scope that is just opened binds nothing
-fresh-none : (a b : ℕ) (s : State) (x : ℕ) → Well 0 0 s → binds_of (suc s.last) x (enter comprehension_scope a b s).log None ≡ None
+fresh-none : (a b : ℕ) (s : State) (x : Name) → Well 0 0 s → binds_of (suc s.last) x (enter comprehension_scope a b s).log None ≡ None
 fresh-none a b s x f =
     let o = open' (scope comprehension_scope (Some s.cur) a b) in
     ap (λ l. newest (suc s.last) x (binds_in l) None) (reverse-cons o s.log)
@@ -127,7 +128,7 @@ no-bind : (sc : Scope) (m : List Event) → binds_in (open' sc ∷ m) ≡ binds_
 unfolding logs
 no-bind sc m = refl
 
-later-binds : (n x : ℕ) {last : ℕ} (l m : List Event) (sc : Scope) → last < n → Within 0 last l → newest n x (binds_in (l ++ open' sc ∷ m)) None ≡ newest n x (binds_in m) None
+later-binds : (n : ℕ) (x : Name) {last : ℕ} (l m : List Event) (sc : Scope) → last < n → Within 0 last l → newest n x (binds_in (l ++ open' sc ∷ m)) None ≡ newest n x (binds_in m) None
 later-binds n x l m sc h p = rw (binds-append l (open' sc ∷ m), newest-append, newest-out (over h) p x None, no-bind sc m) refl
 
 -- a pattern's steps
@@ -137,7 +138,7 @@ module _ (w : World) where
   path-clear n None s h = record { same = λ x d. refl }
   path-clear n (Some v) s h = record { same = λ x d. quiet-find n x d _ _ (bind_name (name_of w v) v path_kind s) ∙ (bind-clear n (name_of w v) v path_kind s h).same x d }
 
-  new-clear : (n : ℕ) (o : Option Hit) (y : ℕ) (v k : ℕ) (s : State) → (n ≡ s.cur → ⊥) → Clear n s (bind_new w o y v k s)
+  new-clear : (n : ℕ) (o : Option Hit) (y : Name) (v k : ℕ) (s : State) → (n ≡ s.cur → ⊥) → Clear n s (bind_new w o y v k s)
   unfolding bind_new
   new-clear n None y v k s h = bind-clear n y v k s h
   new-clear n (Some u) y v k s h = record { same = λ x d. refl }
@@ -169,7 +170,7 @@ module _ (w : World) where
   path-O None s e h = h
   path-O (Some v) s e h = find-O _ _ (bind_name (name_of w v) v path_kind s) (bind-O (name_of w v) v path_kind s e h)
 
-  new-O : {c : ℕ} {base : List Seen} (o : Option Hit) (y : ℕ) (v k : ℕ) (s : State) → s.cur ≡ c → Owns c base s → Owns c base (bind_new w o y v k s)
+  new-O : {c : ℕ} {base : List Seen} (o : Option Hit) (y : Name) (v k : ℕ) (s : State) → s.cur ≡ c → Owns c base s → Owns c base (bind_new w o y v k s)
   unfolding bind_new
   new-O None y v k s e h = bind-O y v k s e h
   new-O (Some u) y v k s e h = h
@@ -207,7 +208,7 @@ module _ (L : List Event) where
 
   pub record Ends (os : List ℕ) (t : State) : Type 0 where
     pub pre : Pre t.log
-    pub clear : (n : ℕ) (x : ℕ) (d : Option ℕ) → n ≤ t.last → not_in n os → binds_of n x L d ≡ binds_of n x t.log d
+    pub clear : (n : ℕ) (x : Name) (d : Option ℕ) → n ≤ t.last → not_in n os → binds_of n x L d ≡ binds_of n x t.log d
 
   pub ends-back : {os : List ℕ} (f : State → State) (s : State) {hi : ℕ} → f s ≡ after s.log (f (silent s)) → Within s.last hi (f (silent s)).log → s.last ≤ (f s).last → Ends os (f s) → Ends os s
   ends-back f s e p l h = record {
@@ -230,8 +231,8 @@ module _ (L : List Event) (w : World) where
     pub adds : (bind_pattern w q (enter comprehension_scope a b s)).visible ≡ own ++ s.visible
     pub reach : List Seen
     pub splits : s.visible ≡ reach ++ beyond
-    pub around : (x : ℕ) → look (reverse s.log) s.cur x ≡ seen_as x reach
-    pub inside : (x : ℕ) → look (reverse L) (suc s.last) x ≡ or_parent (seen_as x own) (look (reverse L) s.cur x)
+    pub around : (x : Name) → look (reverse s.log) s.cur x ≡ seen_as x reach
+    pub inside : (x : Name) → look (reverse L) (suc s.last) x ≡ or_parent (seen_as x own) (look (reverse L) s.cur x)
 
   pub ends-Es : {os : List ℕ} (es : Exprs) (s : State) → Well 0 0 s → Ends L os (resolves w es s) → Ends L os s
   ends-Es es s f h =

@@ -3,6 +3,7 @@ use Rattle.std.specs.Prelude.{Option, None, Some}
 use Prim.Native.Nat.{ℕ}
 use mathlib.Core.Path.{◌≡◌, refl, ◌∙◌}
 use mathlib.Core.Bool.{Bool, true, false, not}
+use Rattle.scope.specs.Graph.{indexed}
 use Rattle.expr.specs.Tree.{Expr, var, unresolved, node, predicate, comprehension, Exprs, done, more, mark}
 use Rattle.tables.specs.Row.{Row, row}
 use Rattle.semantics.specs.Log.{Event}
@@ -42,7 +43,7 @@ module _ (w : World) where
 
     pub keeps : (t : Expr) (s : State) → Keeps s (resolve w t s)
     keeps (var v) s = var-keeps v (w.row v) s
-    keeps (unresolved x) s = visit-keeps (w.hushed x) x (lookup x s.visible) s
+    keeps (unresolved x) s = visit-keeps (w.hushed x) x (lookup (indexed x) s.visible) s
     keeps (node f es) s = all_keep es s
     keeps (predicate p) s = record { visible = refl; cur = refl }
     keeps (comprehension a b p es) s = record { visible = refl; cur = refl }

@@ -13,7 +13,7 @@ use Rattle.expr.specs.Tree.{var, comprehension, done, more, Steps}
 use Rattle.expr.specs.Erase.{erase_e}
 use Rattle.clauses.specs.Tree.{match, opening, sorted, projection}
 use Rattle.clauses.specs.Erase.{erase_c, erase_a}
-use Rattle.scope.specs.Graph.{scope}
+use Rattle.scope.specs.Graph.{scope, indexed}
 use Rattle.sheet.specs.Statement.{Statement}
 use Rattle.semantics.specs.Log.{finding, found, missing, bound, write, open', bind, answer, find, logs}
 use Rattle.semantics.specs.Resolve.{walk}
@@ -49,7 +49,7 @@ agreeing-keys = record { stands₁ = refl; stands₂ = refl; sort = refl; names 
 pub left_out : (keys_log true (statement node_b) (site node_b)
     ≡ open' (scope 9 (Some 4) 3 4) ∷ answer (write 0xFAF3A282 (found 2 1 0)) ∷ answer (write 0xFAF3A282 (found 2 1 0)) ∷ [])
     × (keys_log true (statement node_a) (site node_a)
-    ≡ open' (scope 9 (Some 4) 3 4) ∷ bind false false (bound 5 1 2 1) ∷ answer (write 0xFAF3A282 (found 2 1 0)) ∷ answer (write 0xFAF3A282 missing) ∷ find (finding 1001 0 0 2 0 0) ∷ [])
+    ≡ open' (scope 9 (Some 4) 3 4) ∷ bind false false (bound 5 (indexed 1) 2 1) ∷ answer (write 0xFAF3A282 (found 2 1 0)) ∷ answer (write 0xFAF3A282 missing) ∷ find (finding 1001 0 0 (Some (indexed 1)) 0 0) ∷ [])
 unfolding small node_a node_b name_b logs walk sites use_id fnv1_of fnv_from fnv_step
 left_out = (refl, refl)
 

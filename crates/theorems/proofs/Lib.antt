@@ -1,4 +1,5 @@
 pub mod Tests
+pub mod Names
 pub mod Views
 pub mod Adds
 pub mod Keeps

@@ -7,7 +7,7 @@ use mathlib.Core.Path.{◌≡◌, refl, sym, ◌∙◌, ap, subst}
 use mathlib.Core.Bool.{Bool, true≢false}
 use mathlib.Core.List.{List, [], ◌∷◌, ◌++◌, map, reverse, reverse_aux, reverse-cons, reverse-append, reverse-reverse, append_assoc}
 use Rattle.std.proofs.lemmas.List.{append_cancel_left}
-use Rattle.scope.specs.Graph.{comprehension_scope, scope}
+use Rattle.scope.specs.Graph.{comprehension_scope, scope, Name}
 use Rattle.sheet.specs.Statement.{Statement}
 use Rattle.semantics.specs.Log.{Finding, Write, Event, open', bind, carry, answer, find}
 use Rattle.semantics.specs.World.{hush}
@@ -58,7 +58,7 @@ module _ (warns : Bool) (st : Statement) where
   met (says s k) h = met k (aside-M s, h)
   met (meets {u = u} {l = l} s k) h = met k (use-M (record_of (W warns st) (scopes warns st) u) (e1001 (W warns st) u) l h)
 
-  in-log : (n x : ℕ) → in_lists warns st n x ≡ look (reverse (all warns st)) n x
+  in-log : (n : ℕ) (x : Name) → in_lists warns st n x ≡ look (reverse (all warns st)) n x
   in-log n x = unfold in_lists look scopes bindings carried_list log in refl
 
   turn : log warns st ≡ reverse (all warns st)

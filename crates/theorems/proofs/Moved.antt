@@ -10,7 +10,7 @@ use mathlib.Core.Path.{◌≡◌, refl, sym, ◌∙◌, ap, ap₂, subst}
 use mathlib.Core.Bool.{Bool, true, false, cond, not, ◌&&◌, ◌||◌}
 use mathlib.Core.List.{List, [], ◌∷◌, ◌++◌, map, map-append}
 use lib.Dec.{eqb, eqb→eq}
-use Rattle.scope.specs.Graph.{comprehension_scope, return_scope, with_barrier, call_scope, unwind_scope, root_scope, scope, Carried, carried}
+use Rattle.scope.specs.Graph.{comprehension_scope, return_scope, with_barrier, call_scope, unwind_scope, root_scope, scope, Carried, carried, Name, indexed, same_name}
 use Rattle.expr.specs.Tree.{Expr, var, unresolved, node, predicate, comprehension, Exprs, done, more, mark, Steps, end, part, elem}
 use Rattle.clauses.specs.Tree.{Projection, projection, Yield, yield, Keys, unsorted, sorted, Clause, opening, reading, with', return, unwind, call, Arm, arm, exprs, keys_of}
 use Rattle.tables.specs.Row.{value_kind, path_kind, Row, row}
@@ -95,23 +95,23 @@ eqb-up m s t = bool-ext (eqb (up m s) (up m t)) (eqb s t) (λ h. eq→eqb s t (u
 
 module _ (w : World) (m : ℕ) where
   -- the moved visible list has the same names, variables and own names
-  lookup-up : (x : ℕ) (vis : List Seen) → lookup x (map (number_seen (up m)) vis) ≡ lookup x vis
+  lookup-up : (x : Name) (vis : List Seen) → lookup x (map (number_seen (up m)) vis) ≡ lookup x vis
   unfolding lookup
   lookup-up x [] = refl
-  lookup-up x (seen y v p ∷ vis) = ap (cond (eqb x y) (Some v)) (lookup-up x vis)
+  lookup-up x (seen y v p ∷ vis) = ap (cond (same_name x y) (Some v)) (lookup-up x vis)
 
-  binds-up : (c x : ℕ) (vis : List Seen) → binds (up m c) x (map (number_seen (up m)) vis) ≡ binds c x vis
+  binds-up : (c : ℕ) (x : Name) (vis : List Seen) → binds (up m c) x (map (number_seen (up m)) vis) ≡ binds c x vis
   unfolding binds
   binds-up c x [] = refl
-  binds-up c x (seen y v p ∷ vis) = ap₂ (λ a b. eqb x y && a || b) (eqb-up m p c) (binds-up c x vis)
+  binds-up c x (seen y v p ∷ vis) = ap₂ (λ a b. same_name x y && a || b) (eqb-up m p c) (binds-up c x vis)
 
   carries-up : (a : Option ℕ) (d : Direct) (vis : List Seen) → carries w a d (map (number_seen (up m)) vis) ≡ carries w a d vis
   unfolding carries
   carries-up (Some x) (a_var v) vis = refl
-  carries-up (Some x) (a_name y) vis = rw (lookup-up y vis)
+  carries-up (Some x) (a_name y) vis = rw (lookup-up (indexed y) vis)
   carries-up (Some x) other vis = refl
   carries-up None (a_var v) vis = refl
-  carries-up None (a_name x) vis = rw (lookup-up x vis)
+  carries-up None (a_name x) vis = rw (lookup-up (indexed x) vis)
   carries-up None other vis = refl
 
   projected-up : (ps : List Projection) (vis : List Seen) → projected w ps (map (number_seen (up m)) vis) ≡ projected w (map erase_projection ps) vis
@@ -134,10 +134,10 @@ module _ (w : World) (m : ℕ) where
   carried-up ps vis = rw (star-erase ps, once-up vis, projected-up ps vis)
 
   module _ {s c : State} (h : R m s c) where
-    found-R : (x : ℕ) → lookup x s.visible ≡ lookup x c.visible
+    found-R : (x : Name) → lookup x s.visible ≡ lookup x c.visible
     found-R x = ap (lookup x) h.visible ∙ lookup-up x c.visible
 
-    owned-R : (x : ℕ) → binds s.cur x s.visible ≡ binds c.cur x c.visible
+    owned-R : (x : Name) → binds s.cur x s.visible ≡ binds c.cur x c.visible
     owned-R x = ap₂ (λ a b. binds a x b) h.cur h.visible ∙ binds-up c.cur x c.visible
 
     carried-R : (ps : List Projection) → carried_by w ps s.visible ≡ carried_by w (map erase_projection ps) c.visible
@@ -151,7 +151,7 @@ module _ (w : World) (m : ℕ) where
     unfolding blank blank_scope number number_scope up
     enter-R k a b = record { visible = h.visible; cur = ap suc h.last; last = omega (arith, h.last); log = ap₂ (λ n l. open' (scope k (Some n) 0 0) ∷ l) h.cur h.log }
 
-    bind-R : (over : Bool) (x v k : ℕ) → R m (bind_over over x v k s) (bind_over over x v k c)
+    bind-R : (over : Bool) (x : Name) (v k : ℕ) → R m (bind_over over x v k s) (bind_over over x v k c)
     unfolding blank number number_bound
     bind-R over x v k = record {
       visible = ap₂ (λ n l. seen x (hit v (cond over 1 0)) n ∷ l) h.cur h.visible;
@@ -171,7 +171,7 @@ module _ (w : World) (m : ℕ) where
     var-R v None = h
     var-R v (Some (row i x k a b)) = say-R (unfold blank number in refl)
 
-    new-R : (o : Option Hit) (x v k : ℕ) → R m (bind_new w o x v k s) (bind_new w o x v k c)
+    new-R : (o : Option Hit) (x : Name) (v k : ℕ) → R m (bind_new w o x v k s) (bind_new w o x v k c)
     unfolding bind_new
     new-R None x v k = bind-R false x v k
     new-R (Some u) x v k = h
@@ -191,11 +191,11 @@ module _ (w : World) (m : ℕ) where
   visit-R true x o h = h
   visit-R false x o h = name-R x o h
 
-  anew-R : (a b x v k : ℕ) {s c : State} → R m s c → R m (bind_anew w a b x v k s) (bind_anew w 0 0 x v k c)
+  anew-R : (a b : ℕ) (x : Name) (v k : ℕ) {s c : State} → R m s c → R m (bind_anew w a b x v k s) (bind_anew w 0 0 x v k c)
   unfolding bind_anew blank number blank_finding
   anew-R a b x v k {s} {c} h =
-      subst (λ (own : Bool). R m (say_if (w.warns && own) (find (finding e1002 a b (suc x) 0 0)) (bind_name x v k s)) (bind_anew w 0 0 x v k c)) (sym (owned-R h x))
-      (say_if-R (w.warns && binds c.cur x c.visible) (find (finding e1002 a b (suc x) 0 0)) (find (finding e1002 0 0 (suc x) 0 0)) (bind-R h false x v k) refl)
+      subst (λ (own : Bool). R m (say_if (w.warns && own) (find (finding e1002 a b (Some x) 0 0)) (bind_name x v k s)) (bind_anew w 0 0 x v k c)) (sym (owned-R h x))
+      (say_if-R (w.warns && binds c.cur x c.visible) (find (finding e1002 a b (Some x) 0 0)) (find (finding e1002 0 0 (Some x) 0 0)) (bind-R h false x v k) refl)
 
   path-R : (o : Option ℕ) {s c : State} → R m s c → R m (bind_path w o s) (bind_path w o c)
   unfolding bind_path
@@ -212,7 +212,7 @@ module _ (w : World) (m : ℕ) where
 
     pub resolve-R : (t : Expr) {s c : State} → R m s c → R m (resolve w t s) (resolve w (erase_e t) c)
     resolve-R (var v) h = var-R h v (w.row v)
-    resolve-R (unresolved x) h = rw (found-R h x) (visit-R (w.hushed x) x _ h)
+    resolve-R (unresolved x) h = rw (found-R h (indexed x)) (visit-R (w.hushed x) x _ h)
     resolve-R (node f es) h = resolves-R es h
     resolve-R (predicate p) h = h
     resolve-R (comprehension a b p es) h = leave-R h (resolves-R es (pattern-R p (enter-R h comprehension_scope a b)))
@@ -244,7 +244,7 @@ module _ (w : World) (m : ℕ) where
   yields-R : (a b : ℕ) (ys : List Yield) {s c : State} → R m s c → R m (yields w a b ys s) (yields w 0 0 ys c)
   unfolding yields
   yields-R a b [] h = h
-  yields-R a b (yield x y v ∷ ys) h = yields-R a b ys (anew-R a b (yield_name x y) v value_kind h)
+  yields-R a b (yield x y v ∷ ys) h = yields-R a b ys (anew-R a b (indexed (yield_name x y)) v value_kind h)
 
 module _ (w : World) (m : ℕ) where
   -- sort keys, with the list of another state behind

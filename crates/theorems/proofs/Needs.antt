@@ -13,7 +13,7 @@ use mathlib.Core.Bool.{Bool, true, false, cond, not, ◌&&◌, ◌||◌, and_com
 use mathlib.Core.List.{List, [], ◌∷◌, ◌++◌, reverse_aux, flat_map}
 use lib.Dec.{T, eqb, eqb→eq}
 use lib.ListN.{length}
-use Rattle.scope.specs.Graph.{comprehension_scope, return_scope, with_barrier, call_scope, unwind_scope, root_scope, carried, Entry, entry}
+use Rattle.scope.specs.Graph.{comprehension_scope, return_scope, with_barrier, call_scope, unwind_scope, root_scope, carried, Entry, entry, Name, indexed, same_name}
 use Rattle.expr.specs.Tree.{Expr, var, unresolved, node, predicate, comprehension, Exprs, done, more, mark, Steps, end, part, elem}
 use Rattle.clauses.specs.Tree.{Yield, yield, Clause, opening, reading, with', return, unwind, call, Arm, arm, exprs, keys_of}
 use Rattle.tables.specs.Row.{value_kind, path_kind, Row, row}
@@ -29,7 +29,8 @@ use Rattle.theorems.proofs.Keeps.{all_keep}
 use Rattle.theorems.proofs.Within.{Within, nil, cons, inside, Well, standing-W, enter-W, answer-W, find-W, carry-W, bind-W, resolves-W, pattern-W, bind_all-W, carry_all-W}
 use Rattle.theorems.proofs.Entries.{puts-append}
 use Rattle.theorems.proofs.Placed.{start-W, silent-W}
-use Rattle.theorems.proofs.Tests.{ne→eqb, eqb_comm}
+use Rattle.theorems.proofs.Tests.{both, ne→eqb, eqb_comm}
+use Rattle.theorems.proofs.Names.{same→eq}
 
 -- The bindings list of a log that is newest first.
 unfoldable pub listed : List Event → List Entry
@@ -42,19 +43,14 @@ listed-reverse [] m = refl
 listed-reverse (e ∷ l) m = listed-reverse l (e ∷ m) ∙ puts-append (bind_of e) (binds_in m) (listed l)
 
 -- whether an entry has the scope c and the name x; and what a binding makes of that, and of how many there are
-unfoldable has : ℕ → ℕ → List Entry → Bool
+unfoldable has : ℕ → Name → List Entry → Bool
 has c x [] = false
-has c x (entry t y u k r ∷ es) = eqb c t && eqb x y || has c x es
+has c x (entry t y u k r ∷ es) = eqb c t && same_name x y || has c x es
 
-both : (a b : Bool) → T (a && b) → (T a) × (T b)
-both true true t = (tt, tt)
-both true false t = absurd t
-both false b t = absurd t
-
-has-put : (c x t y v k : ℕ) (es : List Entry) → has c x (put (bound t y v k) es) ≡ (eqb c t && eqb x y || has c x es)
+has-put : (c : ℕ) (x : Name) (t : ℕ) (y : Name) (v k : ℕ) (es : List Entry) → has c x (put (bound t y v k) es) ≡ (eqb c t && same_name x y || has c x es)
 unfolding has put
 has-put c x t y v k [] = refl
-has-put c x t y v k (entry o z u j r ∷ es) = go (eqb t o && eqb y z) refl (has-put c x t y v k es)
+has-put c x t y v k (entry o z u j r ∷ es) = go (eqb t o && same_name y z) refl (has-put c x t y v k es)
   where
     twice : (a b : Bool) → a || b ≡ a || (a || b)
     twice true b = refl
@@ -65,17 +61,17 @@ has-put c x t y v k (entry o z u j r ∷ es) = go (eqb t o && eqb y z) refl (has
     turn true false d = refl
     turn false b d = refl
 
-    go : (a : Bool) → eqb t o && eqb y z ≡ a → has c x (put (bound t y v k) es) ≡ (eqb c t && eqb x y || has c x es)
-        → has c x (cond a (entry t y v k (Some u) ∷ es) (entry o z u j r ∷ put (bound t y v k) es)) ≡ (eqb c t && eqb x y || (eqb c o && eqb x z || has c x es))
+    go : (a : Bool) → eqb t o && same_name y z ≡ a → has c x (put (bound t y v k) es) ≡ (eqb c t && same_name x y || has c x es)
+        → has c x (cond a (entry t y v k (Some u) ∷ es) (entry o z u j r ∷ put (bound t y v k) es)) ≡ (eqb c t && same_name x y || (eqb c o && same_name x z || has c x es))
     go true e ih =
-        let f = both (eqb t o) (eqb y z) (subst T (sym e) tt) in
-        rw (← eqb→eq t o f.0, ← eqb→eq y z f.1) (twice (eqb c t && eqb x y) (has c x es))
-    go false e ih = rw ih (turn (eqb c o && eqb x z) (eqb c t && eqb x y) (has c x es))
+        let f = both (eqb t o) (same_name y z) (subst T (sym e) tt) in
+        rw (← eqb→eq t o f.0, ← same→eq y z f.1) (twice (eqb c t && same_name x y) (has c x es))
+    go false e ih = rw ih (turn (eqb c o && same_name x z) (eqb c t && same_name x y) (has c x es))
 
-put-length : (c x v k : ℕ) (es : List Entry) → length (put (bound c x v k) es) ≡ cond (has c x es) (length es) (suc (length es))
+put-length : (c : ℕ) (x : Name) (v k : ℕ) (es : List Entry) → length (put (bound c x v k) es) ≡ cond (has c x es) (length es) (suc (length es))
 unfolding has put
 put-length c x v k [] = refl
-put-length c x v k (entry t y u j r ∷ es) = go (eqb c t && eqb x y) (has c x es) (put-length c x v k es)
+put-length c x v k (entry t y u j r ∷ es) = go (eqb c t && same_name x y) (has c x es) (put-length c x v k es)
   where
     go : (a b : Bool) → length (put (bound c x v k) es) ≡ cond b (length es) (suc (length es))
         → length (cond a (entry c x v k (Some u) ∷ es) (entry t y u j r ∷ put (bound c x v k) es)) ≡ cond (a || b) (suc (length es)) (suc (suc (length es)))
@@ -84,41 +80,41 @@ put-length c x v k (entry t y u j r ∷ es) = go (eqb c t && eqb x y) (has c x e
     go false false e = ap suc e
 
 -- Whether a log binds the name x in the scope c.
-unfoldable pub binds_already : ℕ → ℕ → List Event → Bool
+unfoldable pub binds_already : ℕ → Name → List Event → Bool
 binds_already c x [] = false
 binds_already c x (open' s ∷ l) = binds_already c x l
-binds_already c x (bind o g (bound t y v k) ∷ l) = eqb x y && eqb t c || binds_already c x l
+binds_already c x (bind o g (bound t y v k) ∷ l) = same_name x y && eqb t c || binds_already c x l
 binds_already c x (carry d ∷ l) = binds_already c x l
 binds_already c x (answer a ∷ l) = binds_already c x l
 binds_already c x (find f ∷ l) = binds_already c x l
 
-has_listed : (c x : ℕ) (l : List Event) → has c x (listed l) ≡ binds_already c x l
+has_listed : (c : ℕ) (x : Name) (l : List Event) → has c x (listed l) ≡ binds_already c x l
 unfolding listed binds_already puts bind_of
 has_listed c x [] = unfold has in refl
 has_listed c x (open' s ∷ l) = has_listed c x l
 has_listed c x (bind o g (bound t y v k) ∷ l) =
-    has-put c x t y v k (listed l) ∙ ap₂ ◌||◌ (and_comm (eqb c t) (eqb x y) ∙ ap (◌&&◌ (eqb x y)) (eqb_comm c t)) (has_listed c x l)
+    has-put c x t y v k (listed l) ∙ ap₂ ◌||◌ (and_comm (eqb c t) (same_name x y) ∙ ap (◌&&◌ (same_name x y)) (eqb_comm c t)) (has_listed c x l)
 has_listed c x (carry d ∷ l) = has_listed c x l
 has_listed c x (answer a ∷ l) = has_listed c x l
 has_listed c x (find f ∷ l) = has_listed c x l
 
-already-append : (c x : ℕ) (m l : List Event) → binds_already c x (m ++ l) ≡ (binds_already c x m || binds_already c x l)
+already-append : (c : ℕ) (x : Name) (m l : List Event) → binds_already c x (m ++ l) ≡ (binds_already c x m || binds_already c x l)
 unfolding binds_already
 already-append c x [] l = refl
 already-append c x (open' s ∷ m) l = already-append c x m l
 already-append c x (bind o g (bound t y v k) ∷ m) l =
-    rw (already-append c x m l) (sym (or_assoc (eqb x y && eqb t c) (binds_already c x m) (binds_already c x l)))
+    rw (already-append c x m l) (sym (or_assoc (same_name x y && eqb t c) (binds_already c x m) (binds_already c x l)))
 already-append c x (carry d ∷ m) l = already-append c x m l
 already-append c x (answer a ∷ m) l = already-append c x m l
 already-append c x (find f ∷ m) l = already-append c x m l
 
 -- a log that binds in other scopes alone
-already-other : {lo hi : ℕ} {l : List Event} (c x : ℕ) → ((t : ℕ) → lo < t → t ≤ hi → t ≡ c → ⊥) → Within lo hi l → binds_already c x l ≡ false
+already-other : {lo hi : ℕ} {l : List Event} (c : ℕ) (x : Name) → ((t : ℕ) → lo < t → t ≤ hi → t ≡ c → ⊥) → Within lo hi l → binds_already c x l ≡ false
 unfolding binds_already inside
 already-other c x f nil = refl
 already-other c x f (cons {e = open' s} h p) = already-other c x f p
 already-other c x f (cons {e = bind o g (bound t y v k)} h p) =
-    rw (ne→eqb t c (f t h.0 h.1), already-other c x f p) (none_of (eqb x y))
+    rw (ne→eqb t c (f t h.0 h.1), already-other c x f p) (none_of (same_name x y))
   where
     none_of : (a : Bool) → a && false || false ≡ false
     none_of true = refl
@@ -129,12 +125,12 @@ already-other c x f (cons {e = find a} h p) = already-other c x f p
 
 -- Nothing visible stands in a scope above n.
 abbrev Below : ℕ → List Seen → Type 0
-Below n vis = (c x : ℕ) → n < c → binds c x vis ≡ false
+Below n vis = (c : ℕ) (x : Name) → n < c → binds c x vis ≡ false
 
-pub own-append : (c x : ℕ) (A B : List Seen) → binds c x (A ++ B) ≡ (binds c x A || binds c x B)
+pub own-append : (c : ℕ) (x : Name) (A B : List Seen) → binds c x (A ++ B) ≡ (binds c x A || binds c x B)
 unfolding binds
 own-append c x [] B = refl
-own-append c x (seen y v p ∷ A) B = rw (own-append c x A B) (sym (or_assoc (eqb x y && eqb p c) (binds c x A) (binds c x B)))
+own-append c x (seen y v p ∷ A) B = rw (own-append c x A B) (sym (or_assoc (same_name x y && eqb p c) (binds c x A) (binds c x B)))
 
 pub record Counted (s : State) : Type 0 where
   pub well : Well 0 0 s
@@ -145,9 +141,9 @@ pub record Owns (s : State) : Type 0 where
   pub counted : Counted s
   pub inner : 0 < s.cur
   pub high : s.cur ≤ s.last
-  pub own : (x : ℕ) → binds s.cur x s.visible ≡ binds_already s.cur x s.log
+  pub own : (x : Name) → binds s.cur x s.visible ≡ binds_already s.cur x s.log
 
-counted-one : (o g : Bool) (c x v k n : ℕ) → cond g n (suc n) ≡ made_one (bind o g (bound c x v k)) n
+counted-one : (o g : Bool) (c : ℕ) (x : Name) (v k n : ℕ) → cond g n (suc n) ≡ made_one (bind o g (bound c x v k)) n
 counted-one o true c x v k n = refl
 counted-one o false c x v k n = refl
 
@@ -192,7 +188,7 @@ module _ (w : World) where
     own = λ x. h.below (suc s.last) x (le_refl _) ∙ sym (already-other (suc s.last) x (λ t p q e. omega arith) h.well.within);
   }
 
-  carry-N : (x v : ℕ) {s : State} → Owns s → Owns (say (carry (carried s.cur x v)) s)
+  carry-N : (x : Name) (v : ℕ) {s : State} → Owns s → Owns (say (carry (carried s.cur x v)) s)
   unfolding binds_already Plain
   carry-N x v {s} h = record {
     counted = record { well = carry-W w 0 0 x v h.inner h.high h.counted.well; below = h.counted.below; counts = plain-counts _ s.log tt h.counted.counts };
@@ -201,19 +197,19 @@ module _ (w : World) where
     own = h.own;
   }
 
-  pub bind-N : (over : Bool) (x v k : ℕ) {s : State} → Owns s → Owns (bind_over over x v k s)
+  pub bind-N : (over : Bool) (x : Name) (v k : ℕ) {s : State} → Owns s → Owns (bind_over over x v k s)
   unfolding binds_already binds listed made bind_of puts
   bind-N over x v k {s} h = record {
     counted = record {
       well = (bind-W w 0 0 over x v k h.inner h.high h.counted.well).fine;
-      below = λ c y p. rw (ne→eqb s.cur c (λ e. omega (arith, h.high)), h.counted.below c y p) (none_of (eqb y x));
+      below = λ c y p. rw (ne→eqb s.cur c (λ e. omega (arith, h.high)), h.counted.below c y p) (none_of (same_name y x));
       counts = put-length s.cur x v k (listed s.log)
           ∙ ap₂ (λ (g : Bool) (n : ℕ). cond g n (suc n)) (has_listed s.cur x s.log ∙ sym (h.own x)) h.counted.counts
           ∙ counted-one over (binds s.cur x s.visible) s.cur x v k (made s.log);
     };
     inner = h.inner;
     high = h.high;
-    own = λ y. ap (λ b. eqb y x && eqb s.cur s.cur || b) (h.own y);
+    own = λ y. ap (λ b. same_name y x && eqb s.cur s.cur || b) (h.own y);
   }
     where
       none_of : (a : Bool) → a && false || false ≡ false
@@ -229,18 +225,18 @@ module _ (w : World) where
   unfolding visit use_name
   visit-N true x o h = h
   visit-N false x (Some (hit v u)) h = answer-N _ h
-  visit-N false x None h = find-N (not (w.is_star x)) (finding e1001 0 0 (suc x) 0 0) (answer-N _ h)
+  visit-N false x None h = find-N (not (w.is_star x)) (finding e1001 0 0 (Some (indexed x)) 0 0) (answer-N _ h)
 
-  anew-N : (a b x v k : ℕ) {s : State} → Owns s → Owns (bind_anew w a b x v k s)
+  anew-N : (a b : ℕ) (x : Name) (v k : ℕ) {s : State} → Owns s → Owns (bind_anew w a b x v k s)
   unfolding bind_anew
-  anew-N a b x v k {s} h = find-O (w.warns && binds s.cur x s.visible) (finding e1002 a b (suc x) 0 0) (bind-N false x v k h)
+  anew-N a b x v k {s} h = find-O (w.warns && binds s.cur x s.visible) (finding e1002 a b (Some x) 0 0) (bind-N false x v k h)
 
   path-N : (o : Option ℕ) {s : State} → Owns s → Owns (bind_path w o s)
   unfolding bind_path
   path-N None h = h
   path-N (Some v) h = anew-N 0 0 (name_of w v) v path_kind h
 
-  new-N : (o : Option Hit) (x v k : ℕ) {s : State} → Owns s → Owns (bind_new w o x v k s)
+  new-N : (o : Option Hit) (x : Name) (v k : ℕ) {s : State} → Owns s → Owns (bind_new w o x v k s)
   unfolding bind_new
   new-N None x v k h = bind-N false x v k h
   new-N (Some u) x v k h = h
@@ -277,7 +273,7 @@ module _ (w : World) where
 
     resolve-N : (t : Expr) {s : State} → Counted s → Counted (resolve w t s)
     resolve-N (var v) h = var-N v (w.row v) h
-    resolve-N (unresolved x) {s} h = visit-N (w.hushed x) x (lookup x s.visible) h
+    resolve-N (unresolved x) {s} h = visit-N (w.hushed x) x (lookup (indexed x) s.visible) h
     resolve-N (node f es) h = resolves-N es h
     resolve-N (predicate p) h = h
     resolve-N (comprehension a b p es) {s} h =
@@ -310,7 +306,7 @@ module _ (w : World) where
   yields-N : (a b : ℕ) (ys : List Yield) {s : State} → Owns s → Owns (yields w a b ys s)
   unfolding yields
   yields-N a b [] h = h
-  yields-N a b (yield x y v ∷ ys) h = yields-N a b ys (anew-N a b (yield_name x y) v value_kind h)
+  yields-N a b (yield x y v ∷ ys) h = yields-N a b ys (anew-N a b (indexed (yield_name x y)) v value_kind h)
 
 -- the same log from elsewhere
 standing-N : (w : World) (vis : List Seen) (c : ℕ) {s : State} → Below s.last vis → Counted s → Counted (standing vis c s)

@@ -16,7 +16,7 @@ use mathlib.Core.List.{List, [], ◌∷◌, ◌++◌, map, reverse, reverse_aux,
 use lib.ListN.{drop}
 use lib.Seq.{drop_at}
 use lib.Dec.{eqb, eqb_refl}
-use Rattle.scope.specs.Graph.{with_barrier, root_scope, Scope, scope, Carried, carried}
+use Rattle.scope.specs.Graph.{with_barrier, root_scope, Scope, scope, Carried, carried, Name}
 use Rattle.clauses.specs.Tree.{Clause, with', Arm, arm, exprs, keys_of}
 use Rattle.sheet.specs.Statement.{Statement}
 use Rattle.semantics.specs.Log.{Answer, write, answers_in, finds_in, binds_in, bound, Event, open', bind, carry, answer, find, scopes_in, carries_in, carry_of, opened, logs}
@@ -34,7 +34,7 @@ use Rattle.theorems.proofs.Tests.{bool-ext, ne→eqb}
 
 pub data CarriedIn (lo hi : ℕ) : List Carried → Type 0 where
   none' : CarriedIn lo hi []
-  more' : {b x v : ℕ} {l : List Carried} → lo < b → b ≤ hi → CarriedIn lo hi l → CarriedIn lo hi (carried b x v ∷ l)
+  more' : {b : ℕ} {x : Name} {v : ℕ} {l : List Carried} → lo < b → b ≤ hi → CarriedIn lo hi l → CarriedIn lo hi (carried b x v ∷ l)
 
 pub inside-carries : {lo hi : ℕ} {l : List Event} → Within lo hi l → CarriedIn lo hi (carries_in l)
 unfolding logs inside

@@ -7,7 +7,7 @@ use native.Mathlib.Omega.{arith}
 use mathlib.Core.Path.{◌≡◌, refl, sym, ◌∙◌, ap, ap₂}
 use mathlib.Core.Bool.{Bool, true, false, not}
 use mathlib.Core.List.{List, [], ◌∷◌, map, reverse, reverse_aux}
-use Rattle.scope.specs.Graph.{comprehension_scope, scope}
+use Rattle.scope.specs.Graph.{comprehension_scope, scope, Name}
 use Rattle.expr.specs.Tree.{Expr, var, unresolved, node, predicate, comprehension, Exprs, done, more, mark, Steps, end, part, elem}
 use Rattle.expr.specs.Erase.{erase_e, erases, erase_s}
 use Rattle.tables.specs.Row.{path_kind, Row, row}
@@ -49,7 +49,7 @@ module _ (w : World) where
   path-still None s = stay
   path-still (Some v) s = let h = find-still _ _ (bind_name (name_of w v) v path_kind s) in record { cur = h.cur; last = h.last; scopes = h.scopes }
 
-  new-still : (o : Option Hit) (x v k : ℕ) (s : State) → Still s (bind_new w o x v k s)
+  new-still : (o : Option Hit) (x : Name) (v k : ℕ) (s : State) → Still s (bind_new w o x v k s)
   unfolding bind_new logs
   new-still None x v k s = record { cur = refl; last = refl; scopes = refl }
   new-still (Some u) x v k s = stay

@@ -12,7 +12,7 @@ use mathlib.Core.Bool.{Bool, true, false, cond, ◌&&◌, ◌||◌, or-false}
 use mathlib.Core.List.{List, [], ◌∷◌, ◌++◌, reverse, reverse-cons, reverse-append, append-nil}
 use lib.Dec.{eqb, ltb, lt→ltb}
 use Rattle.tables.specs.Row.{value_kind, path_kind}
-use Rattle.scope.specs.Graph.{return_scope, with_barrier, call_scope, unwind_scope, root_scope, Scope, scope, carried}
+use Rattle.scope.specs.Graph.{return_scope, with_barrier, call_scope, unwind_scope, root_scope, Scope, scope, carried, Name, indexed, same_name}
 use Rattle.expr.specs.Tree.{Exprs, Steps, end, part, elem, done}
 use Rattle.clauses.specs.Tree.{Yield, yield, Opening, match, create, merge, Clause, opening, reading, with', return, unwind, call, Arm, exprs, keys_of}
 use Rattle.sheet.specs.Statement.{Statement}
@@ -31,7 +31,8 @@ use Rattle.theorems.specs.Uses.{seen_as}
 use Rattle.theorems.specs.Agree.{look, in_lists}
 use Rattle.theorems.proofs.Placed.{start-W, silent-W}
 use Rattle.theorems.proofs.Looks.{newest, carries-append, newest-append, answer-same, look-stays, look-by, look-open}
-use Rattle.theorems.proofs.Tests.{holds, eqb_same, eqb_comm}
+use Rattle.theorems.proofs.Tests.{holds, eqb_same}
+use Rattle.theorems.proofs.Names.{same_comm}
 
 -- a scope other than 0, and what lies within it alone
 one-above : (s : ℕ) → 0 < s → (r : ℕ) × (s ≡ suc r)
@@ -46,11 +47,11 @@ just-open : (n : ℕ) (s : Scope) → Within n n (open' s ∷ [])
 unfolding inside
 just-open n s = cons tt nil
 
-just-bind : (o g : Bool) (s y v k : ℕ) {r : ℕ} → s ≡ suc r → Within r s (bind o g (bound s y v k) ∷ [])
+just-bind : (o g : Bool) (s : ℕ) (y : Name) (v k : ℕ) {r : ℕ} → s ≡ suc r → Within r s (bind o g (bound s y v k) ∷ [])
 unfolding inside
 just-bind o g s y v k e = cons {e = bind o g (bound s y v k)} (omega arith, omega arith) nil
 
-just-carry : (s y v : ℕ) {r : ℕ} → s ≡ suc r → Within r s (carry (carried s y v) ∷ [])
+just-carry : (s : ℕ) (y : Name) (v : ℕ) {r : ℕ} → s ≡ suc r → Within r s (carry (carried s y v) ∷ [])
 unfolding inside
 just-carry s y v e = cons {e = carry (carried s y v)} (omega arith, omega arith) nil
 
@@ -60,19 +61,19 @@ unfolding answer_at
 answer-bind s v o true g p f h e = refl
 answer-bind s v o false g p f h e = answer-same s o g p f h e
 
-look-bind : (o g : Bool) (l : List Event) (s y v k x : ℕ) → 0 < s → s < opened l → look (l ++ bind o g (bound s y v k) ∷ []) s x ≡ cond (eqb x y) (at v s) (look l s x)
+look-bind : (o g : Bool) (l : List Event) (s : ℕ) (y : Name) (v k : ℕ) (x : Name) → 0 < s → s < opened l → look (l ++ bind o g (bound s y v k) ∷ []) s x ≡ cond (same_name x y) (at v s) (look l s x)
 look-bind o g l s y v k x z q =
     let m = bind o g (bound s y v k) ∷ [] in
     let j = one-above s z in
     look-by (l ++ m) s x (omega (arith, opened-append l m))
     ∙ rw (scopes-append l m, binds-append l m, carried-append l m, newest-append)
     (unfold logs newest in
-    rw (append-nil (scopes_in l), append-nil (carries_in l), eqb_same s, eqb_comm y x)
-    (answer-bind s v _ (eqb x y) _ _ _ (λ p. look l p x) (λ p h. look-stays l p x (just-bind o g s y v k j.1) (omega (arith, j.1)) (omega arith))))
-    ∙ ap (cond (eqb x y) (at v s)) (sym (look-by l s x q))
+    rw (append-nil (scopes_in l), append-nil (carries_in l), eqb_same s, same_comm y x)
+    (answer-bind s v _ (same_name x y) _ _ _ (λ p. look l p x) (λ p h. look-stays l p x (just-bind o g s y v k j.1) (omega (arith, j.1)) (omega arith))))
+    ∙ ap (cond (same_name x y) (at v s)) (sym (look-by l s x q))
 
 -- A name that a barrier carries changes nothing for the others.
-look-carry : (l : List Event) (s y v x : ℕ) → eqb x y ≡ false → 0 < s → s < opened l → look (l ++ carry (carried s y v) ∷ []) s x ≡ look l s x
+look-carry : (l : List Event) (s : ℕ) (y : Name) (v : ℕ) (x : Name) → same_name x y ≡ false → 0 < s → s < opened l → look (l ++ carry (carried s y v) ∷ []) s x ≡ look l s x
 look-carry l s y v x n z q =
     let m = carry (carried s y v) ∷ [] in
     look-by (l ++ m) s x (omega (arith, opened-append l m))
@@ -82,25 +83,25 @@ look-carry l s y v x n z q =
     (answer-same s _ _ _ _ (λ p. look l p x) (λ p h. below p h)))
     ∙ sym (look-by l s x q)
   where
-    one : (s y v x : ℕ) → eqb x y ≡ false → carries (carried s y v ∷ []) s x ≡ false
-    one s y v x n = unfold carries in rw (eqb_same s, eqb_comm y x, n) refl
+    one : (s : ℕ) (y : Name) (v : ℕ) (x : Name) → same_name x y ≡ false → carries (carried s y v ∷ []) s x ≡ false
+    one s y v x n = unfold carries in rw (eqb_same s, same_comm y x, n) refl
 
     below : (p : ℕ) → p < s → look (l ++ carry (carried s y v) ∷ []) p x ≡ look l p x
     below p h = let j = one-above s z in look-stays l p x (just-carry s y v j.1) (omega (arith, j.1)) (omega arith)
 
 -- The log so far shows what is visible, but for some names, and but for what stands beyond.
-unfoldable pub named : ℕ → List Pair → Bool
+unfoldable pub named : Name → List Pair → Bool
 named x [] = false
-named x (pair y v ∷ ps) = eqb x y || named x ps
+named x (pair y v ∷ ps) = same_name x y || named x ps
 
 pub record Shows (but : List Pair) (beyond : List Seen) (s : State) : Type 0 where
   pub fine : Well 0 0 s
   pub low : s.cur ≤ s.last
   pub reach : List Seen
   pub splits : s.visible ≡ reach ++ beyond
-  pub gives : (x : ℕ) → named x but ≡ false → look (reverse s.log) s.cur x ≡ seen_as x reach
+  pub gives : (x : Name) → named x but ≡ false → look (reverse s.log) s.cur x ≡ seen_as x reach
 
-pub shown : {s : State} → Shows [] [] s → (x : ℕ) → look (reverse s.log) s.cur x ≡ seen_as x s.visible
+pub shown : {s : State} → Shows [] [] s → (x : Name) → look (reverse s.log) s.cur x ≡ seen_as x s.visible
 unfolding named
 shown h x = h.gives x refl ∙ ap (seen_as x) (sym (h.splits ∙ append-nil h.reach))
 
@@ -135,7 +136,7 @@ module _ (w : World) where
       stays (resolves w es (silent s)).log h (all_keep w es s) (ap (λ (t : State). t.log) (resolves-after w s.log es (silent s)))
       (resolves-W w n (suc n) es (silent-W n s refl)).fine.within r.later r.fine
 
-  bind-A : {but : List Pair} {beyond : List Seen} {s : State} (over : Bool) (x v k : ℕ) → 0 < s.cur → Shows (pair x v ∷ but) beyond s → Shows but beyond (bind_over over x v k s)
+  bind-A : {but : List Pair} {beyond : List Seen} {s : State} (over : Bool) (x : Name) (v k : ℕ) → 0 < s.cur → Shows (pair x v ∷ but) beyond s → Shows but beyond (bind_over over x v k s)
   unfolding named seen_as variable_of
   bind-A {but} {beyond} {s} over x v k z h = record {
     fine = (bind-W w 0 0 over x v k z h.low h.fine).fine;
@@ -145,10 +146,10 @@ module _ (w : World) where
     gives = λ y n.
         ap (λ l. look l s.cur y) (reverse-cons (bind over (binds s.cur x s.visible) (bound s.cur x v k)) s.log)
         ∙ look-bind over (binds s.cur x s.visible) (reverse s.log) s.cur x v k y z (omega (arith, count h.fine, h.low))
-        ∙ go y (eqb y x) refl n (h.gives y);
+        ∙ go y (same_name y x) refl n (h.gives y);
   }
     where
-      go : (y : ℕ) (b : Bool) → eqb y x ≡ b → named y but ≡ false → ((eqb y x || named y but) ≡ false → look (reverse s.log) s.cur y ≡ seen_as y h.reach)
+      go : (y : Name) (b : Bool) → same_name y x ≡ b → named y but ≡ false → ((same_name y x || named y but) ≡ false → look (reverse s.log) s.cur y ≡ seen_as y h.reach)
           → cond b (at v s.cur) (look (reverse s.log) s.cur y) ≡ cond b (at v s.cur) (seen_as y h.reach)
       go y true e n f = refl
       go y false e n f = f (rw e n)
@@ -162,11 +163,11 @@ module _ (w : World) where
   find-A true f {s = s} h = stays (find f ∷ []) h (record { visible = refl; cur = refl }) refl (just-find s.last f) (le_refl _) (find-W w 0 0 true f h.fine).fine
   find-A false f h = h
 
-  anew-A : (a b x v k : ℕ) {beyond : List Seen} {s : State} → 0 < s.cur → Shows [] beyond s → Shows [] beyond (bind_anew w a b x v k s)
+  anew-A : (a b : ℕ) (x : Name) (v k : ℕ) {beyond : List Seen} {s : State} → 0 < s.cur → Shows [] beyond s → Shows [] beyond (bind_anew w a b x v k s)
   unfolding bind_anew
-  anew-A a b x v k {s = s} z h = find-A (w.warns && binds s.cur x s.visible) (finding e1002 a b (suc x) 0 0) (bind-A false x v k z (more (pair x v) h))
+  anew-A a b x v k {s = s} z h = find-A (w.warns && binds s.cur x s.visible) (finding e1002 a b (Some x) 0 0) (bind-A false x v k z (more (pair x v) h))
 
-  new-A : (o : Option Hit) (x v k : ℕ) {beyond : List Seen} {s : State} → 0 < s.cur → Shows [] beyond s → Shows [] beyond (bind_new w o x v k s)
+  new-A : (o : Option Hit) (x : Name) (v k : ℕ) {beyond : List Seen} {s : State} → 0 < s.cur → Shows [] beyond s → Shows [] beyond (bind_new w o x v k s)
   unfolding bind_new
   new-A None x v k z h = bind-A false x v k z (more (pair x v) h)
   new-A (Some u) x v k z h = h
@@ -192,7 +193,7 @@ module _ (w : World) where
   yields-A : (a b : ℕ) (ys : List Yield) {s : State} → 0 < s.cur → Shows [] [] s → Shows [] [] (yields w a b ys s)
   unfolding yields
   yields-A a b [] z h = h
-  yields-A a b (yield x y v ∷ ys) z h = yields-A a b ys (omega (arith, (anew-W w 0 0 a b (yield_name x y) v value_kind z h.low h.fine).cur)) (anew-A a b (yield_name x y) v value_kind z h)
+  yields-A a b (yield x y v ∷ ys) z h = yields-A a b ys (omega (arith, (anew-W w 0 0 a b (indexed (yield_name x y)) v value_kind z h.low h.fine).cur)) (anew-A a b (indexed (yield_name x y)) v value_kind z h)
 
   -- A scope that is no barrier sees what its parent sees.
   pub enter-A : {but : List Pair} {beyond : List Seen} {s : State} (k a b : ℕ) → eqb k with_barrier ≡ false → Shows but beyond s → Shows but beyond (enter k a b s)
@@ -215,12 +216,12 @@ module _ (w : World) where
   neither true b e = (e, absurd (let z : ◌≡◌ {A = ℕ} 0 1 = cc in omega arith))
   neither false b e = (refl, e)
 
-  carry-look : (ps : List Pair) (s : State) (x : ℕ) → 0 < s.cur → s.cur ≤ s.last → Well 0 0 s → named x ps ≡ false
+  carry-look : (ps : List Pair) (s : State) (x : Name) → 0 < s.cur → s.cur ≤ s.last → Well 0 0 s → named x ps ≡ false
       → look (reverse (carry_all w ps s).log) s.cur x ≡ look (reverse s.log) s.cur x
   unfolding carry_all named
   carry-look [] s x z l h n = refl
   carry-look (pair y v ∷ ps) s x z l h n =
-      let e = neither (eqb x y) (named x ps) n in
+      let e = neither (same_name x y) (named x ps) n in
       carry-look ps (say (carry (carried s.cur y v)) s) x z l (carry-W w 0 0 y v z l h) e.1
       ∙ ap (λ m. look m s.cur x) (reverse-cons (carry (carried s.cur y v)) s.log)
       ∙ look-carry (reverse s.log) s.cur y v x e.0 z (omega (arith, count h))
@@ -322,7 +323,7 @@ module _ (warns : Bool) (s : Statement) where
       (arms-W w 0 1 earlier (clauses-W w 0 1 s.head (silent-W 0 (start s) refl))).within (omega arith) (standing-W w 0 0 [] 0 f)
 
   -- What the log shows between clauses, the lists show in the end.
-  pub settle : {t : State} → Shows [] [] t → (after : List Clause) (later : List Arm) (x : ℕ) → run warns s ≡ arms w later (clauses w after t) → in_lists warns s t.cur x ≡ seen_as x t.visible
+  pub settle : {t : State} → Shows [] [] t → (after : List Clause) (later : List Arm) (x : Name) → run warns s ≡ arms w later (clauses w after t) → in_lists warns s t.cur x ≡ seen_as x t.visible
   unfolding in_lists scopes bindings carried_list log
   settle {t} h after later x e =
       let n = t.last in

@@ -23,7 +23,7 @@ use Rattle.sheet.specs.Trailer.{places_of, section}
 use Rattle.sheet.specs.Statement.{Statement}
 use Rattle.sheet.specs.Read.{accepted, read_sheet}
 use Rattle.sheet.proofs.Accepted.{accepted-words}
-use Rattle.scope.specs.Graph.{comprehension_scope, return_scope, with_barrier, call_scope, unwind_scope, root_scope, scope, carried}
+use Rattle.scope.specs.Graph.{comprehension_scope, return_scope, with_barrier, call_scope, unwind_scope, root_scope, scope, carried, Name, indexed}
 use Rattle.semantics.specs.Log.{e1001, e1002, finding, found, missing, bound, Write, write, Event, open', bind, carry, answer, find, scopes_in, binds_in, carries_in, answers_in, finds_in, logs}
 use Rattle.semantics.specs.World.{World, hush, variable, opens, yield_name, name_of, kind_of, world_of}
 use Rattle.semantics.specs.Resolve.{Hit, hit, Pair, pair, State, lookup, binds, say, say_if, enter, bind_name, bind_over, leave, standing, use_var, use_name, visit, bind_anew, bind_new, bind_path, bind_elem, resolve, resolves, bind_pattern, carried_by, carry_all, bind_all, barrier, fresh, yields, aliases, sort_by, clause, clauses, arms, start, run, log}
@@ -107,7 +107,7 @@ unfolding say_if
 if-few true e s = one_more e s.log
 if-few false e s = omega arith
 
-bind-few : (x v k : ℕ) (s : State) → said (bind_name x v k s) ≤ suc (said s)
+bind-few : (x : Name) (v k : ℕ) (s : State) → said (bind_name x v k s) ≤ suc (said s)
 bind-few x v k s = one_more (bind false (binds s.cur x s.visible) (bound s.cur x v k)) s.log
 
 enter-few : (k a b : ℕ) (s : State) → said (enter k a b s) ≤ suc (said s)
@@ -122,7 +122,7 @@ module _ (w : World) where
   name-few : (x : ℕ) (o : Option Hit) (s : State) → said (use_name w x o s) ≤ suc (suc (said s))
   unfolding use_name
   name-few x (Some (hit v u)) s = omega (arith, one_more (answer (write (w.id x) (found v (kind_of w v) u))) s.log)
-  name-few x None s = omega (arith, one_more (answer (write (w.id x) missing)) s.log, if-few (not (w.is_star x)) (find (finding e1001 0 0 (suc x) 0 0)) (say (answer (write (w.id x) missing)) s))
+  name-few x None s = omega (arith, one_more (answer (write (w.id x) missing)) s.log, if-few (not (w.is_star x)) (find (finding e1001 0 0 (Some (indexed x)) 0 0)) (say (answer (write (w.id x) missing)) s))
 
   -- a hushed name says nothing
   visit-few : (hushed : Bool) (x : ℕ) (o : Option Hit) (s : State) → said (visit w hushed x o s) ≤ suc (suc (said s))
@@ -130,16 +130,16 @@ module _ (w : World) where
   visit-few true x o s = omega arith
   visit-few false x o s = name-few x o s
 
-  anew-few : (a b x v k : ℕ) (s : State) → said (bind_anew w a b x v k s) ≤ suc (suc (said s))
+  anew-few : (a b : ℕ) (x : Name) (v k : ℕ) (s : State) → said (bind_anew w a b x v k s) ≤ suc (suc (said s))
   unfolding bind_anew
-  anew-few a b x v k s = omega (arith, bind-few x v k s, if-few (w.warns && binds s.cur x s.visible) (find (finding e1002 a b (suc x) 0 0)) (bind_name x v k s))
+  anew-few a b x v k s = omega (arith, bind-few x v k s, if-few (w.warns && binds s.cur x s.visible) (find (finding e1002 a b (Some x) 0 0)) (bind_name x v k s))
 
   path-few : (p : Option ℕ) (s : State) → said (bind_path w (variable p) s) ≤ length (maybe_words p) + said s
   unfolding bind_path variable maybe_words
   path-few (Some v) s = omega (arith, anew-few 0 0 (name_of w v) v path_kind s)
   path-few None s = omega arith
 
-  new-few : (o : Option Hit) (x v k : ℕ) (s : State) → said (bind_new w o x v k s) ≤ 1 + said s
+  new-few : (o : Option Hit) (x : Name) (v k : ℕ) (s : State) → said (bind_new w o x v k s) ≤ 1 + said s
   unfolding bind_new
   new-few None x v k s = omega (arith, bind-few x v k s)
   new-few (Some u) x v k s = omega arith
@@ -161,7 +161,7 @@ module _ (v w : World) where
 
     pub few-E : (t : Expr) (d : Setting) (s : State) → said (resolve v t s) + length (kinds_e w t d) ≤ length (write_e t) + said s
     few-E (var u) d s = omega (arith, var-few v u (v.row u) s, row-few d (w.row u))
-    few-E (unresolved x) d s = omega (arith, visit-few v (v.hushed x) x (lookup x s.visible) s)
+    few-E (unresolved x) d s = omega (arith, visit-few v (v.hushed x) x (lookup (indexed x) s.visible) s)
     few-E (node f es) d s = simp length-append (omega (arith, form-words f, type-few d (type_of f), few-Es es (settings w.is_id f d) s))
     few-E (predicate p) d s = simp length-append (omega (arith, type-few d pattern_type, nothing_said, few-S p nowhere))
     few-E (comprehension a b p es) d s =
@@ -203,7 +203,7 @@ module _ (w : World) where
   yields-few : (a b : ℕ) (ys : List Yield) (s : State) → said (yields w a b ys s) ≤ length (flat_map write_yield ys) + said s
   unfolding yields write_yield flat_map
   yields-few a b [] s = omega arith
-  yields-few a b (yield x y v ∷ ys) s = omega (arith, anew-few w a b (yield_name x y) v value_kind s, yields-few a b ys (bind_anew w a b (yield_name x y) v value_kind s))
+  yields-few a b (yield x y v ∷ ys) s = omega (arith, anew-few w a b (indexed (yield_name x y)) v value_kind s, yields-few a b ys (bind_anew w a b (indexed (yield_name x y)) v value_kind s))
 
   -- Clauses.
   pub few-C : (t : Clause) (s : State) → ClauseFits w t s

@@ -4,15 +4,15 @@
 -- not visible.
 use Rattle.std.specs.Prelude.{Option, None, Some}
 use Prim.Native.Nat.{ℕ}
-use mathlib.Core.Path.{◌≡◌, refl, sym, ◌∙◌, ap, ap₂}
+use mathlib.Core.Path.{◌≡◌, refl, sym, ◌∙◌, ap, ap₂, subst}
 use mathlib.Core.Logic.{◌↔◌, ◌⊎◌, inl, inr}
 use mathlib.Core.Bool.{Bool, true, false, cond, not, ◌&&◌}
 use mathlib.Core.List.Memᴰ
 use mathlib.Core.List.{List, [], ◌∷◌, ◌++◌, map, flat_map, reverse, reverse_aux, reverse-cons, append-nil, append_assoc, Memᴰ}
 use native.Mathlib.Omega.{arith}
-use lib.Dec.{eqb}
+use lib.Dec.{T}
 use borrow.Author.Tests.{eqb-true, eq-eqb}
-use Rattle.scope.specs.Graph.{Scope}
+use Rattle.scope.specs.Graph.{Scope, Name, indexed, same_name}
 use Rattle.scope.specs.Lookup.{at}
 use Rattle.words.specs.Fnv.{use_id}
 use Rattle.heads.specs.Answer.{is_in}
@@ -26,6 +26,8 @@ use Rattle.semantics.specs.Resolve.{Hit, hit, variable_of, Seen, seen, State, lo
 use Rattle.semantics.specs.Kinds.{kinds}
 use Rattle.semantics.specs.Lists.{scopes, findings}
 use Rattle.theorems.specs.Uses.{Use, by_var, by_name, Lacks, lacks, seen_as, recorded_as, e1001, of_row, record_of, unresolved_of, uses, coded, with_code, unresolved_as, unresolved_in, Arises, OfUses}
+use Rattle.theorems.proofs.Tests.{holds}
+use Rattle.theorems.proofs.Names.{same→eq, eq→same}
 use Rattle.theorems.proofs.Views.{pick-append}
 use Rattle.theorems.proofs.Codes.{kinds-no-1001}
 use Rattle.theorems.proofs.Walked.{its-finding, use_says, Aside, other_scope, inner_scope, binding, carrying, repeating, Walked, none', says, meets, walked}
@@ -38,10 +40,10 @@ unfoldable is_none : Option Hit → Bool
 is_none None = true
 is_none (Some v) = false
 
-lacks-lookup : (x : ℕ) (vis : List Seen) → lacks x vis ≡ is_none (lookup x vis)
+lacks-lookup : (x : Name) (vis : List Seen) → lacks x vis ≡ is_none (lookup x vis)
 unfolding lacks lookup is_none
 lacks-lookup x [] = refl
-lacks-lookup x (seen y v r ∷ vis) = go (eqb x y) (lacks-lookup x vis)
+lacks-lookup x (seen y v r ∷ vis) = go (same_name x y) (lacks-lookup x vis)
   where
     go : (b : Bool) → lacks x vis ≡ is_none (lookup x vis) → (not b && lacks x vis) ≡ is_none (cond b (Some v) (lookup x vis))
     go true ih = refl
@@ -52,29 +54,29 @@ unfolding is_none
 is-none None = (λ e. refl, λ e. refl)
 is-none (Some v) = (λ e. never (cc), λ e. never (cc))
 
-test-lacks : (x : ℕ) (vis : List Seen) → lacks x vis ≡ true → Lacks x vis
+test-lacks : (x : Name) (vis : List Seen) → lacks x vis ≡ true → Lacks x vis
 unfolding lacks
 test-lacks x [] e v p m = Memᴰ.not-nil m
-test-lacks x (seen y u r ∷ vis) e v p m = go (eqb x y) (eq-eqb x y) (test-lacks x vis) e (Memᴰ.cases_cons m)
+test-lacks x (seen y u r ∷ vis) e v p m = go (same_name x y) (λ p. holds (same_name x y) (eq→same x y p)) (test-lacks x vis) e (Memᴰ.cases_cons m)
   where
     go : (b : Bool) → (x ≡ y → b ≡ true) → (lacks x vis ≡ true → Lacks x vis) → (not b && lacks x vis) ≡ true → (seen x v p ≡ seen y u r) ⊎ Memᴰ (seen x v p) vis → ⊥
     go true o ih e m = never (cc)
     go false o ih e (inl q) = let h : x ≡ y = cc in never (cc (o h))
     go false o ih e (inr m) = ih e v p m
 
-lacks-test : (x : ℕ) (vis : List Seen) → Lacks x vis → lacks x vis ≡ true
+lacks-test : (x : Name) (vis : List Seen) → Lacks x vis → lacks x vis ≡ true
 unfolding lacks
 lacks-test x [] h = refl
-lacks-test x (seen y u r ∷ vis) h = go (eqb x y) (eqb-true x y) (lacks-test x vis (λ v p m. h v p (Memᴰ.tail m)))
+lacks-test x (seen y u r ∷ vis) h = go (same_name x y) (λ p. same→eq x y (subst T (sym p) tt)) (lacks-test x vis (λ v p m. h v p (Memᴰ.tail m)))
   where
     go : (b : Bool) → (b ≡ true → x ≡ y) → lacks x vis ≡ true → (not b && lacks x vis) ≡ true
     go true p ih = absurd (h u r (Memᴰ.head (ap (λ z. seen z u r) (p refl))))
     go false p ih = ih
 
-pub lacking : (x : ℕ) (vis : List Seen) → (lacks x vis ≡ true) ↔ Lacks x vis
+pub lacking : (x : Name) (vis : List Seen) → (lacks x vis ≡ true) ↔ Lacks x vis
 lacking x vis = (test-lacks x vis, lacks-test x vis)
 
-pub lookup-none : (x : ℕ) (vis : List Seen) → (lookup x vis ≡ None) ↔ Lacks x vis
+pub lookup-none : (x : Name) (vis : List Seen) → (lookup x vis ≡ None) ↔ Lacks x vis
 lookup-none x vis = (
   λ e. test-lacks x vis (lacks-lookup x vis ∙ (is-none (lookup x vis)).1 e),
   λ h. (is-none (lookup x vis)).0 (sym (lacks-lookup x vis) ∙ lacks-test x vis h),
@@ -98,7 +100,7 @@ module _ (warns : Bool) (st : Statement) (x : ℕ) (vis : List Seen) where
   abbrev its-record : Write
   its-record = write (use_id (bytes_of st x)) missing
 
-  arises-missing : (b : Bool) → (b ≡ true) ↔ (bytes_of st x ≡ 42 ∷ []) → Lacks x vis → Arises st x vis (answer its-record ∷ cond b [] (find (its-finding x) ∷ []))
+  arises-missing : (b : Bool) → (b ≡ true) ↔ (bytes_of st x ≡ 42 ∷ []) → Lacks (indexed x) vis → Arises st x vis (answer its-record ∷ cond b [] (find (its-finding x) ∷ []))
   arises-missing true s h = record {
     finds = λ f. (λ m. never (let e = Memᴰ.eq_of_singleton m in cc), λ p. absurd (p.2 (s.0 refl)));
     records = λ i. (λ m. (let e = Memᴰ.eq_of_singleton m in cc, h), λ p. Memᴰ.head (ap (λ z. answer (write z missing)) p.0));
@@ -130,7 +132,7 @@ module _ (warns : Bool) (st : Statement) (x : ℕ) (vis : List Seen) where
       either true a e = unfold say_if in refl
       either false a e = unfold say_if in refl
 
-  arises-at : (o : Option Hit) → (o ≡ None) ↔ Lacks x vis → Arises st x vis (reverse (use_name w x o nought).log)
+  arises-at : (o : Option Hit) → (o ≡ None) ↔ Lacks (indexed x) vis → Arises st x vis (reverse (use_name w x o nought).log)
   unfolding use_name world_of
   arises-at (Some (hit v u)) h = record {
     finds = λ f. (λ m. never (let e = Memᴰ.eq_of_singleton m in cc), λ p. never (let e = h.1 p.1 in cc));
@@ -141,12 +143,12 @@ module _ (warns : Bool) (st : Statement) (x : ℕ) (vis : List Seen) where
   -- In a state where vis is visible and nothing was said yet; and so where other names are hushed.
   pub arises : (cur last : ℕ) → Arises st x vis (reverse (resolve w (unresolved x) (record { visible = vis; cur = cur; last = last; log = [] })).log)
   unfolding resolve visit world_of
-  arises cur last = rw (same_log (lookup x vis) cur last) (arises-at (lookup x vis) (lookup-none x vis))
+  arises cur last = rw (same_log (lookup (indexed x) vis) cur last) (arises-at (lookup (indexed x) vis) (lookup-none (indexed x) vis))
 
   pub arises-hushed : (xs : List ℕ) → is_in x xs ≡ false → (cur last : ℕ)
       → Arises st x vis (reverse (resolve (hush xs w) (unresolved x) (record { visible = vis; cur = cur; last = last; log = [] })).log)
   unfolding resolve visit
-  arises-hushed xs e cur last = rw e (unfold use_name kind_of in rw (same_log (lookup x vis) cur last) (arises-at (lookup x vis) (lookup-none x vis)))
+  arises-hushed xs e cur last = rw e (unfold use_name kind_of in rw (same_log (lookup (indexed x) vis) cur last) (arises-at (lookup (indexed x) vis) (lookup-none (indexed x) vis)))
 
 -- Over a statement: the views of the log that pass over all but the uses.
 abbrev finds_of : Event → List Finding
@@ -172,13 +174,13 @@ finds-of (a ∷ ws) x b = finds-of ws x b
 
 module _ (w : World) (ss : List Scope) where
   name-unresolved : (x : ℕ) (vis : List Seen)
-      → flat_map unresolved_as (write (w.id x) (recorded_as w ss (seen_as x vis)) ∷ []) ≡ cond (lacks x vis) (write (w.id x) missing ∷ []) []
+      → flat_map unresolved_as (write (w.id x) (recorded_as w ss (seen_as (indexed x) vis)) ∷ []) ≡ cond (lacks (indexed x) vis) (write (w.id x) missing ∷ []) []
   unfolding seen_as recorded_as unresolved_as lacks flat_map
   name-unresolved x [] = refl
-  name-unresolved x (seen y h p ∷ vis) = go (eqb x y) (name-unresolved x vis)
+  name-unresolved x (seen y h p ∷ vis) = go (same_name (indexed x) y) (name-unresolved x vis)
     where
-      go : (b : Bool) → flat_map unresolved_as (write (w.id x) (recorded_as w ss (seen_as x vis)) ∷ []) ≡ cond (lacks x vis) (write (w.id x) missing ∷ []) []
-          → flat_map unresolved_as (write (w.id x) (recorded_as w ss (cond b (at (variable_of h) p) (seen_as x vis))) ∷ []) ≡ cond (not b && lacks x vis) (write (w.id x) missing ∷ []) []
+      go : (b : Bool) → flat_map unresolved_as (write (w.id x) (recorded_as w ss (seen_as (indexed x) vis)) ∷ []) ≡ cond (lacks (indexed x) vis) (write (w.id x) missing ∷ []) []
+          → flat_map unresolved_as (write (w.id x) (recorded_as w ss (cond b (at (variable_of h) p) (seen_as (indexed x) vis))) ∷ []) ≡ cond (not b && lacks (indexed x) vis) (write (w.id x) missing ∷ []) []
       go true e = refl
       go false e = e
 

@@ -10,7 +10,7 @@ use mathlib.Core.Bool.{Bool, true, false, cond, ◌&&◌}
 use mathlib.Core.List.{List, [], ◌∷◌, ◌++◌, reverse}
 use lib.Dec.{eqb}
 use lib.ListN.{length}
-use Rattle.scope.specs.Graph.{return_scope, with_barrier, call_scope, unwind_scope, root_scope, Scope, scope}
+use Rattle.scope.specs.Graph.{return_scope, with_barrier, call_scope, unwind_scope, root_scope, Scope, scope, Name, indexed}
 use Rattle.scope.specs.Lookup.{parent_at, kind_at}
 use Rattle.expr.specs.Tree.{done, Steps, end, part, elem}
 use Rattle.clauses.specs.Tree.{Yield, yield, Clause, opening, reading, with', return, unwind, call, exprs, keys_of}
@@ -76,16 +76,16 @@ module _ (L : List Event) where
   pub ahead-V : {s t : State} → Marked s → Marked t → Marked (standing (t.visible ++ s.visible) t.cur t)
   ahead-V {s} {t} h n = record { marks = marks-join t.visible s.visible n.marks h.marks; kind = n.kind }
 
-  bind-V : (over : Bool) (x v k : ℕ) {s : State} → Binds over s → Binds over (bind_over over x v k s)
+  bind-V : (over : Bool) (x : Name) (v k : ℕ) {s : State} → Binds over s → Binds over (bind_over over x v k s)
   unfolding Marks
   bind-V over x v k h = record { marked = record { marks = (h.via, h.marked.marks); kind = h.marked.kind }; via = h.via }
 
   module _ (w : World) where
-    anew-V : (a b x v k : ℕ) {s : State} → Binds false s → Binds false (bind_anew w a b x v k s)
+    anew-V : (a b : ℕ) (x : Name) (v k : ℕ) {s : State} → Binds false s → Binds false (bind_anew w a b x v k s)
     unfolding bind_anew
-    anew-V a b x v k {s} h = still (say_if-keeps (w.warns && binds s.cur x s.visible) (find (finding e1002 a b (suc x) 0 0)) (bind_name x v k s)) (bind-V false x v k h)
+    anew-V a b x v k {s} h = still (say_if-keeps (w.warns && binds s.cur x s.visible) (find (finding e1002 a b (Some x) 0 0)) (bind_name x v k s)) (bind-V false x v k h)
 
-    new-V : (o : Option Hit) (x v k : ℕ) {s : State} → Binds false s → Binds false (bind_new w o x v k s)
+    new-V : (o : Option Hit) (x : Name) (v k : ℕ) {s : State} → Binds false s → Binds false (bind_new w o x v k s)
     unfolding bind_new
     new-V None x v k h = bind-V false x v k h
     new-V (Some u) x v k h = h
@@ -109,7 +109,7 @@ module _ (L : List Event) where
     yields-V : (a b : ℕ) (ys : List Yield) {s : State} → Binds false s → Binds false (yields w a b ys s)
     unfolding yields
     yields-V a b [] h = h
-    yields-V a b (yield x y v ∷ ys) h = yields-V a b ys (anew-V a b (yield_name x y) v value_kind h)
+    yields-V a b (yield x y v ∷ ys) h = yields-V a b ys (anew-V a b (indexed (yield_name x y)) v value_kind h)
 
     pairs-V : (ps : List Pair) {s : State} → Binds true s → Binds true (bind_all w ps s)
     unfolding bind_all

@@ -11,7 +11,7 @@ use mathlib.Core.Path.{◌≡◌, refl, sym, ◌∙◌, ap, subst}
 use mathlib.Core.Bool.{Bool, true, false, cond, not, ◌&&◌}
 use mathlib.Core.List.{List, [], ◌∷◌, ◌++◌, map, reverse_aux}
 use lib.Dec.{eqb}
-use Rattle.scope.specs.Graph.{return_scope, with_barrier, call_scope, root_scope, comprehension_scope, scope, Carried}
+use Rattle.scope.specs.Graph.{return_scope, with_barrier, call_scope, root_scope, comprehension_scope, scope, Carried, Name, indexed, same_name}
 use Rattle.scope.specs.Lookup.{Looked, at}
 use Rattle.heads.specs.Answer.{is_in}
 use Rattle.expr.specs.Tree.{Expr, var, unresolved, node, predicate, comprehension, Exprs, done, more, mark, Steps, end, part, elem}
@@ -36,7 +36,7 @@ use Rattle.theorems.proofs.Vias.{Marks, Marked, Binds, kept, still, enter-V, ahe
 
 -- E1001 at a name
 abbrev pub its-finding : ℕ → Finding
-its-finding x = finding Log.e1001 0 0 (suc x) 0 0
+its-finding x = finding Log.e1001 0 0 (Some (indexed x)) 0 0
 
 module _ (warns : Bool) (st : Statement) where
   abbrev pub W : World
@@ -70,7 +70,7 @@ module _ (warns : Bool) (st : Statement) where
     inner_scope : (v : Sight) (s : State) {a b : ℕ} (q : Steps) → Inner all v.world v.beyond s a b q → Aside (open' (scope comprehension_scope (Some s.cur) a b)) s.log
     binding : {o g : Bool} {b : Bound} {l : List Event} → Aside (bind o g b) l
     carrying : {c : Carried} {l : List Event} → Aside (carry c) l
-    repeating : {a b x : ℕ} {l : List Event} → Aside (find (finding e1002 a b x 0 0)) l
+    repeating : {a b : ℕ} {x : Option Name} {l : List Event} → Aside (find (finding e1002 a b x 0 0)) l
 
   pub data Stood : Use → List Event → Type 0 where
     of_var : {v : ℕ} {l : List Event} → Stood (by_var v) l
@@ -88,21 +88,21 @@ module _ (warns : Bool) (st : Statement) where
 
   -- Steps without uses.
   module _ (w : World) where
-    walk-if : (b : Bool) (i j x : ℕ) (s : State) → Walked s.log [] (say_if b (find (finding e1002 i j x 0 0)) s).log
+    walk-if : (b : Bool) (i j : ℕ) (x : Option Name) (s : State) → Walked s.log [] (say_if b (find (finding e1002 i j x 0 0)) s).log
     unfolding say_if
     walk-if true i j x s = says repeating none'
     walk-if false i j x s = none'
 
-    walk-anew : (i j x v k : ℕ) (s : State) → Walked s.log [] (bind_anew w i j x v k s).log
+    walk-anew : (i j : ℕ) (x : Name) (v k : ℕ) (s : State) → Walked s.log [] (bind_anew w i j x v k s).log
     unfolding bind_anew
-    walk-anew i j x v k s = says binding (walk-if _ i j (suc x) (bind_name x v k s))
+    walk-anew i j x v k s = says binding (walk-if _ i j (Some x) (bind_name x v k s))
 
     walk-path : (o : Option ℕ) (s : State) → Walked s.log [] (bind_path w o s).log
     unfolding bind_path
     walk-path None s = none'
     walk-path (Some v) s = walk-anew 0 0 (name_of w v) v path_kind s
 
-    walk-new : (o : Option Hit) (x v k : ℕ) (s : State) → Walked s.log [] (bind_new w o x v k s).log
+    walk-new : (o : Option Hit) (x : Name) (v k : ℕ) (s : State) → Walked s.log [] (bind_new w o x v k s).log
     unfolding bind_new
     walk-new None x v k s = says binding none'
     walk-new (Some u) x v k s = none'
@@ -125,7 +125,7 @@ module _ (warns : Bool) (st : Statement) where
     walk-yields : (a b : ℕ) (ys : List Yield) (s : State) → Walked s.log [] (yields w a b ys s).log
     unfolding yields
     walk-yields a b [] s = none'
-    walk-yields a b (yield x y v ∷ ys) s = then (walk-anew a b (yield_name x y) v value_kind s) (walk-yields a b ys _)
+    walk-yields a b (yield x y v ∷ ys) s = then (walk-anew a b (indexed (yield_name x y)) v value_kind s) (walk-yields a b ys _)
 
   opening-other : (o : Opening) → eqb (opens o) comprehension_scope ≡ false
   unfolding opens
@@ -146,7 +146,7 @@ module _ (warns : Bool) (st : Statement) where
   abbrev name_says : ℕ → Looked → Bool → List Event
   name_says x k b = answer (write (W.id x) (recorded_as W (scopes warns st) k)) ∷ map find (cond (b && not (W.is_star x)) (its-finding x ∷ []) [])
 
-  name-said : (xs : List ℕ) (x p : ℕ) (vis : List Seen) → Marks all vis → (s : State) → (use_name (hush xs W) x (lookup x vis) s).log ≡ reverse_aux (use_says (by_name x p vis)) s.log
+  name-said : (xs : List ℕ) (x p : ℕ) (vis : List Seen) → Marks all vis → (s : State) → (use_name (hush xs W) x (lookup (indexed x) vis) s).log ≡ reverse_aux (use_says (by_name x p vis)) s.log
   unfolding use_name lookup seen_as recorded_as variable_of kind_of Marks record_of e1001 lacks scopes log
   name-said xs x p [] m s = go (W.is_star x)
     where
@@ -154,10 +154,10 @@ module _ (warns : Bool) (st : Statement) where
           ≡ reverse_aux (map find (cond (not b) (its-finding x ∷ []) [])) (answer (write (W.id x) missing) ∷ s.log)
       go true = unfold say_if in refl
       go false = unfold say_if in refl
-  name-said xs x p (seen y (hit v o) q ∷ vis) m s = go (eqb x y) (name-said xs x p vis m.1 s)
+  name-said xs x p (seen y (hit v o) q ∷ vis) m s = go (same_name (indexed x) y) (name-said xs x p vis m.1 s)
     where
-      go : (b : Bool) → (use_name (hush xs W) x (lookup x vis) s).log ≡ reverse_aux (name_says x (seen_as x vis) (lacks x vis)) s.log
-          → (use_name (hush xs W) x (cond b (Some (hit v o)) (lookup x vis)) s).log ≡ reverse_aux (name_says x (cond b (at v q) (seen_as x vis)) (not b && lacks x vis)) s.log
+      go : (b : Bool) → (use_name (hush xs W) x (lookup (indexed x) vis) s).log ≡ reverse_aux (name_says x (seen_as (indexed x) vis) (lacks (indexed x) vis)) s.log
+          → (use_name (hush xs W) x (cond b (Some (hit v o)) (lookup (indexed x) vis)) s).log ≡ reverse_aux (name_says x (cond b (at v q) (seen_as (indexed x) vis)) (not b && lacks (indexed x) vis)) s.log
       go true e = ap (λ i. answer (write (W.id x) (found v (kind_of W v) i)) ∷ s.log) (sym m.0)
       go false e = e
 
@@ -176,12 +176,12 @@ module _ (warns : Bool) (st : Statement) where
     walk-var u s = walk-use (by_var u) of_var (ap (λ (k : World). (use_var k u (k.row u) s).log) v.known ∙ var-said v.hushed u s)
 
     walk-visit : (hushed : Bool) (x : ℕ) {s : State} → Shows [] far s → Marked all s
-        → Walked s.log (cond hushed [] (by_name x s.cur s.visible ∷ [])) (visit w hushed x (lookup x s.visible) s).log
+        → Walked s.log (cond hushed [] (by_name x s.cur s.visible ∷ [])) (visit w hushed x (lookup (indexed x) s.visible) s).log
     unfolding visit
     walk-visit true x h n = none'
     walk-visit false x {s} h n =
         walk-use (by_name x s.cur s.visible) (of_name v s h)
-        (ap (λ (k : World). (use_name k x (lookup x s.visible) s).log) v.known ∙ name-said v.hushed x s.cur s.visible n.marks s)
+        (ap (λ (k : World). (use_name k x (lookup (indexed x) s.visible) s).log) v.known ∙ name-said v.hushed x s.cur s.visible n.marks s)
 
     mutual
       unfolding resolve uses_e all_le

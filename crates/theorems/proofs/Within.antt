@@ -12,7 +12,7 @@ use native.Mathlib.Omega.{arith}
 use mathlib.Core.Path.{◌≡◌, refl, ◌∙◌}
 use mathlib.Core.Bool.{Bool, true, false, not, ◌&&◌}
 use mathlib.Core.List.{List, [], ◌∷◌, ◌++◌, reverse_aux}
-use Rattle.scope.specs.Graph.{comprehension_scope, return_scope, with_barrier, call_scope, unwind_scope, root_scope, carried}
+use Rattle.scope.specs.Graph.{comprehension_scope, return_scope, with_barrier, call_scope, unwind_scope, root_scope, carried, Name, indexed}
 use Rattle.expr.specs.Tree.{Expr, var, unresolved, node, predicate, comprehension, Exprs, done, more, mark, Steps, end, part, elem}
 use Rattle.clauses.specs.Tree.{Yield, yield, Clause, opening, reading, with', return, unwind, call, Arm, arm, exprs, keys_of}
 use Rattle.tables.specs.Row.{value_kind, path_kind, Row, row}
@@ -91,11 +91,11 @@ module _ (w : World) (lo z : ℕ) where
   find-W true f h = still refl refl (record { within = cons tt h.within; count = h.count; low = h.low })
   find-W false f h = still refl refl h
 
-  pub carry-W : (x v : ℕ) {s : State} → lo < s.cur → s.cur ≤ s.last → Fine s → Fine (say (carry (carried s.cur x v)) s)
+  pub carry-W : (x : Name) (v : ℕ) {s : State} → lo < s.cur → s.cur ≤ s.last → Fine s → Fine (say (carry (carried s.cur x v)) s)
   unfolding inside logs
   carry-W x v {s} p q h = record { within = cons {e = carry (carried s.cur x v)} (p, q) h.within; count = h.count; low = h.low }
 
-  pub bind-W : (over : Bool) (x v k : ℕ) {s : State} → lo < s.cur → s.cur ≤ s.last → Fine s → Runs s (bind_over over x v k s)
+  pub bind-W : (over : Bool) (x : Name) (v k : ℕ) {s : State} → lo < s.cur → s.cur ≤ s.last → Fine s → Runs s (bind_over over x v k s)
   unfolding inside logs
   bind-W over x v k {s} p q h = still refl refl (record { within = cons {e = bind over (binds s.cur x s.visible) (bound s.cur x v k)} (p, q) h.within; count = h.count; low = h.low })
 
@@ -107,18 +107,18 @@ module _ (w : World) (lo z : ℕ) where
   name-W : (x : ℕ) (o : Option Hit) {s : State} → Fine s → Runs s (use_name w x o s)
   unfolding use_name
   name-W x (Some (hit v u)) h = still refl refl (answer-W _ h)
-  name-W x None {s} h = then (still refl refl (answer-W _ h)) (find-W (not (w.is_star x)) (finding e1001 0 0 (suc x) 0 0) (answer-W _ h))
+  name-W x None {s} h = then (still refl refl (answer-W _ h)) (find-W (not (w.is_star x)) (finding e1001 0 0 (Some (indexed x)) 0 0) (answer-W _ h))
 
   visit-W : (hushed : Bool) (x : ℕ) (o : Option Hit) {s : State} → Fine s → Runs s (visit w hushed x o s)
   unfolding visit
   visit-W true x o h = still refl refl h
   visit-W false x o h = name-W x o h
 
-  pub anew-W : (a b x v k : ℕ) {s : State} → lo < s.cur → s.cur ≤ s.last → Fine s → Runs s (bind_anew w a b x v k s)
+  pub anew-W : (a b : ℕ) (x : Name) (v k : ℕ) {s : State} → lo < s.cur → s.cur ≤ s.last → Fine s → Runs s (bind_anew w a b x v k s)
   unfolding bind_anew
-  anew-W a b x v k {s} p q h = let g = bind-W false x v k p q h in then g (find-W (w.warns && binds s.cur x s.visible) (finding e1002 a b (suc x) 0 0) g.fine)
+  anew-W a b x v k {s} p q h = let g = bind-W false x v k p q h in then g (find-W (w.warns && binds s.cur x s.visible) (finding e1002 a b (Some x) 0 0) g.fine)
 
-  pub new-W : (o : Option Hit) (x v k : ℕ) {s : State} → lo < s.cur → s.cur ≤ s.last → Fine s → Runs s (bind_new w o x v k s)
+  pub new-W : (o : Option Hit) (x : Name) (v k : ℕ) {s : State} → lo < s.cur → s.cur ≤ s.last → Fine s → Runs s (bind_new w o x v k s)
   unfolding bind_new
   new-W None x v k p q h = bind-W false x v k p q h
   new-W (Some u) x v k p q h = still refl refl h
@@ -138,7 +138,7 @@ module _ (w : World) (lo z : ℕ) where
 
     pub resolve-W : (t : Expr) {s : State} → Fine s → Runs s (resolve w t s)
     resolve-W (var v) h = var-W v (w.row v) h
-    resolve-W (unresolved x) {s} h = visit-W (w.hushed x) x (lookup x s.visible) h
+    resolve-W (unresolved x) {s} h = visit-W (w.hushed x) x (lookup (indexed x) s.visible) h
     resolve-W (node f es) h = resolves-W es h
     resolve-W (predicate p) h = still refl refl h
     resolve-W (comprehension a b p es) {s} h =
@@ -175,7 +175,7 @@ module _ (w : World) (lo z : ℕ) where
   unfolding yields
   yields-W a b [] p q h = still refl refl h
   yields-W a b (yield x y v ∷ ys) p q h =
-      let g = anew-W a b (yield_name x y) v value_kind p q h in
+      let g = anew-W a b (indexed (yield_name x y)) v value_kind p q h in
       then g (yields-W a b ys (omega (arith, g.cur)) (omega (arith, g.cur, g.later)) g.fine)
 
   pub barrier-W : (a b : ℕ) (ps : List Pair) {s : State} → Fine s → Fine (barrier w a b ps s)

@@ -11,7 +11,7 @@ use mathlib.Core.Path.{◌≡◌, refl, sym, ◌∙◌, ap, ap₂}
 use mathlib.Core.Bool.{Bool, true, false, not, ◌&&◌}
 use mathlib.Core.List.{List, [], ◌∷◌, ◌++◌, reverse, reverse_aux}
 use lib.Dec.{eqb}
-use Rattle.scope.specs.Graph.{comprehension_scope, return_scope, with_barrier, call_scope, unwind_scope, root_scope, scope, Carried, carried}
+use Rattle.scope.specs.Graph.{comprehension_scope, return_scope, with_barrier, call_scope, unwind_scope, root_scope, scope, Carried, carried, Name, indexed}
 use Rattle.expr.specs.Tree.{Expr, var, unresolved, node, predicate, comprehension, Exprs, done, more, mark, Steps, end, part, elem}
 use Rattle.clauses.specs.Tree.{Opening, match, create, merge, Yield, yield, Clause, opening, reading, with', return, unwind, call, Arm, arm, exprs, keys_of}
 use Rattle.tables.specs.Row.{value_kind, path_kind, Row, row}
@@ -158,7 +158,7 @@ module _ (kind : ℕ → ℕ) (w : World) where
   find-V true f h = record { weaves = λ l cs p. h.weaves (find f ∷ l) cs p }
   find-V false f h = h
 
-  bind-V : (x v k : ℕ) {s : State} → Weaves kind s → Weaves kind (bind_name x v k s)
+  bind-V : (x : Name) (v k : ℕ) {s : State} → Weaves kind s → Weaves kind (bind_name x v k s)
   unfolding written logs woven
   bind-V x v k {s} h = record { weaves = λ l cs p. h.weaves (bind false (binds s.cur x s.visible) (bound s.cur x v k) ∷ l) cs p }
 
@@ -178,18 +178,18 @@ module _ (kind : ℕ → ℕ) (w : World) where
   unfolding visit use_name
   visit-V true x o h = h
   visit-V false x (Some (hit v u)) h = answer-V _ h
-  visit-V false x None h = find-V (not (w.is_star x)) (finding e1001 0 0 (suc x) 0 0) (answer-V _ h)
+  visit-V false x None h = find-V (not (w.is_star x)) (finding e1001 0 0 (Some (indexed x)) 0 0) (answer-V _ h)
 
-  anew-V : (a b x v k : ℕ) {s : State} → Weaves kind s → Weaves kind (bind_anew w a b x v k s)
+  anew-V : (a b : ℕ) (x : Name) (v k : ℕ) {s : State} → Weaves kind s → Weaves kind (bind_anew w a b x v k s)
   unfolding bind_anew
-  anew-V a b x v k {s} h = find-V (w.warns && binds s.cur x s.visible) (finding e1002 a b (suc x) 0 0) (bind-V x v k h)
+  anew-V a b x v k {s} h = find-V (w.warns && binds s.cur x s.visible) (finding e1002 a b (Some x) 0 0) (bind-V x v k h)
 
   path-V : (o : Option ℕ) {s : State} → Weaves kind s → Weaves kind (bind_path w o s)
   unfolding bind_path
   path-V None h = h
   path-V (Some v) h = anew-V 0 0 (name_of w v) v path_kind h
 
-  new-V : (o : Option Hit) (x v k : ℕ) {s : State} → Weaves kind s → Weaves kind (bind_new w o x v k s)
+  new-V : (o : Option Hit) (x : Name) (v k : ℕ) {s : State} → Weaves kind s → Weaves kind (bind_new w o x v k s)
   unfolding bind_new
   new-V None x v k h = bind-V x v k h
   new-V (Some u) x v k h = h
@@ -204,7 +204,7 @@ module _ (kind : ℕ → ℕ) (w : World) where
 
     resolve-V : (t : Expr) {s : State} → Weaves kind s → Weaves kind (resolve w t s)
     resolve-V (var v) h = var-V v (w.row v) h
-    resolve-V (unresolved x) {s} h = visit-V (w.hushed x) x (lookup x s.visible) h
+    resolve-V (unresolved x) {s} h = visit-V (w.hushed x) x (lookup (indexed x) s.visible) h
     resolve-V (node f es) h = resolves-V es h
     resolve-V (predicate p) h = h
     resolve-V (comprehension a b p es) {s} h = standing-V s.visible s.cur (resolves-V es (pattern-V p (enter-V comprehension_scope a b refl h)))
@@ -222,7 +222,7 @@ module _ (kind : ℕ → ℕ) (w : World) where
   yields-V : (a b : ℕ) (ys : List Yield) {s : State} → Weaves kind s → Weaves kind (yields w a b ys s)
   unfolding yields
   yields-V a b [] h = h
-  yields-V a b (yield x y v ∷ ys) h = yields-V a b ys (anew-V a b (yield_name x y) v value_kind h)
+  yields-V a b (yield x y v ∷ ys) h = yields-V a b ys (anew-V a b (indexed (yield_name x y)) v value_kind h)
 
 -- What a WITH carries, and what it binds.
 record Carries (n : ℕ) (ps : List Pair) (s t : State) : Type 0 where

@@ -3,7 +3,7 @@
 use mathlib.Core.List.{flat_map}
 use Rattle.std.specs.Prelude.{ℕ, ◌<◌, ◌≡◌, Bool, cond, List, [], ◌∷◌, ◌++◌, reverse, Some}
 use Rattle.words.specs.Fnv.{use_id}
-use Rattle.scope.specs.Graph.{comprehension_scope, scope}
+use Rattle.scope.specs.Graph.{comprehension_scope, scope, Name, indexed}
 use Rattle.scope.specs.Lookup.{Looked, at, nothing, refused, carries, lookup_in}
 use Rattle.expr.specs.Tree.{Steps}
 use Rattle.clauses.specs.Tree.{Clause, Arm, arm}
@@ -17,7 +17,7 @@ use Rattle.theorems.specs.Site.{Site, Stands, before, barrier_of}
 use Rattle.theorems.specs.Uses.{Use, by_name, seen_as, recorded_as, record_of, uses}
 
 -- lookup on the views of a log
-unfoldable pub look : List Event → ℕ → ℕ → Looked
+unfoldable pub look : List Event → ℕ → Name → Looked
 look l = lookup_in (scopes_in l) (puts (binds_in l) []) (carries_in l)
 
 -- a scope's own binding, else what its parent answers
@@ -32,7 +32,7 @@ opened_after l vis = record { visible = vis; cur = opened l; last = opened l; lo
 
 module _ (warns : Bool) (s : Statement) where
   -- lookup on the finished lists
-  unfoldable pub in_lists : ℕ → ℕ → Looked
+  unfoldable pub in_lists : ℕ → Name → Looked
   in_lists = lookup_in (scopes warns s) (bindings warns s) (carried_list warns s)
 
   -- where the walk stands after some clauses of the head, and of an arm
@@ -61,34 +61,34 @@ module _ (warns : Bool) (s : Statement) where
     pub rest : List Event
     pub says : m ≡ reverse (bind_pattern (hush hushed (world_of warns s)) pattern (opened_after l visible)).log ++ rest
     pub lower : p < opened l
-    pub around : (x : ℕ) → look l p x ≡ seen_as x reach
+    pub around : (x : Name) → look l p x ≡ seen_as x reach
     pub own : List Seen
     pub adds : (bind_pattern (hush hushed (world_of warns s)) pattern (opened_after l visible)).visible ≡ own ++ visible
-    pub inside : (x : ℕ) → in_lists (opened l) x ≡ or_parent (seen_as x own) (in_lists p x)
+    pub inside : (x : Name) → in_lists (opened l) x ≡ or_parent (seen_as x own) (in_lists p x)
 
   -- A use of the name x that stands in the scope p, after other uses. Its record comes after the log l, and lookup from p gives then what is
   -- visible there, as far as it reaches; beyond that is nothing, or in a WITH's sort key the list before the WITH. (p may bind more later.)
   pub record Used (earlier : List Use) (x p : ℕ) (visible : List Seen) : Type 0 where
     pub l : List Event
     pub m : List Event
-    pub says : log warns s ≡ l ++ answer (write (use_id (bytes_of s x)) (recorded_as (world_of warns s) (scopes warns s) (seen_as x visible))) ∷ m
+    pub says : log warns s ≡ l ++ answer (write (use_id (bytes_of s x)) (recorded_as (world_of warns s) (scopes warns s) (seen_as (indexed x) visible))) ∷ m
     pub records : answers_in l ≡ flat_map (record_of (world_of warns s) (scopes warns s)) earlier
     pub reach : List Seen
     pub beyond : List Seen
     pub splits : visible ≡ reach ++ beyond
     pub hidden : Beyond beyond
     pub lower : p < opened l
-    pub around : (y : ℕ) → look l p y ≡ seen_as y reach
+    pub around : (y : Name) → look l p y ≡ seen_as y reach
 
   -- Lookup agrees with the walk.
   pub record Agrees : Type 0 where
     -- after some clauses of the head, from the current scope: what is visible there
-    pub head : (before after : List Clause) (x : ℕ) → s.head ≡ before ++ after → in_lists (head_at before).cur x ≡ seen_as x (head_at before).visible
+    pub head : (before after : List Clause) (x : Name) → s.head ≡ before ++ after → in_lists (head_at before).cur x ≡ seen_as x (head_at before).visible
     -- the same in an arm
-    pub arms : (earlier : List Arm) (a b : ℕ) (before after : List Clause) (later : List Arm) (x : ℕ) → s.arms ≡ earlier ++ arm a b (before ++ after) ∷ later
+    pub arms : (earlier : List Arm) (a b : ℕ) (before after : List Clause) (later : List Arm) (x : Name) → s.arms ≡ earlier ++ arm a b (before ++ after) ∷ later
         → in_lists (arm_at earlier before).cur x ≡ seen_as x (arm_at earlier before).visible
     -- from a barrier: what is visible before its WITH, of the names that it carries
-    pub barrier : (p : Site) (x : ℕ) → Stands s p
+    pub barrier : (p : Site) (x : Name) → Stands s p
         → in_lists (barrier_of warns s p) x ≡ cond (carries (carried_list warns s) (barrier_of warns s p) x) (seen_as x (before warns s p).visible) nothing
     -- at each use of a name
     pub used : (earlier later : List Use) (x p : ℕ) (visible : List Seen) → uses warns s ≡ earlier ++ by_name x p visible ∷ later → Used earlier x p visible

@@ -1,9 +1,9 @@
 -- The uses of names and variables, each with what is visible there, and what each leaves in the lists (document 01, "Walking clauses
 -- (000)": "E1001 comes at each visit of an Unresolved name not visible, except `*`, recorded unresolved without it").
-use Rattle.std.specs.Prelude.{ℕ, suc, ◌≡◌, ◌↔◌, Bool, true, cond, not, ◌&&◌, eqb, Option, None, Some}
+use Rattle.std.specs.Prelude.{ℕ, ◌≡◌, ◌↔◌, Bool, true, cond, not, ◌&&◌, eqb, Option, None, Some}
 use mathlib.Core.List.{List, [], ◌∷◌, ◌++◌, flat_map, Memᴰ}
 use Rattle.words.specs.Fnv.{use_id}
-use Rattle.scope.specs.Graph.{with_barrier, return_scope, comprehension_scope, Scope}
+use Rattle.scope.specs.Graph.{with_barrier, return_scope, comprehension_scope, Scope, Name, indexed, same_name}
 use Rattle.scope.specs.Lookup.{Looked, at, nothing, refused, parent_at, kind_at}
 use Rattle.expr.specs.Tree.{Expr, var, unresolved, node, predicate, comprehension, Exprs, done, more, mark, Steps, end, part, elem}
 use Rattle.clauses.specs.Tree.{Projection, Clause, opening, reading, with', return, unwind, call, Arm, arm, exprs, keys_of}
@@ -21,17 +21,17 @@ pub data Use : Type 0 where
   by_name : (name scope : ℕ) (visible : List Seen) → Use
 
 -- "not visible": no entry of the visible list has the name x; and the test of it.
-abbrev pub Lacks : ℕ → List Seen → Type 0
+abbrev pub Lacks : Name → List Seen → Type 0
 Lacks x vis = (h : Hit) (p : ℕ) → Memᴰ (seen x h p) vis → ⊥
 
-unfoldable pub lacks : ℕ → List Seen → Bool
+unfoldable pub lacks : Name → List Seen → Bool
 lacks x [] = true
-lacks x (seen y h p ∷ vis) = not (eqb x y) && lacks x vis
+lacks x (seen y h p ∷ vis) = not (same_name x y) && lacks x vis
 
 -- what the visible list has for a name
-unfoldable pub seen_as : ℕ → List Seen → Looked
+unfoldable pub seen_as : Name → List Seen → Looked
 seen_as x [] = nothing
-seen_as x (seen y h p ∷ vis) = cond (eqb x y) (at (variable_of h) p) (seen_as x vis)
+seen_as x (seen y h p ∷ vis) = cond (same_name x y) (at (variable_of h) p) (seen_as x vis)
 
 -- 1 where a scope has a WithBarrier as its parent, else 0
 unfoldable pub under_barrier : List Scope → Option ℕ → ℕ
@@ -105,17 +105,17 @@ module _ (w : World) where
   -- E1001 of a name that is not visible, except `*`.
   unfoldable pub e1001 : Use → List Finding
   e1001 (by_var v) = []
-  e1001 (by_name x p vis) = cond (lacks x vis && not (w.is_star x)) (finding Log.e1001 0 0 (suc x) 0 0 ∷ []) []
+  e1001 (by_name x p vis) = cond (lacks (indexed x) vis && not (w.is_star x)) (finding Log.e1001 0 0 (Some (indexed x)) 0 0 ∷ []) []
 
   -- The record of a name: its use id, and the answer by the newest binding that the visible list has for it.
   unfoldable pub record_of : List Scope → Use → List Write
   record_of ss (by_var v) = of_row v (w.row v)
-  record_of ss (by_name x p vis) = write (w.id x) (recorded_as w ss (seen_as x vis)) ∷ []
+  record_of ss (by_name x p vis) = write (w.id x) (recorded_as w ss (seen_as (indexed x) vis)) ∷ []
 
   -- The unresolved record of a name that is not visible, `*` or not.
   unfoldable pub unresolved_of : Use → List Write
   unresolved_of (by_var v) = []
-  unresolved_of (by_name x p vis) = cond (lacks x vis) (write (w.id x) missing ∷ []) []
+  unresolved_of (by_name x p vis) = cond (lacks (indexed x) vis) (write (w.id x) missing ∷ []) []
 
 -- All uses of a statement: the head's, then the arms'.
 unfoldable pub uses : Bool → Statement → List Use
@@ -137,8 +137,8 @@ unresolved_in = flat_map unresolved_as
 
 -- At one use, l being what an Unresolved with the name x says where vis is visible: its only finding, and its only unresolved record.
 pub record Arises (s : Statement) (x : ℕ) (vis : List Seen) (l : List Event) : Type 0 where
-  pub finds : (f : Finding) → Memᴰ (find f) l ↔ ((f ≡ finding Log.e1001 0 0 (suc x) 0 0) × Lacks x vis × (bytes_of s x ≡ 42 ∷ [] → ⊥))
-  pub records : (i : ℕ) → Memᴰ (answer (write i missing)) l ↔ ((i ≡ use_id (bytes_of s x)) × Lacks x vis)
+  pub finds : (f : Finding) → Memᴰ (find f) l ↔ ((f ≡ finding Log.e1001 0 0 (Some (indexed x)) 0 0) × Lacks (indexed x) vis × (bytes_of s x ≡ 42 ∷ [] → ⊥))
+  pub records : (i : ℕ) → Memᴰ (answer (write i missing)) l ↔ ((i ≡ use_id (bytes_of s x)) × Lacks (indexed x) vis)
 
 -- Over a statement: the lists hold, in order, what the uses leave.
 pub record OfUses (warns : Bool) (s : Statement) : Type 0 where
