@@ -1,27 +1,31 @@
 -- How both walks' state stands in the walk of the code, and what a step does to it.
 use Rattle.std.specs.Prelude.{ℕ, suc, ◌+◌, ◌*◌, ◌<◌, ◌≤◌, ◌≡◌, Bool, true, false, not, ◌&&◌, List, [], ◌∷◌, eqb, length, get_or, Option, None, Some}
-use Rattle.scope.specs.Graph.{comprehension_scope}
+use Rattle.scope.specs.Answer as scopes
+use Rattle.scope.specs.Graph.{comprehension_scope, indexed}
+use Rattle.scope.specs.declared.Name.{Name}
 use Rattle.heads.specs.declared.Form.{Form}
 use Rattle.heads.specs.declared.Form.TheVariants.{Leaf, Var, Unresolved, Prop, Two, Slice, Many, BinOp, UnaryOp, Case, IsNull, PatternPredicate, ListComprehension, PatternComprehension, ListPredicate, MapProjection}
-use Rattle.expr.specs.Binders.{binder}
 use Rattle.tables.specs.Row.{path_kind, Row, row}
 use Rattle.semantics.specs.Log.{Finding, missing, write, answer, Event}
 use Rattle.semantics.specs.Log.{found as found_as}
-use Rattle.semantics.specs.World.{World, variable, kind_of}
+use Rattle.semantics.specs.World.{World, variable, name_of, kind_of}
 use Rattle.semantics.specs.Resolve.{Hit, hit, State, binds, say, enter, bind_name, use_var, bind_path}
 use Rattle.semantics.specs.Kinds.{Setting, pattern_type, type_of, at_type, at_row, misplaced, row_for}
 use Rattle.theorems.specs.Needs.{made, carried_in}
-use Rattle.fused.specs.Fused.{Both, Mode, when, told, step, same, noting, name_use}
+use Rattle.fused.specs.Fused.{Both, Mode, when, told, step, same, name_use}
 use Rattle.rows.specs.Rows.{shown}
 use Rattle.rows.specs.Table.{row_in, Standing}
+use Rattle.rowless.specs.Rowless.{named, places, most, Sound as Numbered, Right, Grows, Begins, Still as Unmoved}
 use Rattle.visible.specs.Visible.{seens, Descends}
 use Rattle.visible.specs.Stack.{entries, Sound}
 use Rattle.visible.specs.Stack as stack
 use Rattle.steps.specs.Types.{type_number, type_at}
 use Rattle.steps.specs.Modes.{setting_of}
-use Rattle.steps.specs.Memory.{words_in, names_in, use_in}
+use Rattle.steps.specs.Memory.{words_in, names_in, use_in, texts_in, named_in, world_at}
+use Rattle.steps.specs.Named.{as_named, Below}
 use Rattle.steps.specs.Said.{kept, events_in, findings_in, Roomy, Says, Tells}
 use Rattle.steps.specs.Said as said
+use Rattle.rowless.specs.declared.Rowless.{Rowless}
 use Rattle.steps.specs.declared.Level.{Level}
 use Rattle.steps.specs.declared.Walk.{Walk}
 use Rattle.steps.specs.declared.context.Context.{Context}
@@ -31,33 +35,39 @@ use Rattle.steps.specs.declared.log.Log.{Log}
 use Rattle.steps.specs.declared.head.Act.{Act}
 use Rattle.steps.specs.declared.head.Act.TheVariants.{Shows, Uses, Names, Opens}
 
--- The context is in order: each row has a name and a kind up to Value, and each name a use id.
+-- The context is in order: each row has a name and a kind up to Value, and each name a use id and a text.
 pub record Fine (c : Context) : Type 0 where
   pub short : length (words_in c) ≤ 2048
   pub standing : Standing c.rows
   pub named : (v x k : ℕ) → shown (row_in c.rows v) ≡ Some (x, k) → (x < names_in c) × (k ≤ 4)
   pub used : names_in c ≤ length c.uses.now
+  pub texts : length (texts_in c) ≡ names_in c
 
 -- What is always so. Whatever is said, opened or bound is paid for by words that were read, so there is room for it: e words were read that
--- nothing was said for yet, and t that nothing was opened or bound for.
-pub record Fits (e t : ℕ) (c : Context) (w : Walk) : Type 0 where
-  pub some : 0 < w.visible.names
-  pub places : names_in c ≤ w.visible.names
+-- nothing was said for yet, t that nothing was opened or bound for, and u that no variable without a row took a place for.
+pub record Fits (e t u : ℕ) (c : Context) (w : Walk) : Type 0 where
+  pub listed : w.rowless.listed ≡ names_in c
+  pub places : w.visible.names ≡ w.rowless.listed + most w.rowless
+  pub numbered : Numbered w.rowless
+  pub right : Right (named_in c) w.rowless
+  pub below : Below (places w.rowless) (entries w.visible)
   pub sound : Sound w.visible
   pub descends : Descends w.cur (entries w.visible)
   pub cur : w.cur ≤ w.last
   pub last : w.last + t ≤ w.at
   pub count : w.log.said + w.log.told + e ≤ w.at + 1
-  pub stack : w.visible.names + w.visible.top + t ≤ w.at + 1
+  pub stack : w.rowless.listed + w.visible.top + t ≤ w.at + 1
+  pub rowless : 3 * w.rowless.count + u ≤ w.at
   pub olds : w.olds + e ≤ w.at + 1
   pub needs : w.made + w.taken + t * 16384 ≤ w.at * 16384
   pub within : w.at ≤ length (words_in c)
-  pub names : 4 * (length (words_in c) + 2) ≤ length w.visible.words.now
+  pub names : most w.rowless + 4 * (length (words_in c) + 2) ≤ length w.visible.words.now
+  pub binders : length (words_in c) < 3 * most w.rowless
   pub room : (length (words_in c) + 1) * 6 ≤ length w.log.words.now
 
 -- k words were read that nothing was done for yet
 abbrev pub Fit : ℕ → Context → Walk → Type 0
-Fit k = Fits k k
+Fit k = Fits k k k
 
 -- how many bindings and carried names a log has, counted
 pub record Counted (w : Walk) (l : List Event) : Type 0 where
@@ -66,26 +76,25 @@ pub record Counted (w : Walk) (l : List Event) : Type 0 where
 
 -- the walk holds the state
 pub record Holds (id : ℕ → ℕ) (c : Context) (w : Walk) (s : Both) : Type 0 where
-  pub visible : entries w.visible ≡ s.names.visible
+  pub visible : as_named w.rowless (entries w.visible) ≡ s.names.visible
   pub cur : w.cur ≡ s.names.cur
   pub last : w.last ≡ s.names.last
   pub log : events_in id w.log ≡ kept c.wants s.names.log
   pub kinds : findings_in w.log ≡ s.kinds
-  pub known : w.known ≡ s.known
   pub olds : w.olds ≡ s.olds
   pub counts : Counted w s.names.log
   pub uses : (x : ℕ) → x < names_in c → use_in c x ≡ id x
 
--- a walk that begins anew at a word, with so many names
-abbrev pub restarted : (at names : ℕ) → Walk → Walk
-restarted at names w =
+-- a walk that begins anew at a word, with these places
+abbrev pub restarted : (at : ℕ) → Rowless → Walk → Walk
+restarted at r w =
     record w {
       at = at;
-      visible = record w.visible { names = names; top = 0 };
+      visible = record w.visible { names = r.listed + most r; top = 0 };
+      rowless = r;
       cur = 0;
       last = 0;
       log = record w.log { said = 0; told = 0 };
-      known = true;
       olds = 0;
       made = 0;
       taken = 0;
@@ -98,42 +107,56 @@ idle = record { left = 0; later = General }
 abbrev pub level_of : Walk → ℕ → Level
 level_of w d = get_or w.levels d idle
 
--- what was visible stays below what came, and the levels above `room` stay
+-- what was visible stays below what came, places keep their names, and the levels above `room` stay
 pub record Frame (room : ℕ) (w w' : Walk) : Type 0 where
   pub top : w.visible.top ≤ w'.visible.top
   pub last : w.last ≤ w'.last
   pub below : seens w.visible.names w.visible.top w'.visible.words.now ≡ entries w.visible
+  pub grows : Grows w.rowless w'.rowless
   pub levels : (d : ℕ) → room < d → level_of w' d ≡ level_of w d
 
 -- the words are those that were lent, and as many
 pub record Still (w w' : Walk) : Type 0 where
   pub visible : stack.Still w.visible w'.visible
+  pub rowless : Unmoved w.rowless w'.rowless
   pub log : said.Still w.log w'.log
 
 -- what a step does to one of the two walks
 abbrev pub on_names : (State → State) → Both → Both
-on_names f s = record { names = f s.names; kinds = s.kinds; known = s.known; olds = s.olds }
+on_names f s = record { names = f s.names; kinds = s.kinds; olds = s.olds }
 
 abbrev pub on_kinds : List Finding → Both → Both
-on_kinds fs s = record { names = s.names; kinds = told fs s.kinds; known = s.known; olds = s.olds }
+on_kinds fs s = record { names = s.names; kinds = told fs s.kinds; olds = s.olds }
 
--- A step of the state, at the same word: e words pay for what it says, t words for what it opens or binds. It may go by the use ids of names,
--- which the walk doesn't hold.
-pub record Costs (e t : ℕ) (c : Context) (w w' : Walk) (F : (ℕ → ℕ) → Both → Both) : Type 0 where
+-- A step of the state, at the same word: e words pay for what it says, t words for what it opens or binds, u for a place that a variable without a
+-- row takes. It may go by the use ids of names, which the walk doesn't hold.
+pub record Costs (e t u : ℕ) (c : Context) (w w' : Walk) (F : (ℕ → ℕ) → Both → Both) : Type 0 where
   pub at : w'.at ≡ w.at
   pub still : Still w w'
-  pub fit : (i k : ℕ) → Fits (e + i) (t + k) c w → Fits i k c w'
+  pub fit : (i k l : ℕ) → Fits (e + i) (t + k) (u + l) c w → Fits i k l c w'
   pub frame : Frame 0 w w'
   pub goes : (id : ℕ → ℕ) (s : Both) → Holds id c w s → Holds id c w' (F id s)
 
 -- a step for which j words pay
 abbrev pub Steps : ℕ → Context → (w w' : Walk) → ((ℕ → ℕ) → Both → Both) → Type 0
-Steps j = Costs j j
+Steps j = Costs j j j
 
--- A name was bound in the current scope, for three words; whether that binds it already.
+-- The name at the place x was bound in the current scope, for three words; whether that binds it already.
 pub record Binds (c : Context) (w w' : Walk) (x v k : ℕ) (r : Bool) : Type 0 where
-  pub again : r ≡ binds w.cur x (entries w.visible)
-  pub costs : Costs 1 3 c w w' (λ id. on_names (bind_name x v k))
+  pub again : r ≡ binds w.cur (indexed x) (entries w.visible)
+  pub rowless : w'.rowless ≡ w.rowless
+  pub costs : Costs 1 3 0 c w w' (λ id. on_names (bind_name (named w.rowless x) v k))
+
+-- x is the place of a variable's name: its row's, or one that three words pay for
+pub record Placed (c : Context) (v : ℕ) (w w' : Walk) (x : ℕ) : Type 0 where
+  pub below : x < places w'.rowless
+  pub name : (id : ℕ → ℕ) → named w'.rowless x ≡ name_of (world_at c id) v
+  pub costs : Costs 0 0 3 c w w' (λ id s. s)
+
+-- What binding a name asks: its place is there.
+pub record Able (j : ℕ) (c : Context) (w : Walk) : Type 0 where
+  pub fine : Fine c
+  pub fit : Fits j j 0 c w
 
 -- What telling whether the current scope binds a name asks.
 pub record Binding (w : Walk) : Type 0 where
@@ -165,14 +188,14 @@ abbrev pub TellsIf : Bool → List ℕ → (w w' : Walk) → Type 0
 TellsIf t finding = LogsIf t (Tells finding)
 
 -- a binding was said in the current scope, and counted unless it replaces another
-pub record Makes (wants : Bool) (x v k : ℕ) (w w' : Walk) : Type 0 where
+pub record Makes (wants : Bool) (n : Name) (v k : ℕ) (w w' : Walk) : Type 0 where
   pub between : Walk
-  pub says : SaysIf wants (2 ∷ w.cur ∷ x ∷ v ∷ k ∷ 0 ∷ []) w between
+  pub says : SaysIf wants (2 ∷ w.cur ∷ n.word ∷ v ∷ k ∷ n.mark ∷ []) w between
   pub counts : w' ≡ record between { made = suc between.made }
 
-pub record SaysBound (wants again : Bool) (x v k : ℕ) (w w' : Walk) : Type 0 where
-  pub yes : again ≡ true → SaysIf wants (3 ∷ w.cur ∷ x ∷ v ∷ k ∷ 0 ∷ []) w w'
-  pub no : again ≡ false → Makes wants x v k w w'
+pub record SaysBound (wants again : Bool) (n : Name) (v k : ℕ) (w w' : Walk) : Type 0 where
+  pub yes : again ≡ true → SaysIf wants (3 ∷ w.cur ∷ n.word ∷ v ∷ k ∷ n.mark ∷ []) w w'
+  pub no : again ≡ false → Makes wants n v k w w'
 
 abbrev pub name_in : (Option (ℕ × ℕ)) → ℕ
 name_in (Some (x, k)) = x
@@ -249,7 +272,7 @@ Named slots f = NamedIn slots (act_of f)
 
 -- a part's path: its own binder
 abbrev pub path_step : World → Mode → Option ℕ → Both → Both
-path_step w m p s = noting w (binder p) (step m (bind_path w (variable p)) (misplaced 1 path_kind 0 0 (row_for w p)) s)
+path_step w m p = step m (bind_path w (variable p)) (misplaced 1 path_kind 0 0 (row_for w p))
 
 -- out of a scope: the names that are visible and the current scope are as they were
 pub record Left (w w' : Walk) (top cur : ℕ) : Type 0 where
@@ -278,3 +301,8 @@ var_record m v k = when m.resolves (say (answer (write v (found_as v k 0))))
 abbrev pub name_record : World → ℕ → Option Hit → State → State
 name_record w x (Some (hit v o)) s = say (answer (write (w.id x) (found_as v (kind_of w v) o))) s
 name_record w x None s = say (answer (write (w.id x) missing)) s
+
+-- The walk begins anew at a word, with these names.
+pub record Restarts (at : ℕ) (names : List (List ℕ)) (w w' : Walk) : Type 0 where
+  pub begins : Begins names w.rowless w'.rowless
+  pub same : w' ≡ restarted at w'.rowless w

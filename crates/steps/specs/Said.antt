@@ -1,9 +1,10 @@
 -- What the walks said, in the words of a log: the name walk's events from the front, the kind walk's findings from the back, six words each.
 use Rattle.std.specs.Prelude.{ℕ, zero, suc, ◌+◌, ◌-◌, ◌*◌, ◌<◌, ◌≤◌, ◌≡◌, ◌≢◌, Bool, true, false, cond, List, [], ◌∷◌, eqb, length, get_or, Result, Ok, Err}
 use Rattle.heads.specs.Got.{look}
-use Rattle.scope.specs.Graph.{scope}
+use Rattle.scope.specs.Graph.{scope, name}
 use Rattle.scope.specs.Flat.{parent_of}
-use Rattle.semantics.specs.Log.{Finding, finding, Answer, found, missing, bound, write, Event, open', bind, carry, answer, find}
+use Rattle.finding.specs.Logged.{logged, logged_at}
+use Rattle.semantics.specs.Log.{Finding, Answer, found, missing, bound, write, Event, open', bind, carry, answer, find}
 use Rattle.theorems.specs.Woven.{written}
 use Rattle.steps.specs.declared.log.Log.{Log}
 use Rattle.steps.specs.declared.log.Sort.{Sort}
@@ -21,7 +22,8 @@ abbrev pub Sorts : ℕ → Result Sort (Unit {0}) → Type 0
 Sorts word (Ok sort) = sort_number sort ≡ word
 Sorts word (Err e) = (sort : Sort) → sort_number sort ≢ word
 
--- An event by its six words: 1 a scope, 2 a binding, 3 one that replaces another, 4 a use of a variable, 5 a use of a name, and else a finding.
+-- An event by its six words: 1 a scope, 2 a binding, 3 one that replaces another, the mark of its name last, 4 a use of a variable, 5 a use of a name,
+-- and else a finding.
 -- What a WITH carries and binds is not among them.
 abbrev pub answered : (flag variable kind via : ℕ) → Answer
 answered flag v k via = cond (eqb flag 0) missing (found v k via)
@@ -30,18 +32,18 @@ abbrev pub event_of : (ℕ → ℕ) → (tag a b c d e : ℕ) → Event
 event_of id tag a b c d e =
     look tag
     ((1, open' (scope a (parent_of b) c d))
-    ∷ (2, bind false false (bound a b c d))
-    ∷ (3, bind false true (bound a b c d))
+    ∷ (2, bind false false (bound a (name e b) c d))
+    ∷ (3, bind false true (bound a (name e b) c d))
     ∷ (4, answer (write a (found a b 0)))
     ∷ (5, answer (write (id a) (answered b c d e)))
     ∷ [])
-    (find (finding tag a b c d e))
+    (find (logged tag a b c d e))
 
 abbrev pub event_at : (ℕ → ℕ) → List ℕ → ℕ → Event
 event_at id l k = event_of id (get_or l k 0) (get_or l (k + 1) 0) (get_or l (k + 2) 0) (get_or l (k + 3) 0) (get_or l (k + 4) 0) (get_or l (k + 5) 0)
 
 abbrev pub finding_at : List ℕ → ℕ → Finding
-finding_at l k = finding (get_or l k 0) (get_or l (k + 1) 0) (get_or l (k + 2) 0) (get_or l (k + 3) 0) (get_or l (k + 4) 0) (get_or l (k + 5) 0)
+finding_at = logged_at
 
 -- n events from the front, and n findings from the back, newest first
 unfoldable pub events : (ℕ → ℕ) → ℕ → List ℕ → List Event

@@ -1,29 +1,26 @@
 // What is said, scopes that are opened and left, names that are bound. The kind of a binding is a number where an element's may be meant: that is
 // one of the tree, which may be any. A finding's code is a number, since that is its name in document 01.
-ghost use Rattle.std.specs.Prelude.{◌≡◌, [], ◌∷◌, suc, ◌<◌, ◌≤◌, Some};
+ghost use Rattle.std.specs.Prelude.{◌≡◌, ◌∷◌, [], suc, ◌<◌, ◌≤◌, Some};
 ghost use Rattle.scope.specs.Kind.{number_of};
 ghost use Rattle.tables.specs.Kind as kinds;
 ghost use Rattle.tables.specs.Row.{path_kind};
+ghost use Rattle.scope.specs.Graph.{indexed};
+ghost use Rattle.semantics.specs.World.{name_of};
 ghost use Rattle.semantics.specs.Resolve.{lookup, enter, bind_anew, bind_new, binds};
-ghost use Rattle.fused.specs.Fused.{noting, elem_step, when};
+ghost use Rattle.fused.specs.Fused.{elem_step, when};
 ghost use Rattle.visible.specs.Stack.{entries, Sound};
 ghost use Rattle.rows.specs.Table.{row_in};
+ghost use Rattle.rowless.specs.Rowless.{named, places};
 ghost use Rattle.steps.specs.Modes.{mode_of};
 ghost use Rattle.steps.specs.Memory.{names_in, world_at};
 ghost use Rattle.steps.specs.Said.{Roomy};
-ghost use Rattle.steps.specs.Hold.{Binding, Ready, Costs, Steps, Binds, SaysIf, SaysBound, TellsIf, Left, ShownTo, on_names, path_step, name_in, kind_in, misplaced_in};
+ghost use Rattle.steps.specs.Hold.{Binding, Ready, Able, Costs, Steps, Binds, Placed, SaysIf, SaysBound, TellsIf, Left, ShownTo, on_names, path_step, name_in, kind_in, misplaced_in};
 
 use crate::{Context, Mode, Sort, Walk};
+use finding::shadow;
 use heads::Elem;
-use scope::ScopeKind;
+use scope::{Name, ScopeKind};
 use tables::VarKind;
-
-// The name of a row, 0 where there is none, as the definition has it: `note` then clears `known`, and the sheet is refused at the end.
-pub fn name_in(r: Option<(u32, u32)>) -> u32
-    ensures { result ≡ name_in r }
-{
-    r.map_or(0, |(x, _)| x)
-}
 
 impl Walk<'_> {
     // An event that is no finding, where every event is wanted.
@@ -50,21 +47,33 @@ impl Walk<'_> {
         self.cur = self.last;
     }
 
-    // A name is bound in the current scope; whether that binds it already.
+    // The place of a variable's name, by its row if it has one.
+    pub fn place(&mut self, context: &Context, v: u32, r: Option<(u32, u32)>) -> u32
+        requires { ShownTo (names_in context.now) (row_in context.now.rows v) r × Ready 3 context.now self.old }
+        ensures { Placed context.now v self.old self.new result }
+    {
+        match r {
+            Some((x, _)) => x,
+            None => self.rowless.place(v),
+        }
+    }
+
+    // The name at a place is bound in the current scope; whether that binds it already.
     pub fn bind_name(&mut self, context: &Context, x: u32, v: u32, kind: u32) -> bool
-        requires { (x < self.old.visible.names) × Ready 3 context.now self.old }
+        requires { (x < places self.old.rowless) × Able 3 context.now self.old }
         ensures { Binds context.now self.old self.new x v kind result }
     {
         let again = self.is_again(x);
-        self.say_bound(context, again, x, v, kind);
+        let name = self.rowless.name(x);
+        self.say_bound(context, again, name, v, kind);
         self.visible.bind(x, v, self.cur, false);
         again
     }
 
-    // Whether the current scope binds x already.
+    // Whether the current scope binds the name at x already.
     pub fn is_again(&self, x: u32) -> bool
         requires { Binding self.now }
-        ensures { result ≡ binds self.now.cur x (entries self.now.visible) }
+        ensures { result ≡ binds self.now.cur (indexed x) (entries self.now.visible) }
     {
         let cur = self.cur;
         self.visible
@@ -73,15 +82,16 @@ impl Walk<'_> {
     }
 
     // A binding in the current scope is said, and counted unless it replaces another.
-    fn say_bound(&mut self, context: &Context, again: bool, x: u32, v: u32, kind: u32)
+    fn say_bound(&mut self, context: &Context, again: bool, name: Name, v: u32, kind: u32)
         requires { (self.old.made < 4294967295) × Roomy self.old.log }
-        ensures { SaysBound context.now.wants again x v kind self.old self.new }
+        ensures { SaysBound context.now.wants again name v kind self.old self.new }
     {
         let scope = self.cur;
+        let Name { mark, word } = name;
         if again {
-            self.say_wanted(context, [Sort::Rebinding as u32, scope, x, v, kind, 0]);
+            self.say_wanted(context, [Sort::Rebinding as u32, scope, word, v, kind, mark]);
         } else {
-            self.say_wanted(context, [Sort::Binding as u32, scope, x, v, kind, 0]);
+            self.say_wanted(context, [Sort::Binding as u32, scope, word, v, kind, mark]);
             self.made += 1;
         }
     }
@@ -96,26 +106,14 @@ impl Walk<'_> {
         v: u32,
         kind: VarKind,
     )
-        requires { (x < self.old.visible.names) × Ready 3 context.now self.old }
-        ensures { Costs 2 3 context.now self.old self.new (λ id. on_names (bind_anew (world_at context.now id) start end x v (kinds.number_of kind))) }
+        requires { (x < places self.old.rowless) × Able 3 context.now self.old }
+        ensures { Costs 2 3 0 context.now self.old self.new (λ id. on_names (bind_anew (world_at context.now id) start end (named self.old.rowless x) v (kinds.number_of kind))) }
     {
         let again = self.bind_name(context, x, v, kind as u32);
         if again && context.warns {
-            self.log.say([1002, start, end, x + 1, 0, 0]);
+            let name = self.rowless.name(x);
+            self.log.say(shadow(name, start, end));
         }
-    }
-
-    // A variable is bound: whether it has a row is kept in mind.
-    pub fn note(&mut self, context: &Context, v: u32) -> Option<(u32, u32)>
-        requires { Ready 0 context.now self.old }
-        ensures told { ShownTo (names_in context.now) (row_in context.now.rows v) result }
-        ensures steps { Steps 0 context.now self.old self.new (λ id. noting (world_at context.now id) (v ∷ [])) }
-    {
-        let r = context.row_of(v);
-        if r.is_none() {
-            self.known = false;
-        }
-        r
     }
 
     // E2008, where kinds are checked, for a binder whose row has another kind than its place wants. The detail one doesn't follow from the kind that
@@ -140,11 +138,12 @@ impl Walk<'_> {
     }
 
     // A path's name is bound, where names are resolved.
-    fn bind_path_name(&mut self, context: &Context, x: u32, v: u32, mode: Mode)
-        requires { (x < self.old.visible.names) × Ready 3 context.now self.old }
-        ensures { Costs 2 3 context.now self.old self.new (λ id. on_names (when (mode_of mode).resolves (bind_anew (world_at context.now id) 0 0 x v path_kind))) }
+    fn bind_path_name(&mut self, context: &Context, r: Option<(u32, u32)>, v: u32, mode: Mode)
+        requires { ShownTo (names_in context.now) (row_in context.now.rows v) r × Ready 3 context.now self.old }
+        ensures { Costs 2 3 3 context.now self.old self.new (λ id. on_names (when (mode_of mode).resolves (bind_anew (world_at context.now id) 0 0 (name_of (world_at context.now id) v) v path_kind))) }
     {
         if mode.resolves {
+            let x = self.place(context, v, r);
             self.bind_anew(context, 0, 0, x, v, VarKind::Path);
         }
     }
@@ -154,18 +153,28 @@ impl Walk<'_> {
         requires { Ready 3 context.now self.old }
         ensures { Steps 3 context.now self.old self.new (λ id. path_step (world_at context.now id) (mode_of mode) (Some v)) }
     {
-        let r = self.note(context, v);
-        self.bind_path_name(context, name_in(r), v, mode);
+        let r = context.row_of(v);
+        self.bind_path_name(context, r, v, mode);
         self.misplace(mode, r, VarKind::Path as u32, 1, 0, 0);
     }
 
     // A node's or a relationship's name is bound, where names are resolved, if it is not visible.
-    fn bind_new(&mut self, context: &Context, x: u32, v: u32, kind: u32, mode: Mode)
-        requires { (x < self.old.visible.names) × Ready 3 context.now self.old }
-        ensures { Costs 1 3 context.now self.old self.new (λ id. on_names (when (mode_of mode).resolves (λ y. bind_new (world_at context.now id) (lookup x y.visible) x v kind y))) }
+    fn bind_new(
+        &mut self,
+        context: &Context,
+        r: Option<(u32, u32)>,
+        v: u32,
+        kind: u32,
+        mode: Mode,
+    )
+        requires { ShownTo (names_in context.now) (row_in context.now.rows v) r × Ready 3 context.now self.old }
+        ensures { Costs 1 3 3 context.now self.old self.new (λ id. on_names (when (mode_of mode).resolves (λ y. bind_new (world_at context.now id) (lookup (name_of (world_at context.now id) v) y.visible) (name_of (world_at context.now id) v) v kind y))) }
     {
-        if mode.resolves && self.visible.find(x).is_none() {
-            self.bind_name(context, x, v, kind);
+        if mode.resolves {
+            let x = self.place(context, v, r);
+            if self.visible.find(x).is_none() {
+                self.bind_name(context, x, v, kind);
+            }
         }
     }
 
@@ -175,8 +184,8 @@ impl Walk<'_> {
         ensures { Steps 3 context.now self.old self.new (λ id. elem_step (world_at context.now id) (mode_of mode) h) }
     {
         if let Some(v) = h.variable {
-            let r = self.note(context, v);
-            self.bind_new(context, name_in(r), v, h.kind, mode);
+            let r = context.row_of(v);
+            self.bind_new(context, r, v, h.kind, mode);
             self.misplace(mode, r, h.kind, h.kind + 1, h.start, h.end);
         }
     }

@@ -12,12 +12,20 @@ use crate::{Mode, Setting, Settings};
 use heads::{Form, Section};
 use rows::Rows;
 
-// `uses` has the use id of each name. A name whose mark in `hushed` is 1 is no use; any other is one, also a name past the marks. `star` and
+// The texts of a sheet's names: their section, and where each stands in it.
+#[derive(Clone, Copy)]
+pub struct Texts<'a> {
+    pub section: &'a [u8],
+    pub places: &'a [u32],
+}
+
+// `texts` and `uses` have the text and the use id of each name. A name whose mark in `hushed` is 1 is no use; any other is one, also a name past the marks. `star` and
 // `ident` are the names `*` and `id`. Marks are words, 1 or 0: a listing cuts them from the one run of words that it works in. `warns` is the choice of warnings, `wants` whether every event is wanted and not findings alone.
 #[derive(Clone, Copy)]
 pub struct Context<'a> {
     pub section: Section<'a>,
     pub rows: Rows<'a>,
+    pub texts: Texts<'a>,
     pub uses: &'a [u32],
     pub hushed: &'a [u32],
     pub star: Option<u32>,

@@ -11,15 +11,17 @@ mod kinds;
 mod log;
 mod mode;
 
-ghost use Rattle.std.specs.Prelude.{◌≡◌};
-ghost use Rattle.steps.specs.Hold.{restarted};
+ghost use Rattle.std.specs.Prelude.{◌≡◌, ◌+◌, ◌<◌, length};
+ghost use Rattle.tables.specs.Answer.{names_at};
+ghost use Rattle.rowless.specs.Rowless.{most, Fresh};
+ghost use Rattle.steps.specs.Hold.{Restarts};
 
-pub use bound::name_in;
 use clauses::MAX_DEPTH;
-pub use context::{Context, operator_settings, property_settings};
+pub use context::{Context, Texts, operator_settings, property_settings};
 pub use head::leaf_type;
 pub use log::{Log, Sort};
 pub use mode::{Mode, Setting, Settings};
+use rowless::Rowless;
 use visible::Visible;
 
 // What is left of a row of expressions at a level, and the setting of those.
@@ -29,17 +31,17 @@ pub struct Level {
     pub later: Setting,
 }
 
-// Where both walks stand: the next word, what is visible, the current scope and the last one, what was said and told, whether every binder so
-// far had a row, how many expressions 25 were read, how many bindings were made and how many names carried; and what waits at each level of a
-// row, in an array, since there is no heap: one for each room from 0 to the limit.
+// Where both walks stand: the next word, what is visible and the places of its names, the current scope and the last one, what was said and told, how
+// many expressions 25 were read, how many bindings were made and how many names carried; and what waits at each level of a row, in an array,
+// since there is no heap: one for each room from 0 to the limit.
 #[derive(Drop)]
 pub struct Walk<'a> {
     pub at: usize,
     pub visible: Visible<'a>,
+    pub rowless: Rowless<'a>,
     pub cur: u32,
     pub last: u32,
     pub log: Log<'a>,
-    pub known: bool,
     pub olds: u32,
     pub made: u32,
     pub taken: u32,
@@ -47,10 +49,17 @@ pub struct Walk<'a> {
 }
 
 impl<'a> Walk<'a> {
-    // A walk in lent words: what is visible and what is said go there.
-    pub fn new(visible: &'a mut [u32], said: &'a mut [u32]) -> Walk<'a>
+    // A walk in lent words: what is visible, what is said, and the places of names go there.
+    pub fn new(
+        visible: &'a mut [u32],
+        said: &'a mut [u32],
+        chains: &'a mut [u32],
+        entries: &'a mut [u32],
+    ) -> Walk<'a>
         ensures visible { result.visible.words.now ≡ visible.old }
         ensures said { result.log.words.now ≡ said.old }
+        ensures chains { result.rowless.chains.now ≡ chains.old }
+        ensures entries { result.rowless.entries.now ≡ entries.old }
     {
         Walk {
             at: 0,
@@ -59,6 +68,12 @@ impl<'a> Walk<'a> {
                 names: 0,
                 top: 0,
             },
+            rowless: Rowless {
+                chains,
+                entries,
+                listed: 0,
+                count: 0,
+            },
             cur: 0,
             last: 0,
             log: Log {
@@ -66,7 +81,6 @@ impl<'a> Walk<'a> {
                 said: 0,
                 told: 0,
             },
-            known: true,
             olds: 0,
             made: 0,
             taken: 0,
@@ -79,18 +93,19 @@ impl<'a> Walk<'a> {
 }
 
 impl Walk<'_> {
-    // The walk begins anew at a word, with so many names: all its numbers are as `new` has them, but what waits at the levels.
-    pub fn restart(&mut self, at: usize, names: u32)
-        ensures { self.new ≡ restarted at names self.old }
+    // The walk begins anew at a word, with these names: all its other numbers are as `new` has them, but what waits at the levels.
+    pub fn restart(&mut self, at: usize, texts: Texts)
+        requires { (length texts.places.now + most self.old.rowless < 4294967296) × Fresh (names_at texts.section.now texts.places.now) self.old.rowless }
+        ensures { Restarts at (names_at texts.section.now texts.places.now) self.old self.new }
     {
+        self.rowless.restart(texts.section, texts.places);
         self.at = at;
-        self.visible.names = names;
+        self.visible.names = self.rowless.listed + (self.rowless.chains.len() / 2) as u32;
         self.visible.top = 0;
         self.cur = 0;
         self.last = 0;
         self.log.said = 0;
         self.log.told = 0;
-        self.known = true;
         self.olds = 0;
         self.made = 0;
         self.taken = 0;
