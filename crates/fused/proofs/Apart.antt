@@ -1,29 +1,27 @@
 -- Reading and both walks in one is reading, and then the two walks over the tree (`apart`): the only place where trees are met. `acts` and
 -- its like are what both walks do with a row, an expression and a pattern; `step-two`, `move-two` and `move-on` are two steps as one.
-use Rattle.std.specs.Prelude.{Option, None, Some}
 use Prim.Native.Nat.{ℕ, zero, suc, ◌+◌}
 use native.Mathlib.Omega.{arith}
 use mathlib.Core.Path.{◌≡◌, refl, ap, sym, ◌∙◌}
-use mathlib.Core.Bool.{Bool, true, false, cond, ◌&&◌, and_assoc, and-true}
+use mathlib.Core.Bool.{Bool, true, false}
 use mathlib.Core.List.{List, [], ◌∷◌, ◌++◌}
 use Rattle.scope.specs.Graph.{comprehension_scope}
 use Rattle.heads.specs.Got.{Got, ok, no, bind, word_in, any_word}
 use Rattle.heads.specs.Form.{read_form, kids_of}
-use Rattle.heads.specs.Head.{Tables, allowed, read_part, read_elem, mark_low, mark_high, mark_kids}
+use Rattle.heads.specs.Head.{read_part, read_elem, mark_low, mark_high, mark_kids}
 use Rattle.heads.specs.declared.Elem.{Elem}
 use Rattle.heads.specs.declared.Part.{Part}
 use Rattle.heads.specs.declared.Form.{Form}
 use Rattle.heads.specs.declared.Form.TheVariants.{Leaf, Var, Unresolved, Prop, Two, Slice, Many, BinOp, UnaryOp, Case, IsNull, PatternPredicate, ListComprehension, PatternComprehension, ListPredicate, MapProjection}
 use Rattle.heads.proofs.Shapes.{bind-each}
 use Rattle.expr.specs.Tree.{Expr, node, predicate, comprehension, Exprs, more, mark, Steps, part, elem, tree}
-use Rattle.expr.specs.Binders.{binder, binders_e, binders, binders_s, all_known}
 use Rattle.expr.specs.Olds.{old_in, olds_e, olds, olds_s}
 use Rattle.expr.specs.Read.{Reader, RestE, RestS, no_more, times, marks, elem_one, elems, parts, pattern, maybe_pattern, after_form, read_expr}
 use Rattle.semantics.specs.Log.{Finding}
 use Rattle.semantics.specs.World.{World, variable}
 use Rattle.semantics.specs.Resolve.{State, enter, leave, bind_path, bind_elem, resolve, resolves, bind_pattern}
 use Rattle.semantics.specs.Kinds.{Setting, Pair, both, plain, pattern_type, type_of, settings, at_type, misplaced, row_for, kinds_e, kinds_es, kinds_s}
-use Rattle.fused.specs.Fused.{Both, Mode, unresolving, Go, when, told, counting, step, rounds, row_go, same, left, tail_of, head_of, has_row, noting, elem_step, part_step, mark_go, elem_go, part_go, pattern_go, rest_go, expr_go}
+use Rattle.fused.specs.Fused.{Both, Mode, unresolving, Go, when, told, counting, step, rounds, row_go, same, left, tail_of, head_of, elem_step, part_step, mark_go, elem_go, part_go, pattern_go, rest_go, expr_go}
 
 pub told-append : (a b k : List Finding) → told (a ++ b) k ≡ told b (told a k)
 unfolding told
@@ -39,7 +37,7 @@ when-told true fs gs k = told-append fs gs k
 when-told false fs gs k = refl
 
 pub step-two : (m : Mode) (f g : State → State) (fs gs : List Finding) (s : Both) → step m (λ y. g (f y)) (fs ++ gs) s ≡ step m g gs (step m f fs s)
-step-two m f g fs gs s = λ i. record { names = when-two m.resolves f g s.names i; kinds = when-told m.checks fs gs s.kinds i; known = s.known; olds = s.olds }
+step-two m f g fs gs s = λ i. record { names = when-two m.resolves f g s.names i; kinds = when-told m.checks fs gs s.kinds i; olds = s.olds }
 
 pub when-same : (b : Bool) (x : State) → when b same x ≡ x
 when-same true x = refl
@@ -52,15 +50,7 @@ when-none false k = refl
 
 -- a step of nothing
 pub step-none : (m : Mode) (s : Both) → step m same [] s ≡ s
-step-none m s = λ i. record { names = when-same m.resolves s.names i; kinds = when-none m.checks s.kinds i; known = s.known; olds = s.olds }
-
-pub known-append : (known : ℕ → Bool) (vs us : List ℕ) → all_known known (vs ++ us) ≡ (all_known known vs && all_known known us)
-unfolding all_known
-known-append known [] us = refl
-known-append known (v ∷ vs) us = rw (known-append known vs us) (sym (and_assoc (known v) (all_known known vs) (all_known known us)))
-
-pub known_two : (known : ℕ → Bool) (k : Bool) (vs us : List ℕ) → (k && all_known known (vs ++ us)) ≡ (k && all_known known vs && all_known known us)
-known_two known k vs us = rw (known-append known vs us) (sym (and_assoc k (all_known known vs) (all_known known us)))
+step-none m s = λ i. record { names = when-same m.resolves s.names i; kinds = when-none m.checks s.kinds i; olds = s.olds }
 
 pub olds_two : (n a b : ℕ) → n + (a + b) ≡ n + a + b
 olds_two n a b = omega arith
@@ -68,31 +58,27 @@ olds_two n a b = omega arith
 olds-none : (n : ℕ) → n + 0 ≡ n
 olds-none n = omega arith
 
--- a step, the variables that it binds and the expressions 25 that are counted
-abbrev pub move : World → Mode → (State → State) → List Finding → List ℕ → ℕ → Both → Both
-move w m f fs vs n s = counting n (noting w vs (step m f fs s))
+-- a step, and the expressions 25 that are counted
+abbrev pub move : Mode → (State → State) → List Finding → ℕ → Both → Both
+move m f fs n s = counting n (step m f fs s)
 
-pub move-two : (w : World) (m : Mode) (f g : State → State) (fs gs : List Finding) (vs us : List ℕ) (a b : ℕ) (s : Both)
-    → move w m (λ y. g (f y)) (fs ++ gs) (vs ++ us) (a + b) s ≡ move w m g gs us b (move w m f fs vs a s)
-move-two w m f g fs gs vs us a b s =
-    λ i. record { names = when-two m.resolves f g s.names i; kinds = when-told m.checks fs gs s.kinds i; known = known_two (has_row w) s.known vs us i; olds = olds_two s.olds a b i }
+pub move-two : (m : Mode) (f g : State → State) (fs gs : List Finding) (a b : ℕ) (s : Both)
+    → move m (λ y. g (f y)) (fs ++ gs) (a + b) s ≡ move m g gs b (move m f fs a s)
+move-two m f g fs gs a b s =
+    λ i. record { names = when-two m.resolves f g s.names i; kinds = when-told m.checks fs gs s.kinds i; olds = olds_two s.olds a b i }
 
 -- where the first counts none
-pub move-on : (w : World) (m : Mode) (f g : State → State) (fs gs : List Finding) (vs us : List ℕ) (n : ℕ) (s : Both)
-    → move w m (λ y. g (f y)) (fs ++ gs) (vs ++ us) n s ≡ move w m g gs us n (noting w vs (step m f fs s))
-move-on w m f g fs gs vs us n s =
-    λ i. record { names = when-two m.resolves f g s.names i; kinds = when-told m.checks fs gs s.kinds i; known = known_two (has_row w) s.known vs us i; olds = s.olds + n }
+pub move-on : (m : Mode) (f g : State → State) (fs gs : List Finding) (n : ℕ) (s : Both)
+    → move m (λ y. g (f y)) (fs ++ gs) n s ≡ move m g gs n (step m f fs s)
+move-on m f g fs gs n s =
+    λ i. record { names = when-two m.resolves f g s.names i; kinds = when-told m.checks fs gs s.kinds i; olds = s.olds + n }
 
--- no variable is bound, and nothing counted
+-- nothing is counted
 counting-none : (s : Both) → counting 0 s ≡ s
-counting-none s = λ i. record { names = s.names; kinds = s.kinds; known = s.known; olds = olds-none s.olds i }
+counting-none s = λ i. record { names = s.names; kinds = s.kinds; olds = olds-none s.olds i }
 
-noting-none : (w : World) (s : Both) → counting 0 (noting w [] s) ≡ s
-unfolding all_known
-noting-none w s = λ i. record { names = s.names; kinds = s.kinds; known = and-true s.known i; olds = olds-none s.olds i }
-
-pub move-none : (w : World) (m : Mode) (s : Both) → move w m same [] [] 0 s ≡ s
-move-none w m s = noting-none w (step m same [] s) ∙ step-none m s
+pub move-none : (m : Mode) (s : Both) → move m same [] 0 s ≡ s
+move-none m s = counting-none (step m same [] s) ∙ step-none m s
 
 -- what is read is walked
 abbrev pub after : {A : Type 0} → (A → Both → Both) → (List ℕ → Got A) → Go
@@ -111,10 +97,6 @@ pub each : {A B : Type 0} (g : Got A) (f h : A → B) → ((a : A) → f a ≡ h
 each {B = B} (ok a r) f h q = ap (λ (x : B). ok x r) (q a)
 each (no c) f h q = refl
 
-free-allowed : (t : Tables) → ((v : ℕ) → t.known v ≡ true) → (m : Option ℕ) → allowed t m ≡ true
-free-allowed t free (Some v) = free v
-free-allowed t free None = refl
-
 -- the settings after n expressions of a row
 abbrev pair_after : ℕ → Pair → Pair
 pair_after zero p = p
@@ -127,18 +109,18 @@ plain-after (suc n) = plain-after n
 module _ (w : World) where
   -- what both walks do with an expression in a setting, a row, a pattern
   abbrev pub act : Mode → Setting → Expr → Both → Both
-  act m c e = move w m (resolve w e) (kinds_e w e c) (binders_e e) (olds_e e)
+  act m c e = move m (resolve w e) (kinds_e w e c) (olds_e e)
 
   abbrev pub acts : Mode → Pair → Exprs → Both → Both
-  acts m p es = move w m (resolves w es) (kinds_es w es p) (binders es) (olds es)
+  acts m p es = move m (resolves w es) (kinds_es w es p) (olds es)
 
   abbrev pub lays : Mode → Steps → Both → Both
-  lays m st = move w m (bind_pattern w st) (kinds_s w st) (binders_s st) (olds_s st)
+  lays m st = move m (bind_pattern w st) (kinds_s w st) (olds_s st)
 
-  module _ (t : Tables) (free : (v : ℕ) → t.known v ≡ true) (E : Mode → Setting → Go) (P : Reader) (h_e : (m : Mode) (c : Setting) (s : Both) (r : List ℕ) → E m c s r ≡ after (act m c) P s r) where
+  module _ (E : Mode → Setting → Go) (P : Reader) (h_e : (m : Mode) (c : Setting) (s : Both) (r : List ℕ) → E m c s r ≡ after (act m c) P s r) where
     -- expressions, and what follows them
     kids-then : (m : Mode) (n : ℕ) (p : Pair) (K : RestE) (s : Both) (r : List ℕ) → after (acts m p) (times n P K) s r ≡ bind (row_go (E m) n p s r) (λ s2 r2. after (acts m (pair_after n p)) K s2 r2)
-    unfolding times row_go resolve kinds_e binders_e olds_e
+    unfolding times row_go resolve kinds_e olds_e
     kids-then m zero p K s r = refl
     kids-then m (suc n) (both c d) K s r = rw h_e (go (kids-then m n (both d d) K) (P r))
       where
@@ -147,20 +129,20 @@ module _ (w : World) where
             ≡ bind (bind (bind g (λ e r. ok (act m c e s) r)) (λ u r2. row_go (E m) n (both d d) u r2)) (λ s2 r2. after (acts m (pair_after n (both d d))) K s2 r2)
         go ih (ok e r2) =
             map-map (times n P K r2) (λ es. more e es) (λ es. acts m (both c d) es s)
-            ∙ each (times n P K r2) (λ es. acts m (both c d) (more e es) s) (λ es. acts m (both d d) es (act m c e s)) (λ es. move-two w m (resolve w e) (resolves w es) (kinds_e w e c) (kinds_es w es (both d d)) (binders_e e) (binders es) (olds_e e) (olds es) s)
+            ∙ each (times n P K r2) (λ es. acts m (both c d) (more e es) s) (λ es. acts m (both d d) es (act m c e s)) (λ es. move-two m (resolve w e) (resolves w es) (kinds_e w e c) (kinds_es w es (both d d)) (olds_e e) (olds es) s)
             ∙ ih (act m c e s) r2
         go ih (no k) = refl
 
     none-law : (m : Mode) (p : Pair) (s : Both) (r : List ℕ) → after (acts m p) no_more s r ≡ ok s r
-    unfolding resolve kinds_e binders_e olds_e
-    none-law m p s r = ap (λ (x : Both). ok x r) (move-none w m s)
+    unfolding resolve kinds_e olds_e
+    none-law m p s r = ap (λ (x : Both). ok x r) (move-none m s)
 
     pub kids-law : (m : Mode) (n : ℕ) (p : Pair) (s : Both) (r : List ℕ) → after (acts m p) (times n P no_more) s r ≡ row_go (E m) n p s r
     kids-law m n p s r = kids-then m n p no_more s r ∙ bind-each (row_go (E m) n p s r) _ _ (λ u r2. none-law m (pair_after n p) u r2) ∙ bind_ok (row_go (E m) n p s r)
 
     pub marks-law : (m : Mode) (kind n : ℕ) (s : Both) (r : List ℕ) → after (acts m plain) (marks kind n P) s r ≡ rounds n (mark_go w E m kind) s r
-    unfolding marks rounds mark_go resolve kinds_e binders_e olds_e
-    marks-law m kind zero s r = ap (λ (x : Both). ok x r) (move-none w m s)
+    unfolding marks rounds mark_go resolve kinds_e olds_e
+    marks-law m kind zero s r = ap (λ (x : Both). ok x r) (move-none m s)
     marks-law m kind (suc n) s r = go (marks-law m kind n) (word_in (mark_low kind) (mark_high kind) r)
       where
         go : ((s : Both) (r : List ℕ) → after (acts m plain) (marks kind n P) s r ≡ rounds n (mark_go w E m kind) s r) → (g : Got ℕ) →
@@ -173,58 +155,57 @@ module _ (w : World) where
         go ih (no c) = refl
 
     -- a pattern
-    elems-then : (m : Mode) (n : ℕ) (K : RestS) (s : Both) (r : List ℕ) → after (lays m) (elems n t P K) s r ≡ bind (rounds n (elem_go w E m) s r) (λ s2 r2. after (lays m) K s2 r2)
-    unfolding elems elem_one rounds elem_go resolve kinds_e binders_e olds_e
+    elems-then : (m : Mode) (n : ℕ) (K : RestS) (s : Both) (r : List ℕ) → after (lays m) (elems n P K) s r ≡ bind (rounds n (elem_go w E m) s r) (λ s2 r2. after (lays m) K s2 r2)
+    unfolding elems elem_one rounds elem_go resolve kinds_e olds_e
     elems-then m zero K s r = refl
     elems-then m (suc n) K s r = go (elems-then m n K) (read_elem r)
       where
         laid : (h : Elem) (es : Exprs) (st : Steps) → lays m (elem h.kind h.start h.end h.variable es st) s ≡ lays m st (acts m plain es (elem_step w m h s))
         laid h es st =
-            move-on w m (bind_elem w h.kind (variable h.variable)) (λ y. bind_pattern w st (resolves w es y)) (misplaced (suc h.kind) h.kind h.start h.end (row_for w h.variable)) (kinds_es w es plain ++ kinds_s w st) (binder h.variable) (binders es ++ binders_s st) (olds es + olds_s st) s
-            ∙ move-two w m (resolves w es) (bind_pattern w st) (kinds_es w es plain) (kinds_s w st) (binders es) (binders_s st) (olds es) (olds_s st) (elem_step w m h s)
+            move-on m (bind_elem w h.kind (variable h.variable)) (λ y. bind_pattern w st (resolves w es y)) (misplaced (suc h.kind) h.kind h.start h.end (row_for w h.variable)) (kinds_es w es plain ++ kinds_s w st) (olds es + olds_s st) s
+            ∙ move-two m (resolves w es) (bind_pattern w st) (kinds_es w es plain) (kinds_s w st) (olds es) (olds_s st) (elem_step w m h s)
 
-        at : ((s : Both) (r : List ℕ) → after (lays m) (elems n t P K) s r ≡ bind (rounds n (elem_go w E m) s r) (λ s2 r2. after (lays m) K s2 r2)) → (h : Elem) (g : Got Exprs) →
-            bind (bind (bind {B = Elem × Exprs} g (λ es r2. ok (h, es) r2)) (λ x r. bind (elems n t P K r) (λ st r2. ok (elem x.0.kind x.0.start x.0.end x.0.variable x.1 st) r2))) (λ st r. ok (lays m st s) r)
+        at : ((s : Both) (r : List ℕ) → after (lays m) (elems n P K) s r ≡ bind (rounds n (elem_go w E m) s r) (λ s2 r2. after (lays m) K s2 r2)) → (h : Elem) (g : Got Exprs) →
+            bind (bind (bind {B = Elem × Exprs} g (λ es r2. ok (h, es) r2)) (λ x r. bind (elems n P K r) (λ st r2. ok (elem x.0.kind x.0.start x.0.end x.0.variable x.1 st) r2))) (λ st r. ok (lays m st s) r)
             ≡ bind (bind (bind g (λ es r2. ok (acts m plain es (elem_step w m h s)) r2)) (λ u r2. rounds n (elem_go w E m) u r2)) (λ s2 r2. after (lays m) K s2 r2)
         at ih h (ok es r2) =
-            map-map (elems n t P K r2) (λ st. elem h.kind h.start h.end h.variable es st) (λ st. lays m st s)
-            ∙ each (elems n t P K r2) (λ st. lays m (elem h.kind h.start h.end h.variable es st) s) (λ st. lays m st (acts m plain es (elem_step w m h s))) (laid h es)
+            map-map (elems n P K r2) (λ st. elem h.kind h.start h.end h.variable es st) (λ st. lays m st s)
+            ∙ each (elems n P K r2) (λ st. lays m (elem h.kind h.start h.end h.variable es st) s) (λ st. lays m st (acts m plain es (elem_step w m h s))) (laid h es)
             ∙ ih (acts m plain es (elem_step w m h s)) r2
         at ih h (no c) = refl
 
-        go : ((s : Both) (r : List ℕ) → after (lays m) (elems n t P K) s r ≡ bind (rounds n (elem_go w E m) s r) (λ s2 r2. after (lays m) K s2 r2)) → (g : Got Elem) →
-            bind (bind (bind g (λ h r. cond (allowed t h.variable) (bind {B = Elem × Exprs} (times h.property P no_more r) (λ es r2. ok (h, es) r2)) (no 7))) (λ x r. bind (elems n t P K r) (λ st r2. ok (elem x.0.kind x.0.start x.0.end x.0.variable x.1 st) r2))) (λ st r. ok (lays m st s) r)
+        go : ((s : Both) (r : List ℕ) → after (lays m) (elems n P K) s r ≡ bind (rounds n (elem_go w E m) s r) (λ s2 r2. after (lays m) K s2 r2)) → (g : Got Elem) →
+            bind (bind (bind g (λ h r. bind {B = Elem × Exprs} (times h.property P no_more r) (λ es r2. ok (h, es) r2))) (λ x r. bind (elems n P K r) (λ st r2. ok (elem x.0.kind x.0.start x.0.end x.0.variable x.1 st) r2))) (λ st r. ok (lays m st s) r)
             ≡ bind (bind (bind g (λ h r2. row_go (E m) h.property plain (elem_step w m h s) r2)) (λ u r2. rounds n (elem_go w E m) u r2)) (λ s2 r2. after (lays m) K s2 r2)
-        go ih (ok h r2) = rw (free-allowed t free h.variable, ← (kids-law m h.property plain (elem_step w m h s) r2)) (at ih h (times h.property P no_more r2))
+        go ih (ok h r2) = rw (← (kids-law m h.property plain (elem_step w m h s) r2)) (at ih h (times h.property P no_more r2))
         go ih (no c) = refl
 
-    parts-law : (m : Mode) (n : ℕ) (s : Both) (r : List ℕ) → after (lays m) (parts n t P) s r ≡ rounds n (part_go w E m) s r
-    unfolding parts rounds part_go resolve kinds_e binders_e olds_e
-    parts-law m zero s r = ap (λ (x : Both). ok x r) (move-none w m s)
+    parts-law : (m : Mode) (n : ℕ) (s : Both) (r : List ℕ) → after (lays m) (parts n P) s r ≡ rounds n (part_go w E m) s r
+    unfolding parts rounds part_go resolve kinds_e olds_e
+    parts-law m zero s r = ap (λ (x : Both). ok x r) (move-none m s)
     parts-law m (suc n) s r = go (parts-law m n) (read_part r)
       where
-        go : ((s : Both) (r : List ℕ) → after (lays m) (parts n t P) s r ≡ rounds n (part_go w E m) s r) → (g : Got Part) →
-            bind (bind g (λ h r. cond (allowed t h.path) (bind (elems h.count t P (parts n t P) r) (λ st r2. ok (part h.path st) r2)) (no 7))) (λ st r. ok (lays m st s) r)
+        go : ((s : Both) (r : List ℕ) → after (lays m) (parts n P) s r ≡ rounds n (part_go w E m) s r) → (g : Got Part) →
+            bind (bind g (λ h r. bind (elems h.count P (parts n P) r) (λ st r2. ok (part h.path st) r2))) (λ st r. ok (lays m st s) r)
             ≡ bind (bind g (λ h r2. rounds h.count (elem_go w E m) (part_step w m h s) r2)) (λ u r2. rounds n (part_go w E m) u r2)
         go ih (ok h r2) =
-            rw (free-allowed t free h.path)
-            (map-map (elems h.count t P (parts n t P) r2) (λ st. part h.path st) (λ st. lays m st s)
-            ∙ each (elems h.count t P (parts n t P) r2) (λ st. lays m (part h.path st) s) (λ st. lays m st (part_step w m h s)) (λ st. move-on w m (bind_path w (variable h.path)) (bind_pattern w st) (misplaced 1 3 0 0 (row_for w h.path)) (kinds_s w st) (binder h.path) (binders_s st) (olds_s st) s)
-            ∙ elems-then m h.count (parts n t P) (part_step w m h s) r2
-            ∙ bind-each (rounds h.count (elem_go w E m) (part_step w m h s) r2) _ _ ih)
+            map-map (elems h.count P (parts n P) r2) (λ st. part h.path st) (λ st. lays m st s)
+            ∙ each (elems h.count P (parts n P) r2) (λ st. lays m (part h.path st) s) (λ st. lays m st (part_step w m h s)) (λ st. move-on m (bind_path w (variable h.path)) (bind_pattern w st) (misplaced 1 3 0 0 (row_for w h.path)) (kinds_s w st) (olds_s st) s)
+            ∙ elems-then m h.count (parts n P) (part_step w m h s) r2
+            ∙ bind-each (rounds h.count (elem_go w E m) (part_step w m h s) r2) _ _ ih
         go ih (no c) = refl
 
-    pub pattern-law : (m : Mode) (s : Both) (r : List ℕ) → after (lays m) (pattern t P) s r ≡ pattern_go w E m s r
+    pub pattern-law : (m : Mode) (s : Both) (r : List ℕ) → after (lays m) (pattern P) s r ≡ pattern_go w E m s r
     unfolding pattern pattern_go
     pattern-law m s r = go (any_word r)
       where
-        go : (g : Got ℕ) → bind (bind g (λ n r. parts n t P r)) (λ st r. ok (lays m st s) r) ≡ bind g (λ n r2. rounds n (part_go w E m) s r2)
+        go : (g : Got ℕ) → bind (bind g (λ n r. parts n P r)) (λ st r. ok (lays m st s) r) ≡ bind g (λ n r2. rounds n (part_go w E m) s r2)
         go (ok n r2) = parts-law m n s r2
         go (no c) = refl
 
     -- what follows a head
     abbrev Follows : Form → Type 0
-    Follows f = (m : Mode) (c : Setting) (s : Both) (r : List ℕ) → after (act m c) (after_form t P f) s r ≡ bind (rest_go w E m f c (head_of w m f c s) r) (λ s2 r2. ok (tail_of m f s s2) r2)
+    Follows f = (m : Mode) (c : Setting) (s : Both) (r : List ℕ) → after (act m c) (after_form P f) s r ≡ bind (rest_go w E m f c (head_of w m f c s) r) (λ s2 r2. ok (tail_of m f s s2) r2)
 
     -- a head without a pattern: its own finding, and then its parts
     module _ (m : Mode) (c : Setting) (f : Form) (s : Both) (h : head_of w m f c s ≡ counting (old_in f) (step m same (at_type c (type_of f)) s)) where
@@ -235,9 +216,9 @@ module _ (w : World) where
       own = head_of w m f c s
 
       stepped : (es : Exprs) → act m c (node f es) s ≡ acts m its es own
-      unfolding resolve kinds_e binders_e olds_e
+      unfolding resolve kinds_e olds_e
       stepped es =
-          (λ i. record { names = when-two m.resolves same (resolves w es) s.names i; kinds = when-told m.checks (at_type c (type_of f)) (kinds_es w es its) s.kinds i; known = s.known && all_known (has_row w) (binders es); olds = olds_two s.olds (old_in f) (olds es) i })
+          (λ i. record { names = when-two m.resolves same (resolves w es) s.names i; kinds = when-told m.checks (at_type c (type_of f)) (kinds_es w es its) s.kinds i; olds = olds_two s.olds (old_in f) (olds es) i })
           ∙ ap (acts m its es) (sym h)
 
       noded : (R : RestE) (r : List ℕ) → bind (bind (R r) (λ es r3. ok (node f es) r3)) (λ e r2. ok (act m c e s) r2) ≡ after (acts m its) R own r
@@ -245,11 +226,11 @@ module _ (w : World) where
 
       row-head : (n : ℕ) (r : List ℕ) → bind (bind (times n P (marks 0 0 P) r) (λ es r3. ok (node f es) r3)) (λ e r2. ok (act m c e s) r2)
           ≡ bind (bind (row_go (E m) n its own r) (λ s2 r2. rounds 0 (mark_go w E m 0) s2 r2)) (λ s2 r2. ok s2 r2)
-      unfolding marks rounds resolve kinds_e binders_e olds_e
+      unfolding marks rounds resolve kinds_e olds_e
       row-head n r =
           noded (times n P (marks 0 0 P)) r
           ∙ kids-then m n its (marks 0 0 P) own r
-          ∙ bind-each (row_go (E m) n its own r) _ _ (λ u r2. ap (λ (x : Both). ok x r2) (move-none w m u))
+          ∙ bind-each (row_go (E m) n its own r) _ _ (λ u r2. ap (λ (x : Both). ok x r2) (move-none m u))
           ∙ sym (bind_ok _)
 
       items-head : (n k : ℕ) (r : List ℕ) → pair_after n its ≡ plain → bind (bind (times n P (marks 0 k P) r) (λ es r3. ok (node f es) r3)) (λ e r2. ok (act m c e s) r2)
@@ -261,19 +242,19 @@ module _ (w : World) where
           ∙ sym (bind_ok _)
 
     -- a PatternPredicate: its own finding, then its pattern, of which the name walk sees nothing
-    pred : (m : Mode) (c : Setting) (s : Both) (r : List ℕ) → bind (bind (pattern t P r) (λ st r2. ok (predicate st) r2)) (λ e r2. ok (act m c e s) r2)
+    pred : (m : Mode) (c : Setting) (s : Both) (r : List ℕ) → bind (bind (pattern P r) (λ st r2. ok (predicate st) r2)) (λ e r2. ok (act m c e s) r2)
         ≡ bind (bind (pattern_go w E (unresolving m) (step m same (at_type c pattern_type) s) r) (λ s1 r1. ok s1 r1)) (λ s2 r2. ok s2 r2)
-    unfolding resolve kinds_e binders_e olds_e
+    unfolding resolve kinds_e olds_e
     pred m c s r =
-        map-map (pattern t P r) (λ st. predicate st) (λ e. act m c e s)
-        ∙ each (pattern t P r) (λ st. act m c (predicate st) s) (λ st. lays (unresolving m) st (step m same (at_type c pattern_type) s)) (λ st. λ i. record { names = when m.resolves same s.names; kinds = when-told m.checks (at_type c pattern_type) (kinds_s w st) s.kinds i; known = s.known && all_known (has_row w) (binders_s st); olds = s.olds + olds_s st })
+        map-map (pattern P r) (λ st. predicate st) (λ e. act m c e s)
+        ∙ each (pattern P r) (λ st. act m c (predicate st) s) (λ st. lays (unresolving m) st (step m same (at_type c pattern_type) s)) (λ st. λ i. record { names = when m.resolves same s.names; kinds = when-told m.checks (at_type c pattern_type) (kinds_s w st) s.kinds i; olds = s.olds + olds_s st })
         ∙ pattern-law (unresolving m) (step m same (at_type c pattern_type) s) r
         ∙ sym (bind_ok _) ∙ sym (bind_ok _)
 
     -- a PatternComprehension: its scope, its pattern, its row, and out again
     scoped : (m : Mode) (c : Setting) (a b : ℕ) (st : Steps) (es : Exprs) (s : Both) → act m c (comprehension a b st es) s ≡ left m s (acts m plain es (lays m st (step m (enter comprehension_scope a b) [] s)))
-    unfolding resolve kinds_e binders_e olds_e
-    scoped m c a b st es s = λ i. record { names = out m.resolves i; kinds = found m.checks i; known = known_two (has_row w) s.known (binders_s st) (binders es) i; olds = olds_two s.olds (olds_s st) (olds es) i }
+    unfolding resolve kinds_e olds_e
+    scoped m c a b st es s = λ i. record { names = out m.resolves i; kinds = found m.checks i; olds = olds_two s.olds (olds_s st) (olds es) i }
       where
         out : (q : Bool) → when q (λ y. leave y (resolves w es (bind_pattern w st (enter comprehension_scope a b y)))) s.names ≡ when q (leave s.names) (when q (resolves w es) (when q (bind_pattern w st) (when q (enter comprehension_scope a b) s.names)))
         out true = refl
@@ -283,10 +264,10 @@ module _ (w : World) where
         found true = unfold told in told-append (kinds_s w st) (kinds_es w es plain) s.kinds
         found false = refl
 
-    comp : (m : Mode) (c : Setting) (n a b : ℕ) (s : Both) (r : List ℕ) → bind (bind (pattern t P r) (λ st r2. bind (times n P (marks 0 0 P) r2) (λ es r3. ok (comprehension a b st es) r3))) (λ e r2. ok (act m c e s) r2)
+    comp : (m : Mode) (c : Setting) (n a b : ℕ) (s : Both) (r : List ℕ) → bind (bind (pattern P r) (λ st r2. bind (times n P (marks 0 0 P) r2) (λ es r3. ok (comprehension a b st es) r3))) (λ e r2. ok (act m c e s) r2)
         ≡ bind (bind (pattern_go w E m (step m (enter comprehension_scope a b) [] s) r) (λ s1 r1. bind (row_go (E m) n plain s1 r1) (λ s2 r2. rounds 0 (mark_go w E m 0) s2 r2))) (λ s2 r2. ok (left m s s2) r2)
     unfolding marks rounds
-    comp m c n a b s r = rw (← (pattern-law m (step m (enter comprehension_scope a b) [] s) r)) (go (pattern t P r))
+    comp m c n a b s r = rw (← (pattern-law m (step m (enter comprehension_scope a b) [] s) r)) (go (pattern P r))
       where
         go : (g : Got Steps) → bind (bind g (λ st r2. bind (times n P (marks 0 0 P) r2) (λ es r3. ok (comprehension a b st es) r3))) (λ e r2. ok (act m c e s) r2)
             ≡ bind (bind (bind g (λ st r2. ok (lays m st (step m (enter comprehension_scope a b) [] s)) r2)) (λ s1 r1. bind (row_go (E m) n plain s1 r1) (λ s2 r2. rounds 0 (mark_go w E m 0) s2 r2))) (λ s2 r2. ok (left m s s2) r2)
@@ -300,10 +281,10 @@ module _ (w : World) where
         go (no k) = refl
 
     follows : (f : Form) → Follows f
-    unfolding after_form rest_go maybe_pattern times marks rounds row_go tree resolve kinds_e binders_e olds_e settings
+    unfolding after_form rest_go maybe_pattern times marks rounds row_go tree resolve kinds_e olds_e settings
     follows (Leaf k) m c s r = row-head m c (Leaf k) s refl 0 r
-    follows (Var v) m c s r = ap (λ (x : Both). ok x r) (noting-none w (head_of w m (Var v) c s))
-    follows (Unresolved x) m c s r = ap (λ (x : Both). ok x r) (noting-none w (head_of w m (Unresolved x) c s))
+    follows (Var v) m c s r = ap (λ (x : Both). ok x r) (counting-none (head_of w m (Var v) c s))
+    follows (Unresolved x) m c s r = ap (λ (x : Both). ok x r) (counting-none (head_of w m (Unresolved x) c s))
     follows (Prop x) m c s r = row-head m c (Prop x) s (sym (counting-none _)) 1 r
     follows (Two k) m c s r = row-head m c (Two k) s (sym (counting-none _)) 2 r
     follows (Slice b) m c s r = row-head m c (Slice b) s (sym (counting-none _)) (kids_of (Slice b)) r
@@ -318,13 +299,13 @@ module _ (w : World) where
     follows (ListPredicate g) m c s r = row-head m c (ListPredicate g) s (sym (counting-none _)) (kids_of (ListPredicate g)) r
     follows (MapProjection n) m c s r = items-head m c (MapProjection n) s (sym (counting-none _)) 1 n r refl
 
-  -- An expression: read as the definition reads it, where any variable may be bound, and then walked by both.
-  pub apart : (t : Tables) → ((v : ℕ) → t.known v ≡ true) → (d : ℕ) (m : Mode) (c : Setting) (s : Both) (r : List ℕ) → expr_go w t d m c s r ≡ after (act m c) (read_expr t d) s r
+  -- An expression: read as the definition reads it, and then walked by both.
+  pub apart : (names d : ℕ) (m : Mode) (c : Setting) (s : Both) (r : List ℕ) → expr_go w names d m c s r ≡ after (act m c) (read_expr names d) s r
   unfolding expr_go read_expr
-  apart t free zero m c s r = refl
-  apart t free (suc d) m c s r = go (follows t free (expr_go w t d) (read_expr t d) (apart t free d)) (read_form t.names r)
+  apart names zero m c s r = refl
+  apart names (suc d) m c s r = go (follows (expr_go w names d) (read_expr names d) (apart names d)) (read_form names r)
     where
-      go : ((f : Form) (m : Mode) (c : Setting) (s : Both) (r : List ℕ) → after (act m c) (after_form t (read_expr t d) f) s r ≡ bind (rest_go w (expr_go w t d) m f c (head_of w m f c s) r) (λ s2 r2. ok (tail_of m f s s2) r2)) → (g : Got Form) →
-          bind g (λ f r1. bind (rest_go w (expr_go w t d) m f c (head_of w m f c s) r1) (λ s2 r2. ok (tail_of m f s s2) r2)) ≡ bind (bind g (λ f r. after_form t (read_expr t d) f r)) (λ e r2. ok (act m c e s) r2)
+      go : ((f : Form) (m : Mode) (c : Setting) (s : Both) (r : List ℕ) → after (act m c) (after_form (read_expr names d) f) s r ≡ bind (rest_go w (expr_go w names d) m f c (head_of w m f c s) r) (λ s2 r2. ok (tail_of m f s s2) r2)) → (g : Got Form) →
+          bind g (λ f r1. bind (rest_go w (expr_go w names d) m f c (head_of w m f c s) r1) (λ s2 r2. ok (tail_of m f s s2) r2)) ≡ bind (bind g (λ f r. after_form (read_expr names d) f r)) (λ e r2. ok (act m c e s) r2)
       go law (ok f r1) = sym (law f m c s r1)
       go law (no k) = refl

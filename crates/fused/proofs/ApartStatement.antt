@@ -3,19 +3,19 @@
 use Prim.Native.Nat.{ℕ, ◌*◌}
 use mathlib.Core.Path.{◌≡◌, refl, ap, sym, ◌∙◌}
 use mathlib.Core.Bool.{Bool}
-use mathlib.Core.List.{List, [], ◌∷◌, map, reverse, reverse_aux, reverse-reverse}
+use mathlib.Core.List.{List, [], ◌∷◌, reverse, reverse_aux, reverse-reverse}
 use lib.ListN.{take}
 use Rattle.words.specs.Words.{words}
 use Rattle.expr.proofs.Inverse.{never}
 use Rattle.clauses.specs.Tree.{Clause, Arm}
-use Rattle.tables.specs.Row.{Row, row_id}
+use Rattle.tables.specs.Row.{Row}
 use Rattle.sheet.specs.Trailer.{section}
 use Rattle.sheet.specs.Statement.{Statement}
 use Rattle.sheet.specs.Olds.{old_exists}
 use Rattle.sheet.specs.Read.{Sheet, accepted, refused, then', read_names, read_rows, read_clauses, locate, read_sections, read_sheet}
 use Rattle.sheet.specs.declared.trailer.Places.{Places}
 use Rattle.semantics.specs.Log.{Finding}
-use Rattle.semantics.specs.World.{World, row_of, bytes_of, world_of}
+use Rattle.semantics.specs.World.{World, bytes_of, world_of}
 use Rattle.semantics.specs.Resolve.{State, start, run}
 use Rattle.semantics.specs.Kinds.{kinds}
 use Rattle.fused.specs.Fused.{Both, told}
@@ -56,13 +56,13 @@ abbrev pub said_by : Both → State × (List Finding × ℕ)
 said_by u = (u.names, (reverse u.kinds, u.olds))
 
 module _ {s : List ℕ} {p : Places} {ns : List (List ℕ)} {rs : List Row} (h : HasTables s p ns rs) where
-  sheet-read : read_sheet s ≡ then' (read_clauses (words s) p (map row_id rs)) (λ x. accepted (stated ns rs p x))
+  sheet-read : read_sheet s ≡ then' (read_clauses (words s) p) (λ x. accepted (stated ns rs p x))
   unfolding read_sheet read_sections
   sheet-read = rw (h.places, h.names, h.rows)
 
   -- the World that was known before is the statement's
   pub world-read : (warns : Bool) {st : Statement} → read_sheet s ≡ accepted st → world_of warns st ≡ world_by warns ns rs
-  world-read warns {st} e = go (read_clauses (words s) p (map row_id rs)) (sym sheet-read ∙ e)
+  world-read warns {st} e = go (read_clauses (words s) p) (sym sheet-read ∙ e)
     where
       go : (g : Sheet (List Clause × List Arm)) → then' g (λ x. accepted (stated ns rs p x)) ≡ accepted st → world_of warns st ≡ world_by warns ns rs
       go (accepted x) q = let y : st ≡ stated ns rs p x = cc in ap (world_of warns) y ∙ world-by warns ns rs p x
@@ -73,11 +73,8 @@ module _ {s : List ℕ} {p : Places} {ns : List (List ℕ)} {rs : List Row} (h :
   said_same warns x = λ i. (run warns (stated ns rs p x), (sym (ap reverse (told_back (kinds (world_by warns ns rs) x.0) []) ∙ reverse-reverse (kinds (world_by warns ns rs) x.0)) i, old_exists (stated ns rs p x)))
 
   said-known : (warns : Bool) → then' (read_sheet s) (λ st. accepted (said_of warns st)) ≡ then' (sheet_go (world_by warns ns rs) p (words s)) (λ u. accepted (said_by u))
-  said-known warns = rw (sheet-read, apart-sheet (world_by warns ns rs) rs rows-by p (words s)) (go (read_clauses (words s) p (map row_id rs)))
+  said-known warns = rw (sheet-read, apart-sheet (world_by warns ns rs) p (words s)) (go (read_clauses (words s) p))
     where
-      rows-by : (v : ℕ) → (world_by warns ns rs).row v ≡ row_of v rs
-      rows-by v = unfold world_of in refl
-
       go : (g : Sheet (List Clause × List Arm)) → then' (then' g (λ x. accepted (stated ns rs p x))) (λ st. accepted (said_of warns st)) ≡ then' (then' g (λ x. accepted (leaves (world_by warns ns rs) p x))) (λ u. accepted (said_by u))
       go (accepted x) = ap accepted (said_same warns x)
       go (refused c) = refl

@@ -1,15 +1,14 @@
 -- Reading, resolving and checking kinds in one: what the words at a place make of where both walks stand, or the cause of a refusal. proofs/
 -- Apart has it that this is the definition's reading, and then its two walks over what was read.
-use Rattle.std.specs.Prelude.{ℕ, zero, suc, ◌+◌, Bool, true, false, ◌&&◌, List, [], ◌∷◌, Option, None, Some}
+use Rattle.std.specs.Prelude.{ℕ, zero, suc, ◌+◌, Bool, true, false, List, [], ◌∷◌}
 use Rattle.scope.specs.Graph.{comprehension_scope}
 use Rattle.heads.specs.Got.{Got, ok, no, bind, word_in, any_word}
 use Rattle.heads.specs.Form.{read_form, kids_of, items_of}
-use Rattle.heads.specs.Head.{Tables, read_part, read_elem, mark_low, mark_high, mark_kids, deep_cause}
+use Rattle.heads.specs.Head.{read_part, read_elem, mark_low, mark_high, mark_kids, deep_cause}
 use Rattle.heads.specs.declared.Elem.{Elem}
 use Rattle.heads.specs.declared.Part.{Part}
 use Rattle.heads.specs.declared.Form.{Form}
 use Rattle.heads.specs.declared.Form.TheVariants.{Leaf, Var, Unresolved, Prop, Two, Slice, Many, BinOp, UnaryOp, Case, IsNull, PatternPredicate, ListComprehension, PatternComprehension, ListPredicate, MapProjection}
-use Rattle.expr.specs.Binders.{binder, all_known}
 use Rattle.expr.specs.Olds.{old_in}
 use Rattle.tables.specs.Row.{path_kind}
 use Rattle.semantics.specs.Log.{Finding}
@@ -17,12 +16,10 @@ use Rattle.semantics.specs.World.{World, variable}
 use Rattle.semantics.specs.Resolve.{State, lookup, enter, leave, use_var, visit, bind_path, bind_elem}
 use Rattle.semantics.specs.Kinds.{Setting, Pair, both, plain, pattern_type, type_of, settings, at_type, at_row, misplaced, row_for}
 
--- Where both walks stand: the name walk's state, what the kind walk found, newest first, whether every variable bound so far has a row
--- (cause 7: "a node, relationship, path or Unwind variable anywhere without a binding"), and how many expressions 25 were read so far.
+-- Where both walks stand: the name walk's state, what the kind walk found, newest first, and how many expressions 25 were read so far.
 pub record Both : Type 0 where
   pub names : State
   pub kinds : List Finding
-  pub known : Bool
   pub olds : ℕ
 
 -- Which walks look at a place: names are "not resolved" in some, and kinds are checked in the "head only".
@@ -47,11 +44,11 @@ told (f ∷ fs) k = told fs (f ∷ k)
 
 -- so many expressions 25 more, whichever walk looks
 abbrev pub counting : ℕ → Both → Both
-counting n s = record { names = s.names; kinds = s.kinds; known = s.known; olds = s.olds + n }
+counting n s = record { names = s.names; kinds = s.kinds; olds = s.olds + n }
 
 -- a step of the name walk and findings of the kind walk, of those that look
 abbrev pub step : Mode → (State → State) → List Finding → Both → Both
-step m f fs s = record { names = when m.resolves f s.names; kinds = when m.checks (told fs) s.kinds; known = s.known; olds = s.olds }
+step m f fs s = record { names = when m.resolves f s.names; kinds = when m.checks (told fs) s.kinds; olds = s.olds }
 
 -- one after the other
 unfoldable pub rounds : ℕ → Go → Go
@@ -68,7 +65,7 @@ same s = s
 
 -- out of a comprehension's scope; any other head leaves what its parts left
 abbrev pub left : Mode → Both → Both → Both
-left m s t = record { names = when m.resolves (leave s.names) t.names; kinds = t.kinds; known = t.known; olds = t.olds }
+left m s t = record { names = when m.resolves (leave s.names) t.names; kinds = t.kinds; olds = t.olds }
 
 abbrev pub tail_of : Mode → Form → Both → Both → Both
 tail_of m (Leaf k) s t = t
@@ -88,18 +85,7 @@ tail_of m (PatternComprehension a b g) s t = left m s t
 tail_of m (ListPredicate g) s t = t
 tail_of m (MapProjection n) s t = t
 
-abbrev pub is_some : {A : Type 0} → Option A → Bool
-is_some None = false
-is_some (Some a) = true
-
 module _ (w : World) where
-  abbrev pub has_row : ℕ → Bool
-  has_row v = is_some (w.row v)
-
-  -- variables are bound, whichever walk looks
-  abbrev pub noting : List ℕ → Both → Both
-  noting vs s = record { names = s.names; kinds = s.kinds; known = s.known && all_known has_row vs; olds = s.olds }
-
   -- a name, sought in the visible list if it is a use here
   abbrev pub name_use : ℕ → State → State
   name_use x s = visit w (w.hushed x) x (lookup x s.visible) s
@@ -125,12 +111,10 @@ module _ (w : World) where
 
   -- an element's and a part's own binder
   abbrev pub elem_step : Mode → Elem → Both → Both
-  elem_step m h s =
-      noting (binder h.variable)
-      (step m (bind_elem w h.kind (variable h.variable)) (misplaced (suc h.kind) h.kind h.start h.end (row_for w h.variable)) s)
+  elem_step m h = step m (bind_elem w h.kind (variable h.variable)) (misplaced (suc h.kind) h.kind h.start h.end (row_for w h.variable))
 
   abbrev pub part_step : Mode → Part → Both → Both
-  part_step m h s = noting (binder h.path) (step m (bind_path w (variable h.path)) (misplaced 1 path_kind 0 0 (row_for w h.path)) s)
+  part_step m h = step m (bind_path w (variable h.path)) (misplaced 1 path_kind 0 0 (row_for w h.path))
 
   -- E walks an expression within, by mode and setting
   module _ (E : Mode → Setting → Go) where
@@ -172,9 +156,9 @@ module _ (w : World) where
         bind (inner_go m f s r)
         (λ s1 r1. bind (row_go (E m) (kids_of f) (settings w.is_id f c) s1 r1) (λ s2 r2. rounds (items_of f) (mark_go m 0) s2 r2))
 
-  -- an expression, with room for this many levels
-  unfoldable pub expr_go : Tables → ℕ → Mode → Setting → Go
-  expr_go t zero m c s r = no (deep_cause r)
-  expr_go t (suc d) m c s r =
-      bind (read_form t.names r)
-      (λ f r1. bind (rest_go (expr_go t d) m f c (head_of m f c s) r1) (λ s2 r2. ok (tail_of m f s s2) r2))
+  -- an expression, where there are so many names, with room for this many levels
+  unfoldable pub expr_go : ℕ → ℕ → Mode → Setting → Go
+  expr_go names zero m c s r = no (deep_cause r)
+  expr_go names (suc d) m c s r =
+      bind (read_form names r)
+      (λ f r1. bind (rest_go (expr_go names d) m f c (head_of m f c s) r1) (λ s2 r2. ok (tail_of m f s s2) r2))

@@ -3,7 +3,7 @@
 use Rattle.std.specs.Prelude.{ℕ, true, List, [], ◌∷◌, None}
 use Rattle.scope.specs.Graph.{root_scope, scope}
 use Rattle.sheet.specs.Trailer.{section}
-use Rattle.sheet.specs.Read.{Sheet, accepted, then', unless, used_up, any_binder}
+use Rattle.sheet.specs.Read.{Sheet, then', used_up}
 use Rattle.sheet.specs.declared.trailer.Places.{Places}
 use Rattle.semantics.specs.Log.{open'}
 use Rattle.semantics.specs.World.{World}
@@ -20,20 +20,18 @@ begun p =
     record {
       names = record { visible = []; cur = 0; last = 0; log = open' (scope root_scope None p.start p.end) ∷ [] };
       kinds = [];
-      known = true;
       olds = 0;
     }
 
 module _ (w : World) where
   -- n clauses, n arms that are a whole section: causes 5 and 6
   unfoldable pub head_go : (names n : ℕ) → Both → List ℕ → Sheet Both
-  head_go names n s r = used_up (rounds n (clause_go w (any_binder names) every_walk) s r)
+  head_go names n s r = used_up (rounds n (clause_go w names every_walk) s r)
 
   unfoldable pub arms_go : (names n : ℕ) → Both → List ℕ → Sheet Both
-  arms_go names n s r = used_up (rounds n (arm_go w (any_binder names) every_walk) s r)
+  arms_go names n s r = used_up (rounds n (arm_go w names every_walk) s r)
 
-  -- head and arms; then cause 7
+  -- head and arms
   unfoldable pub sheet_go : Places → List ℕ → Sheet Both
   sheet_go p ws =
-      then' (head_go p.names p.clauses (begun p) (section ws p.head p.tail))
-      (λ s. then' (arms_go p.names p.arms s (section ws p.tail p.trailer)) (λ u. unless 7 u.known (accepted u)))
+      then' (head_go p.names p.clauses (begun p) (section ws p.head p.tail)) (λ s. arms_go p.names p.arms s (section ws p.tail p.trailer))

@@ -13,10 +13,8 @@ use Rattle.heads.specs.Head.{read_maybe, read_part, read_elem, deep_cause}
 use Rattle.heads.specs.Answer.{is_in}
 use Rattle.expr.specs.Tree.{var, unresolved, done, end, part, elem, tree}
 use Rattle.expr.specs.Read.{reading}
-use Rattle.expr.specs.Binders.{binder, binders_e, all_known}
 use Rattle.clauses.specs.Tree.{Clause, unsorted, opening, match, return, projection, Arm, arm, keys_of}
 use Rattle.clauses.specs.Read.{clausal}
-use Rattle.clauses.specs.Binders.{binders_p, binders_c, binders_a}
 use Rattle.clauses.specs.Erase.{erase_keys, erase_c, erase_a}
 use Rattle.tables.specs.Distinct.{same_bytes, name_in, fresh_after, distinct}
 use Rattle.tables.specs.Name.{all_zero, name_body, read_name}
@@ -82,7 +80,7 @@ abbrev second : Statement
 second = statement cut₂ (arm 36 50 (returning 42 50 0 ∷ [])) 50
 
 pub agreeing : AgreeSheets true (bytes_of one) (bytes_of two) first second (in_head cut₁) (in_head cut₂)
-unfolding words is_utf8 goes_on step after word_in many counted shape_of limit_of form_none form_one case_rest comp_rest rest_of read_form read_maybe read_part read_elem deep_cause is_in tree reading binder binders_e all_known clausal binders_p binders_c binders_a same_bytes name_in fresh_after distinct all_zero name_body read_name row_id read_row sized in_place places_of read_names read_rows read_clauses locate read_sections read_sheet bytes_of names_section bindings_section key_words later_clause_words later_arm_words keys_of erase_keys erase_c erase_a logs walk lists sites
+unfolding words is_utf8 goes_on step after word_in many counted shape_of limit_of form_none form_one case_rest comp_rest rest_of read_form read_maybe read_part read_elem deep_cause is_in tree reading clausal same_bytes name_in fresh_after distinct all_zero name_body read_name row_id read_row sized in_place places_of read_names read_rows read_clauses locate read_sections read_sheet bytes_of names_section bindings_section key_words later_clause_words later_arm_words keys_of erase_keys erase_c erase_a logs walk lists sites
 agreeing =
     record {
       reads₁ = refl;

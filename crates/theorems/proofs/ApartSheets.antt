@@ -6,7 +6,6 @@ use mathlib.Core.Bool.{Bool}
 use mathlib.Core.List.{List, [], ◌∷◌, ◌++◌}
 use Rattle.words.specs.Words.{words}
 use Rattle.heads.specs.Got.{ok, word_in, many}
-use Rattle.heads.specs.Head.{Tables}
 use Rattle.clauses.specs.Tree.{with', arm}
 use Rattle.clauses.specs.Well.{Each, WellMany, WellKeys, WellClause, WellArm}
 use Rattle.clauses.proofs.ReadsBackClause.{many-once}
@@ -15,7 +14,7 @@ use Rattle.tables.specs.Name.{read_name}
 use Rattle.tables.specs.Row.{read_row}
 use Rattle.sheet.specs.Trailer.{places_of}
 use Rattle.sheet.specs.Statement.{Statement}
-use Rattle.sheet.specs.Read.{accepted, any_binder, read_sheet}
+use Rattle.sheet.specs.Read.{accepted, read_sheet}
 use Rattle.sheet.specs.Write.{bytes_of}
 use Rattle.theorems.specs.Site.{Cut, Site, in_head, in_arm, cut_of, Stands, later_arms, new_root, whole}
 use Rattle.theorems.specs.With.{Agree, Same}
@@ -31,11 +30,11 @@ each_after P [] y ys h = h
 each_after P (x ∷ xs) y ys h = each_after P xs y ys h.1
 
 -- a WITH's sort keys, and the part after it, are as well-formed as the statement
-cut-well : (w : Tables) (c : Cut) → Each (WellClause w) (whole c) → WellKeys w c.keys × Each (WellClause w) c.after
+cut-well : (w : ℕ) (c : Cut) → Each (WellClause w) (whole c) → WellKeys w c.keys × Each (WellClause w) c.after
 unfolding whole WellClause
 cut-well w c h = let x = each_after (WellClause w) c.before (with' c.start c.stop c.projections c.filter c.keys) c.after h in (x.0.5, x.1)
 
-later-well : (w : Tables) (st : Statement) (p : Site) → Stands st p → Each (WellClause w) st.head → Each (WellArm w) st.arms →
+later-well : (w : ℕ) (st : Statement) (p : Site) → Stands st p → Each (WellClause w) st.head → Each (WellArm w) st.arms →
     WellKeys w (cut_of p).keys × Each (WellClause w) (cut_of p).after × Each (WellArm w) (later_arms st p)
 unfolding WellArm WellMany
 later-well w st (in_head c) q h g = let x = cut-well w c (rw q at h) in (x.0, x.1, g)
@@ -69,7 +68,7 @@ module _ {warns : Bool} {s₁ s₂ : List ℕ} {st₁ st₂ : Statement} {p₁ p
   agree : Agree warns st₁ st₂ p₁ p₂
   unfolding key_words later_clause_words later_arm_words
   agree =
-      let w = any_binder (places_of (words s₁)).names in
+      let w = (places_of (words s₁)).names in
       let x = (accepted-words s₁ st₁ h.reads₁).1 in
       let y = (accepted-words s₂ st₂ h.reads₂).1 in
       let u = later-well w st₁ p₁ h.stands₁ x.head_well x.arms_well in
