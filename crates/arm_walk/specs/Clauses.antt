@@ -2,7 +2,7 @@
 use Rattle.std.specs.Prelude.{ℕ, true}
 use Rattle.fused.specs.Fused.{Mode, rounds}
 use Rattle.fused.specs.Clauses.{arm_go}
-use Rattle.steps.specs.Memory.{tables_in, world_at}
+use Rattle.steps.specs.Memory.{names_in, world_at}
 use Rattle.walk.specs.Goes.{Goer}
 use Rattle.clause_walk.specs.Clauses.{clause_at}
 use Rattle.steps.specs.declared.context.Context.{Context}
@@ -17,7 +17,7 @@ module _ (c : Context) (mode : Mode) where
   clauses_at n id = rounds n (clause_at c mode id)
 
   abbrev pub arm_at : Goer
-  arm_at id = arm_go (world_at c id) (tables_in c) mode
+  arm_at id = arm_go (world_at c id) (names_in c) mode
 
   abbrev pub arms_at : ℕ → Goer
   arms_at n id = rounds n (arm_at id)

@@ -5,13 +5,12 @@
 #![tactic(auto)]
 
 ghost use Rattle.std.specs.Prelude.{◌≡◌, length};
-ghost use Rattle.visible.specs.Stack.{Sound};
 ghost use Rattle.steps.specs.Modes.{mode_of};
 ghost use Rattle.steps.specs.Hold.{Ready};
 ghost use Rattle.clause_parts.specs.Passes.{Held, Clear, Passes};
 ghost use Rattle.clause_walk.specs.Clauses.{names_alone};
 ghost use Rattle.arm_walk.specs.Clauses.{both_walks, clauses_at, arm_at, arms_at};
-ghost use Rattle.arm_walk.specs.Taking.{Stores, Takes};
+ghost use Rattle.arm_walk.specs.Taking.{Storing, Stores, Takes};
 
 use clause_parts::{next_any, next_word};
 use clause_walk::walk_clause;
@@ -21,14 +20,14 @@ use steps::{Context, Mode, Walk};
 
 // What a clause carried, stored behind `from` entries: all that is visible after it, by the scope before the current one.
 fn take_carried(walk: &Walk, carried: &mut [u32], from: u32)
-    requires { Sound walk.now.visible }
+    requires { Storing walk.now }
     ensures { Stores walk.now carried.old carried.new from }
 {
     let taken = walk.taken;
     if taken <= from {
         return;
     }
-    if carried.len() < taken as usize * 3 {
+    if carried.len() < taken as usize * 4 {
         return;
     }
     // Neither of these ever ends it: a clause that carries opens two scopes, and what it carried is all that is visible.
@@ -41,7 +40,8 @@ fn take_carried(walk: &Walk, carried: &mut [u32], from: u32)
     let barrier = walk.cur - 1;
     // By index: an entry of the stack is stored by its place.
     for i in 0..walk.visible.top {
-        let (name, variable) = walk.visible.entry(i);
+        let (place, variable) = walk.visible.entry(i);
+        let name = walk.rowless.name(place);
         put_carried(carried, from + i, barrier, name, variable);
     }
 }

@@ -48,7 +48,6 @@ module _ {w : Walk} {v : Visible} {top cur : ℕ} (p : Cut top w.visible v) wher
         last = h.last;
         log = h.log;
         kinds = h.kinds;
-        known = h.known;
         olds = h.olds;
         counts = recounted refl refl h.counts;
         uses = h.uses;

@@ -7,7 +7,7 @@ use Rattle.heads.specs.Answer.{Ans}
 use Rattle.clauses.specs.Write.{alias_word}
 use Rattle.fused.specs.Fused.{Both, Mode}
 use Rattle.fused.specs.Clauses.{counted_row}
-use Rattle.steps.specs.Memory.{words_in, names_in, tables_in, hushed_in, world_at}
+use Rattle.steps.specs.Memory.{words_in, names_in, hushed_in, world_at}
 use Rattle.steps.specs.Hold.{Fit, Holds, Still}
 use Rattle.walk.specs.Goes.{Goer, rest_in, Comes, Refuses}
 use Rattle.steps.specs.declared.Walk.{Walk}
@@ -69,4 +69,4 @@ alias_told (Err e) = Err e
 -- a count and as many expressions, in a mode
 module _ (c : Context) (mode : Mode) where
   abbrev pub counted_at : Goer
-  counted_at id = counted_row (world_at c id) (tables_in c) mode
+  counted_at id = counted_row (world_at c id) (names_in c) mode

@@ -10,7 +10,6 @@ use mathlib.Core.Bool.{true}
 use mathlib.Core.List.{List, [], ◌∷◌}
 use Rattle.scope.specs.Graph.{unwind_scope, call_scope}
 use Rattle.heads.specs.Got.{Got, ok, no, bind, word_in, any_word}
-use Rattle.heads.specs.Head.{Tables}
 use Rattle.clauses.specs.Read.{alias_of, read_yield}
 use Rattle.clauses.specs.Tree.{Yield, yield}
 use Rattle.clauses.specs.Write.{alias_word}
@@ -20,7 +19,7 @@ use Rattle.semantics.specs.Resolve.{enter, bind_name, bind_anew}
 use Rattle.semantics.specs.Kinds.{general}
 use Rattle.fused.specs.Fused.{Both, Mode, Go, unresolving, rounds, step, noting}
 use Rattle.fused.specs.Clauses.{within, yielded, yield_go, unwind_go, call_go}
-use Rattle.steps.specs.Memory.{names_in, tables_in, world_at}
+use Rattle.steps.specs.Memory.{names_in, world_at}
 use Rattle.steps.specs.Hold.{Costs, Steps, Ready, ShownTo, on_names, name_in}
 use Rattle.steps.specs.declared.Walk.{Walk}
 use Rattle.steps.specs.declared.context.Context.{Context}
@@ -31,7 +30,7 @@ use Rattle.clause_parts.proofs.Cleared.{names-step}
 use Rattle.clause_walk.specs.Clauses.{names_alone, yield_at, yields_at, unwind_at, unwound_at, call_at}
 
 -- ---- yields, where names are resolved
-yields-as : (w : World) (t : Tables) (m : Mode) (a b : ℕ) (s : Both) (r : List ℕ) → m.resolves ≡ true → yield_go w t names_alone a b s r ≡ yield_go w t m a b s r
+yields-as : (w : World) (t : ℕ) (m : Mode) (a b : ℕ) (s : Both) (r : List ℕ) → m.resolves ≡ true → yield_go w t names_alone a b s r ≡ yield_go w t m a b s r
 unfolding yield_go
 yields-as w t m a b s r q = go (read_yield t r)
   where
@@ -50,13 +49,13 @@ rounds-as one two q (suc n) s r = go (one s r) (two s r) (q s r) (rounds-as one 
 
 module _ (c : Context) (m : Mode) (a b : ℕ) (id : ℕ → ℕ) (s : Both) (r : List ℕ) (q : m.resolves ≡ true) where
   -- an Unwind
-  pub unwind-as : unwind_at c m a b id s r ≡ bind (any_word r) (λ v r1. within (world_at c id) (tables_in c) (unresolving m) general (unwound_at c a b v id s) r1)
+  pub unwind-as : unwind_at c m a b id s r ≡ bind (any_word r) (λ v r1. within (world_at c id) (names_in c) (unresolving m) general (unwound_at c a b v id s) r1)
   unfolding unwind_go
   unwind-as = go (any_word r)
     where
-      go : (g : Got ℕ) → bind g (λ v r1. within (world_at c id) (tables_in c) (unresolving m) general (noting (world_at c id) (v ∷ []) (step m (λ y. bind_name (name_of (world_at c id) v) v value_kind (enter unwind_scope a b y)) [] s)) r1)
-          ≡ bind g (λ v r1. within (world_at c id) (tables_in c) (unresolving m) general (unwound_at c a b v id s) r1)
-      go (ok v r1) = ap (λ (u : Both). within (world_at c id) (tables_in c) (unresolving m) general (noting (world_at c id) (v ∷ []) u) r1) (names-step m (λ y. bind_name (name_of (world_at c id) v) v value_kind (enter unwind_scope a b y)) s q)
+      go : (g : Got ℕ) → bind g (λ v r1. within (world_at c id) (names_in c) (unresolving m) general (noting (world_at c id) (v ∷ []) (step m (λ y. bind_name (name_of (world_at c id) v) v value_kind (enter unwind_scope a b y)) [] s)) r1)
+          ≡ bind g (λ v r1. within (world_at c id) (names_in c) (unresolving m) general (unwound_at c a b v id s) r1)
+      go (ok v r1) = ap (λ (u : Both). within (world_at c id) (names_in c) (unresolving m) general (noting (world_at c id) (v ∷ []) u) r1) (names-step m (λ y. bind_name (name_of (world_at c id) v) v value_kind (enter unwind_scope a b y)) s q)
       go (no e) = refl
 
   -- a Call
@@ -64,11 +63,11 @@ module _ (c : Context) (m : Mode) (a b : ℕ) (id : ℕ → ℕ) (s : Both) (r :
   unfolding call_go
   call-as = rw (names-step m (enter call_scope a b) s q) (go (counted_at c (unresolving m) id (on_names (enter call_scope a b) s) r))
     where
-      inner : (u : Both) (g : Got ℕ) → bind g (λ n r2. rounds n (yield_go (world_at c id) (tables_in c) m a b) u r2) ≡ bind g (λ n r2. yields_at c a b n id u r2)
-      inner u (ok n r2) = sym (rounds-as _ _ (λ v t. yields-as (world_at c id) (tables_in c) m a b v t q) n u r2)
+      inner : (u : Both) (g : Got ℕ) → bind g (λ n r2. rounds n (yield_go (world_at c id) (names_in c) m a b) u r2) ≡ bind g (λ n r2. yields_at c a b n id u r2)
+      inner u (ok n r2) = sym (rounds-as _ _ (λ v t. yields-as (world_at c id) (names_in c) m a b v t q) n u r2)
       inner u (no e) = refl
 
-      go : (g : Got Both) → bind g (λ u r1. bind (any_word r1) (λ n r2. rounds n (yield_go (world_at c id) (tables_in c) m a b) u r2)) ≡ bind g (λ u r1. bind (any_word r1) (λ n r2. yields_at c a b n id u r2))
+      go : (g : Got Both) → bind g (λ u r1. bind (any_word r1) (λ n r2. rounds n (yield_go (world_at c id) (names_in c) m a b) u r2)) ≡ bind g (λ u r1. bind (any_word r1) (λ n r2. yields_at c a b n id u r2))
       go (ok u r1) = inner u (any_word r1)
       go (no e) = refl
 
@@ -102,15 +101,15 @@ pub yield-as : (c : Context) (a b : ℕ) (id : ℕ → ℕ) (s : Both) (r : List
 unfolding yield_go read_yield
 yield-as c a b id s r = rw (add-one (names_in c)) (first (word_in 0 (names_in c) r))
   where
-    third : (x y : ℕ) (g : Got ℕ) → bind (bind g (λ v r3. ok (yield x (alias_of y) v) r3)) (λ y r2. ok (yielded (world_at c id) (tables_in c) names_alone a b y s) r2) ≡ bind g (λ v r3. ok (on_names (bind_anew (world_at c id) a b (yield_name x (alias_of y)) v value_kind) s) r3)
+    third : (x y : ℕ) (g : Got ℕ) → bind (bind g (λ v r3. ok (yield x (alias_of y) v) r3)) (λ y r2. ok (yielded (world_at c id) (names_in c) names_alone a b y s) r2) ≡ bind g (λ v r3. ok (on_names (bind_anew (world_at c id) a b (yield_name x (alias_of y)) v value_kind) s) r3)
     third x y (ok v r) = refl
     third x y (no e) = refl
 
-    second : (x : ℕ) (g : Got ℕ) → bind (bind g (λ y r2. bind (any_word r2) (λ v r3. ok (yield x (alias_of y) v) r3))) (λ y r2. ok (yielded (world_at c id) (tables_in c) names_alone a b y s) r2) ≡ bind g (λ y r2. bind (any_word r2) (λ v r3. ok (on_names (bind_anew (world_at c id) a b (yield_name x (alias_of y)) v value_kind) s) r3))
+    second : (x : ℕ) (g : Got ℕ) → bind (bind g (λ y r2. bind (any_word r2) (λ v r3. ok (yield x (alias_of y) v) r3))) (λ y r2. ok (yielded (world_at c id) (names_in c) names_alone a b y s) r2) ≡ bind g (λ y r2. bind (any_word r2) (λ v r3. ok (on_names (bind_anew (world_at c id) a b (yield_name x (alias_of y)) v value_kind) s) r3))
     second x (ok y r) = third x y (any_word r)
     second x (no e) = refl
 
-    first : (g : Got ℕ) → bind (bind g (λ x r1. bind (word_in 0 (suc (names_in c)) r1) (λ y r2. bind (any_word r2) (λ v r3. ok (yield x (alias_of y) v) r3)))) (λ y r2. ok (yielded (world_at c id) (tables_in c) names_alone a b y s) r2)
+    first : (g : Got ℕ) → bind (bind g (λ x r1. bind (word_in 0 (suc (names_in c)) r1) (λ y r2. bind (any_word r2) (λ v r3. ok (yield x (alias_of y) v) r3)))) (λ y r2. ok (yielded (world_at c id) (names_in c) names_alone a b y s) r2)
         ≡ bind g (λ x r1. bind (word_in 0 (suc (names_in c)) r1) (λ y r2. bind (any_word r2) (λ v r3. ok (on_names (bind_anew (world_at c id) a b (yield_name x (alias_of y)) v value_kind) s) r3)))
     first (ok x r) = second x (word_in 0 (suc (names_in c)) r)
     first (no e) = refl

@@ -21,7 +21,7 @@ use heads::MarkKind;
 use refusal::Refusal;
 use return_walk::walk_return;
 use scope::ScopeKind;
-use steps::{Context, Mode, Setting, Settings, Walk, name_in};
+use steps::{Context, Mode, Setting, Settings, Walk};
 use tables::VarKind;
 use walk::{walk_expr, walk_marks, walk_pattern, walk_row};
 use with_walk::walk_with;
@@ -61,8 +61,9 @@ fn bind_unwind(walk: &mut Walk, context: &Context, head: Head, v: u32)
     ensures { Steps 4 context.now walk.old walk.new (unwound_at context.now head.start head.end v) }
 {
     walk.enter(context, ScopeKind::Unwind, head.start, head.end);
-    let r = walk.note(context, v);
-    walk.bind_name(context, name_in(r), v, VarKind::Value as u32);
+    let r = context.row_of(v);
+    let x = walk.place(context, v, r);
+    walk.bind_name(context, x, v, VarKind::Value as u32);
 }
 
 // Unwind: its list is not resolved.

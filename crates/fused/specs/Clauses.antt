@@ -1,6 +1,6 @@
 -- Clauses and arms, read and walked in one.
 use Rattle.std.specs.Prelude.{ℕ, zero, suc, Bool, true, false, cond, ◌||◌, List, [], ◌∷◌, ◌++◌, reverse, Option}
-use Rattle.scope.specs.Graph.{unwind_scope, call_scope, return_scope}
+use Rattle.scope.specs.Graph.{unwind_scope, call_scope, return_scope, indexed}
 use Rattle.heads.specs.Got.{Got, ok, no, bind, look, word_in, any_word, flag}
 use Rattle.heads.specs.Form.{read_form}
 use Rattle.heads.specs.declared.Form.{Form}
@@ -90,7 +90,7 @@ module _ (w : World) (names : ℕ) where
   hushed_row xs = counted_row (hush xs w) names
 
   abbrev pub yielded : Mode → ℕ → ℕ → Yield → Both → Both
-  yielded m a b (yield x alias v) = step m (bind_anew w a b (yield_name x alias) v value_kind) []
+  yielded m a b (yield x alias v) = step m (bind_anew w a b (indexed (yield_name x alias)) v value_kind) []
 
   unfoldable pub yield_go : Mode → ℕ → ℕ → Go
   yield_go m a b s r = bind (read_yield names r) (λ y r2. ok (yielded m a b y s) r2)

@@ -1,7 +1,7 @@
 -- Reading, resolving and checking kinds in one: what the words at a place make of where both walks stand, or the cause of a refusal. proofs/
 -- Apart has it that this is the definition's reading, and then its two walks over what was read.
 use Rattle.std.specs.Prelude.{ℕ, zero, suc, ◌+◌, Bool, true, false, List, [], ◌∷◌}
-use Rattle.scope.specs.Graph.{comprehension_scope}
+use Rattle.scope.specs.Graph.{comprehension_scope, indexed}
 use Rattle.heads.specs.Got.{Got, ok, no, bind, word_in, any_word}
 use Rattle.heads.specs.Form.{read_form, kids_of, items_of}
 use Rattle.heads.specs.Head.{read_part, read_elem, mark_low, mark_high, mark_kids, deep_cause}
@@ -88,7 +88,7 @@ tail_of m (MapProjection n) s t = t
 module _ (w : World) where
   -- a name, sought in the visible list if it is a use here
   abbrev pub name_use : ℕ → State → State
-  name_use x s = visit w (w.hushed x) x (lookup x s.visible) s
+  name_use x s = visit w (w.hushed x) x (lookup (indexed x) s.visible) s
 
   -- what a head does before its parts: a use, the scope of a comprehension, the finding of its own level
   abbrev pub head_of : Mode → Form → Setting → Both → Both

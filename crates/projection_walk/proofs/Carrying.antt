@@ -173,7 +173,7 @@ module _ {c : Context} {w : Walk} (x : ℕ) where
   module _ {v u : ℕ} (q : lookup x (entries w.visible) ≡ Some (hit v u)) where
     pub name-found : {w' : Walk} → hushed_in c x ≡ false → Steps 1 c w w' (λ id. on_names (λ y. name_record (world_at c id) x (lookup x y.visible) y)) → Steps 1 c w w' (λ id. on_names (name_use (world_at c id) x))
     unfolding use_name visit
-    name-found e s = instead _ s (λ id t h. let z : lookup x t.names.visible ≡ Some (hit v u) = ap (λ l. lookup x l) (sym h.visible) ∙ q in rw (z, e))
+    name-found e s = instead _ s (λ id t h. let z : lookup x t.visible ≡ Some (hit v u) = ap (λ l. lookup x l) (sym h.visible) ∙ q in rw (z, e))
 
     pub name-carried : (alias : Option ℕ) → NoStar c alias x → Given c w (λ id. on_names (name_use (world_at c id) x)) alias (a_name x) false (pair (unwrap_or alias x) v ∷ [])
     unfolding carries is_all if_some variable_of

@@ -10,7 +10,7 @@ use Rattle.clauses.specs.Read.{max_depth}
 use Rattle.semantics.specs.Kinds.{plain}
 use Rattle.fused.specs.Fused.{Mode, row_go}
 use Rattle.fused.specs.Clauses.{within}
-use Rattle.steps.specs.Memory.{tables_in, world_at}
+use Rattle.steps.specs.Memory.{names_in, world_at}
 use Rattle.steps.specs.Hold.{Ready}
 use Rattle.steps.specs.declared.Walk.{Walk}
 use Rattle.steps.specs.declared.context.Context.{Context}
@@ -24,7 +24,7 @@ use Rattle.projection_walk.proofs.Chained.{first-refused, then-passes, walked-pa
 -- what follows the flag, the projections, the count
 module _ (c : Context) (m : Mode) where
   abbrev filter_at : ℕ → Projector
-  filter_at g id q s r = bind (row_go (within (world_at c id) (tables_in c) m) g plain s r) (λ u r2. ok (u, q) r2)
+  filter_at g id q s r = bind (row_go (within (world_at c id) (names_in c) m) g plain s r) (λ u r2. ok (u, q) r2)
 
   abbrev flagged_at : Projector
   flagged_at id q s r = bind (flag r) (λ g r2. filter_at g id q s r2)

@@ -15,7 +15,6 @@ use lib.ListN.{drop}
 use Rattle.refusal.specs.Number.{number_of}
 use Rattle.refusal.specs.declared.Refusal.{Refusal}
 use Rattle.heads.specs.Got.{Got, ok, no, bind, word_in}
-use Rattle.heads.specs.Head.{Tables}
 use Rattle.heads.specs.Answer.{Ans}
 use Rattle.heads.specs.Form.{read_form}
 use Rattle.heads.specs.declared.Form.{Form}
@@ -27,7 +26,7 @@ use Rattle.semantics.specs.Resolve.{carries, is_all, use_var}
 use Rattle.semantics.specs.Kinds.{general, at_row}
 use Rattle.fused.specs.Fused.{Both, Mode, step, name_use, row_go, rounds, rest_go, expr_go}
 use Rattle.fused.specs.Clauses.{within, direct_form, direct_of, Taken, takes, projections_go}
-use Rattle.steps.specs.Memory.{words_in, names_in, use_in, tables_in, world_at}
+use Rattle.steps.specs.Memory.{words_in, names_in, use_in, world_at}
 use Rattle.steps.specs.Hold.{Ready, on_names}
 use Rattle.steps.specs.declared.Walk.{Walk}
 use Rattle.steps.specs.declared.context.Context.{Context}
@@ -43,22 +42,22 @@ use Rattle.projection_walk.proofs.Carrying.{still_idle, kept-more, names_more}
 use Rattle.projection_walk.proofs.Chained.{as-passes, first-refused, then-passes}
 
 -- ---- the two forms of an expression that may be carried are their use
-module _ (w : World) (t : Tables) (m : Mode) (s : Both) (r : List ℕ) {r2 : List ℕ} where
-  var-at : (d : ℕ) {v : ℕ} → read_form t.names r ≡ ok (Var v) r2 → expr_go w t (suc d) m general s r ≡ ok (step m (use_var w v (w.row v)) (at_row general (w.row v)) s) r2
+module _ (w : World) (t : ℕ) (m : Mode) (s : Both) (r : List ℕ) {r2 : List ℕ} where
+  var-at : (d : ℕ) {v : ℕ} → read_form t r ≡ ok (Var v) r2 → expr_go w t (suc d) m general s r ≡ ok (step m (use_var w v (w.row v)) (at_row general (w.row v)) s) r2
   unfolding expr_go rest_go row_go rounds
   var-at d q = rw q refl
 
-  name-at : (d : ℕ) {x : ℕ} → m.resolves ≡ true → read_form t.names r ≡ ok (Unresolved x) r2 → expr_go w t (suc d) m general s r ≡ ok (on_names (name_use w x) s) r2
+  name-at : (d : ℕ) {x : ℕ} → m.resolves ≡ true → read_form t r ≡ ok (Unresolved x) r2 → expr_go w t (suc d) m general s r ≡ ok (on_names (name_use w x) s) r2
   unfolding expr_go rest_go row_go rounds
   name-at d {x} live q = rw q (ap (λ (u : Both). ok u r2) (names-step m (name_use w x) s live))
 
-  pub var-within : {v : ℕ} → read_form t.names r ≡ ok (Var v) r2 → within w t m general s r ≡ ok (step m (use_var w v (w.row v)) (at_row general (w.row v)) s) r2
+  pub var-within : {v : ℕ} → read_form t r ≡ ok (Var v) r2 → within w t m general s r ≡ ok (step m (use_var w v (w.row v)) (at_row general (w.row v)) s) r2
   var-within q = var-at (max_depth - 1) q
 
-  pub name-within : {x : ℕ} → m.resolves ≡ true → read_form t.names r ≡ ok (Unresolved x) r2 → within w t m general s r ≡ ok (on_names (name_use w x) s) r2
+  pub name-within : {x : ℕ} → m.resolves ≡ true → read_form t r ≡ ok (Unresolved x) r2 → within w t m general s r ≡ ok (on_names (name_use w x) s) r2
   name-within live q = name-at (max_depth - 1) live q
 
-none_within : (w : World) (t : Tables) (m : Mode) (s : Both) (r : List ℕ) {n : ℕ} → read_form t.names r ≡ no n → within w t m general s r ≡ no n
+none_within : (w : World) (t : ℕ) (m : Mode) (s : Both) (r : List ℕ) {n : ℕ} → read_form t r ≡ no n → within w t m general s r ≡ no n
 unfolding expr_go
 none_within w t m s r q = rw q
 
@@ -79,7 +78,7 @@ module _ {c : Context} {w : Walk} {f : Form} {q : ℕ} (l : w.at + 2 ≤ q) (a :
   form-holding o = record { room = o.room; few = omega (arith, o.few); unhushed = o.unhushed }
 
   pub direct-passes : {p : Pairs} {w' : Walk} {p' : Pairs} {F : (ℕ → ℕ) → Both → Both} {d : Direct} {u : Unit {0}} (alias : Option ℕ) (m : Mode) → Adds c (placed w q) p w' p' F alias d → direct_form f ≡ d →
-      ((id : ℕ → ℕ) (s : Both) → within (world_at c id) (tables_in c) m general s (rest_in c w) ≡ ok (F id s) (drop q (words_in c))) → Carries 1 c w p w' p' (carried_at c m alias) (Ok u)
+      ((id : ℕ → ℕ) (s : Both) → within (world_at c id) (names_in c) m general s (rest_in c w) ≡ ok (F id s) (drop q (words_in c))) → Carries 1 c w p w' p' (carried_at c m alias) (Ok u)
   direct-passes {F = F} alias m x e g =
       record {
         still = still-then placed-still x.still;
@@ -104,7 +103,7 @@ module _ {c : Context} {w : Walk} {f : Form} {q : ℕ} (l : w.at + 2 ≤ q) (a :
 pub form-refused : {c : Context} {w : Walk} {p : Pairs} (e : Refusal) {k : ℕ} (alias : Option ℕ) (m : Mode) (r : Result (Unit {0}) Refusal) → Ans (words_in c) w.at (read_form (names_in c) (rest_in c w)) (no (number_of e)) k → IsErr r × IsErrAnd r (λ y. y ≡ e) →
     Carries 1 c w p w p (carried_at c m alias) r
 form-refused {c} {w} e alias m (Err y) a q =
-    record { still = still-idle; held = still_idle; carries = λ id s b. rw (none_within (world_at c id) (tables_in c) m s (rest_in c w) a.same, q.1) }
+    record { still = still-idle; held = still_idle; carries = λ id s b. rw (none_within (world_at c id) (names_in c) m s (rest_in c w) a.same, q.1) }
 form-refused e alias m (Ok u) a q = absurd q.1
 
 -- any other expression, and its alias
@@ -166,10 +165,10 @@ module _ {c : Context} {w w' : Walk} {p : Pairs} {u v : Unit {0}} (m : Mode) (x 
       }
 
 -- ---- a projection
-pub first-as : (w : World) (t : Tables) (m : Mode) (q : Taken) (s : Both) (r : List ℕ) →
-    projections_go w t (takes w) m 1 q s r ≡ bind (word_in 0 (t.names + 1) r) (λ a r1. bind (within w t m general s r1) (λ u r2. ok (u, takes w (alias_of a) (direct_of (read_form t.names r1)) u.names.visible q) r2))
+pub first-as : (w : World) (t : ℕ) (m : Mode) (q : Taken) (s : Both) (r : List ℕ) →
+    projections_go w t (takes w) m 1 q s r ≡ bind (word_in 0 (t + 1) r) (λ a r1. bind (within w t m general s r1) (λ u r2. ok (u, takes w (alias_of a) (direct_of (read_form t r1)) u.names.visible q) r2))
 unfolding projections_go
-first-as w t m q s r = rw (add-one t.names)
+first-as w t m q s r = rw (add-one t)
 
 pub alias-within : (names : ℕ) (a : Option ℕ) → alias_word a < names + 1 → Within names a
 alias-within names None h = tt
@@ -177,19 +176,19 @@ alias-within names (Some x) h = omega arith
 
 -- ---- a loop
 -- n projections are a, and then b
-module _ (w : World) (t : Tables) (m : Mode) where
+module _ (w : World) (t : ℕ) (m : Mode) where
   one-more : (n a b : ℕ) → ((q : Taken) (s : Both) (r : List ℕ) → projections_go w t (takes w) m n q s r ≡ bind (projections_go w t (takes w) m a q s r) (λ x r2. projections_go w t (takes w) m b x.1 x.0 r2)) →
       (q : Taken) (s : Both) (r : List ℕ) → projections_go w t (takes w) m (suc n) q s r ≡ bind (projections_go w t (takes w) m (suc a) q s r) (λ x r2. projections_go w t (takes w) m b x.1 x.0 r2)
   unfolding projections_go
-  one-more n a b h q s r = first (word_in 0 (suc t.names) r)
+  one-more n a b h q s r = first (word_in 0 (suc t) r)
     where
-      second : (y : ℕ) (r1 : List ℕ) (g : Got Both) → bind g (λ u r2. projections_go w t (takes w) m n (takes w (alias_of y) (direct_of (read_form t.names r1)) u.names.visible q) u r2)
-          ≡ bind {A = Both × Taken} (bind g (λ u r2. projections_go w t (takes w) m a (takes w (alias_of y) (direct_of (read_form t.names r1)) u.names.visible q) u r2)) (λ x r2. projections_go w t (takes w) m b x.1 x.0 r2)
-      second y r1 (ok u r2) = h (takes w (alias_of y) (direct_of (read_form t.names r1)) u.names.visible q) u r2
+      second : (y : ℕ) (r1 : List ℕ) (g : Got Both) → bind g (λ u r2. projections_go w t (takes w) m n (takes w (alias_of y) (direct_of (read_form t r1)) u.names.visible q) u r2)
+          ≡ bind {A = Both × Taken} (bind g (λ u r2. projections_go w t (takes w) m a (takes w (alias_of y) (direct_of (read_form t r1)) u.names.visible q) u r2)) (λ x r2. projections_go w t (takes w) m b x.1 x.0 r2)
+      second y r1 (ok u r2) = h (takes w (alias_of y) (direct_of (read_form t r1)) u.names.visible q) u r2
       second y r1 (no e) = refl
 
-      first : (g : Got ℕ) → bind g (λ y r1. bind (within w t m general s r1) (λ u r2. projections_go w t (takes w) m n (takes w (alias_of y) (direct_of (read_form t.names r1)) u.names.visible q) u r2))
-          ≡ bind {A = Both × Taken} (bind g (λ y r1. bind (within w t m general s r1) (λ u r2. projections_go w t (takes w) m a (takes w (alias_of y) (direct_of (read_form t.names r1)) u.names.visible q) u r2))) (λ x r2. projections_go w t (takes w) m b x.1 x.0 r2)
+      first : (g : Got ℕ) → bind g (λ y r1. bind (within w t m general s r1) (λ u r2. projections_go w t (takes w) m n (takes w (alias_of y) (direct_of (read_form t r1)) u.names.visible q) u r2))
+          ≡ bind {A = Both × Taken} (bind g (λ y r1. bind (within w t m general s r1) (λ u r2. projections_go w t (takes w) m a (takes w (alias_of y) (direct_of (read_form t r1)) u.names.visible q) u r2))) (λ x r2. projections_go w t (takes w) m b x.1 x.0 r2)
       first (ok y r1) = second y r1 (within w t m general s r1)
       first (no e) = refl
 
@@ -220,9 +219,9 @@ begun m =
 
 module _ {c : Context} {w₀ : Walk} {p₀ : Pairs} {w : Walk} {p : Pairs} (m : Mode) (k : ℕ) {u : Unit {0}} (o : Carries 0 c w₀ p₀ w p (projections_at c m k) (Ok u)) {w' : Walk} {p' : Pairs} where
   pub turn : (r : Result (Unit {0}) Refusal) → Carries 0 c w p w' p' (projections_at c m 1) r → Carries 0 c w₀ p₀ w' p' (projections_at c m (k + 1)) r
-  turn r x = as-passes (projections_at c m (k + 1)) r (λ id q s. split (world_at c id) (tables_in c) m (k + 1) k 1 refl q s (rest_in c w₀)) (then-passes o r x)
+  turn r x = as-passes (projections_at c m (k + 1)) r (λ id q s. split (world_at c id) (names_in c) m (k + 1) k 1 refl q s (rest_in c w₀)) (then-passes o r x)
 
   pub fall : {e : Refusal} (n : ℕ) (r : Result (Unit {0}) Refusal) → k < n → Carries 0 c w p w' p' (projections_at c m 1) (Err e) → IsErr r × IsErrAnd r (λ y. y ≡ e) → Carries 0 c w₀ p₀ w' p' (projections_at c m n) r
   fall {e} n r l x q =
-      as-passes (projections_at c m n) r (λ id t s. split (world_at c id) (tables_in c) m n (k + 1) (n - (k + 1)) (omega arith) t s (rest_in c w₀))
+      as-passes (projections_at c m n) r (λ id t s. split (world_at c id) (names_in c) m n (k + 1) (n - (k + 1)) (omega arith) t s (rest_in c w₀))
       (first-refused (λ id y r2. projections_at c m (n - (k + 1)) id y.1 y.0 r2) r (turn (Err e) x) q)

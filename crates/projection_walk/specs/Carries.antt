@@ -12,7 +12,7 @@ use Rattle.fused.specs.Clauses.{within, direct_of, Taken, takes, projections_go}
 use Rattle.rows.specs.Table.{row_in}
 use Rattle.visible.specs.Visible.{seens}
 use Rattle.visible.specs.Stack.{entries}
-use Rattle.steps.specs.Memory.{words_in, names_in, tables_in, is_the, world_at}
+use Rattle.steps.specs.Memory.{words_in, names_in, is_the, world_at}
 use Rattle.steps.specs.Hold.{Fit, Holds, Frame}
 use Rattle.steps.specs.Hold as hold
 use Rattle.walk.specs.Goes.{rest_in}
@@ -38,7 +38,7 @@ pub record Carried (j : ℕ) (c : Context) (w : Walk) (p : Pairs) (w' : Walk) (p
   pub paid : kept_of p' + w.at ≤ kept_of p + j + w'.at
   pub top : w.visible.top ≤ w'.visible.top
   pub below : seens w.visible.names w.visible.top w'.visible.words.now ≡ entries w.visible
-  pub named : InNames w.visible.names (pairs_of p) → InNames w.visible.names (pairs_of p')
+  pub named : InNames (names_in c) (pairs_of p) → InNames (names_in c) (pairs_of p')
   pub fit : (k : ℕ) → Fit (j + k + kept_of p) c w → Fit (k + kept_of p') c w'
   pub goes : (id : ℕ → ℕ) (s : Both) → Holds id c w s → ComesHolding id c w' p' (G id (taken_by p) s (rest_in c w))
 
@@ -65,7 +65,7 @@ pub record Adds (c : Context) (w : Walk) (p : Pairs) (w' : Walk) (p' : Pairs) (F
   pub held : Still p p'
   pub frame : Frame 0 w w'
   pub more : kept_of p' ≤ kept_of p + 1
-  pub named : InNames w.visible.names (pairs_of p) → InNames w.visible.names (pairs_of p')
+  pub named : InNames (names_in c) (pairs_of p) → InNames (names_in c) (pairs_of p')
   pub fit : (k : ℕ) → Fit (3 + k + kept_of p) c w → Fit (k + kept_of p') c w'
   pub goes : (id : ℕ → ℕ) (s : Both) → Holds id c w s → Holds id c w' (F id s)
   pub taken : (id : ℕ → ℕ) (s : Both) → Holds id c w s → taken_by p' ≡ takes (world_at c id) alias d (F id s).names.visible (taken_by p)
@@ -86,12 +86,12 @@ NoStar c alias x = alias ≡ None → is_the x c.star ≡ true → ⊥
 -- What is walked, in a mode.
 module _ (c : Context) (mode : Mode) where
   abbrev pub projections_at : ℕ → Projector
-  projections_at n id q = projections_go (world_at c id) (tables_in c) (takes (world_at c id)) mode n q
+  projections_at n id q = projections_go (world_at c id) (names_in c) (takes (world_at c id)) mode n q
 
   -- the expression of a projection with the alias
   abbrev pub carried_at : Option ℕ → Projector
   carried_at alias id q s r =
-      bind (within (world_at c id) (tables_in c) mode general s r)
+      bind (within (world_at c id) (names_in c) mode general s r)
       (λ u r2. ok (u, takes (world_at c id) alias (direct_of (read_form (names_in c) r)) u.names.visible q) r2)
 
   -- projections and a filter, with what was taken so far
@@ -100,4 +100,4 @@ module _ (c : Context) (mode : Mode) where
       bind (any_word r)
       (λ n r1. bind (projections_at n id q s r1)
       (λ x r2. bind (flag r2)
-      (λ g r3. bind (row_go (within (world_at c id) (tables_in c) mode) g plain x.0 r3) (λ u r4. ok (u, x.1) r4))))
+      (λ g r3. bind (row_go (within (world_at c id) (names_in c) mode) g plain x.0 r3) (λ u r4. ok (u, x.1) r4))))

@@ -1,5 +1,6 @@
--- The pairs that a WITH holds, in their words.
+-- The pairs that a WITH holds, in their words: their names are the sheet's, by their indices.
 use Rattle.std.specs.Prelude.{ℕ, zero, suc, ◌+◌, ◌*◌, ◌<◌, ◌≤◌, ◌≡◌, cond, List, [], ◌∷◌, ◌++◌, length, get_or, Option, None, Some}
+use Rattle.scope.specs.Graph.{name, indexed}
 use Rattle.semantics.specs.Resolve.{Pair, pair}
 use Rattle.fused.specs.Clauses.{Taken}
 use Rattle.steps.specs.Memory.{names_in, use_in}
@@ -9,7 +10,7 @@ use Rattle.projection_walk.specs.declared.pairs.Pairs.{Pairs}
 -- two words each, in order
 unfoldable pub pairs_in : ℕ → List ℕ → List Pair
 pairs_in zero held = []
-pairs_in (suc n) held = pairs_in n held ++ (pair (get_or held (n * 2) 0) (get_or held (n * 2 + 1) 0) ∷ [])
+pairs_in (suc n) held = pairs_in n held ++ (pair (indexed (get_or held (n * 2) 0)) (get_or held (n * 2 + 1) 0) ∷ [])
 
 -- the name and the variable of the pair i
 abbrev pub pair_at : ℕ → Pairs → ℕ × ℕ
@@ -35,12 +36,12 @@ pub record Kept (x v : ℕ) (p p' : Pairs) : Type 0 where
   pub still : Still p p'
   pub count : p'.count ≡ suc p.count
   pub star : p'.star ≡ p.star
-  pub same : pairs_of p' ≡ pairs_of p ++ (pair x v ∷ [])
+  pub same : pairs_of p' ≡ pairs_of p ++ (pair (indexed x) v ∷ [])
 
--- the names of pairs are names that there is a place for
+-- the names of pairs are indices below a number
 unfoldable pub InNames : ℕ → List Pair → Type 0
-InNames slots [] = Unit {0}
-InNames slots (pair x v ∷ ps) = (x < slots) × InNames slots ps
+InNames names [] = Unit {0}
+InNames names (pair (name m x) v ∷ ps) = ((m ≡ 0) × (x < names)) × InNames names ps
 
 -- any other expression with an alias: the use id stands with the names
 pub record KeepsOther (c : Context) (p : Pairs) (alias : Option ℕ) : Type 0 where

@@ -9,7 +9,7 @@ use Rattle.clauses.specs.Read.{max_depth}
 use Rattle.semantics.specs.World.{World}
 use Rattle.fused.specs.Fused.{Both, Mode, Go}
 use Rattle.fused.specs.Clauses.{counted_row}
-use Rattle.steps.specs.Memory.{tables_in}
+use Rattle.steps.specs.Memory.{names_in}
 use Rattle.steps.specs.Hold.{Fits, Holds}
 use Rattle.steps.specs.declared.Walk.{Walk}
 use Rattle.steps.specs.declared.context.Context.{Context}
@@ -39,11 +39,11 @@ module _ {c : Context} (h : Bor (List ℕ)) where
       }
 
   holds_on : {id : ℕ → ℕ} {w : Walk} {s : Both} → Holds id c w s → Holds id (hushing c h) w s
-  holds_on j = record { visible = j.visible; cur = j.cur; last = j.last; log = j.log; kinds = j.kinds; known = j.known; olds = j.olds; counts = j.counts; uses = j.uses }
+  holds_on j = record { visible = j.visible; cur = j.cur; last = j.last; log = j.log; kinds = j.kinds; olds = j.olds; counts = j.counts; uses = j.uses }
 
 module _ {c : Context} (h : Bor (List ℕ)) {k : ℕ} {held marks : List ℕ} (clear : Clear c marks) (o : Marked 1 k held marks h.now) where
   same-go : (mode : Mode) (id : ℕ → ℕ) → counted_at (hushing c h) mode id ≡ hushed_at c mode (aliases_in k held) id
-  same-go mode id = ap (λ (w : World). counted_row w (tables_in c) mode) (hushed-world h clear o id)
+  same-go mode id = ap (λ (w : World). counted_row w (names_in c) mode) (hushed-world h clear o id)
 
   pub hushed-walk : {w w' : Walk} (mode : Mode) (r : Result (Unit {0}) Refusal) → Walked max_depth (hushing c h) w w' (counted_at (hushing c h) mode) r → Walked max_depth c w w' (hushed_at c mode (aliases_in k held)) r
   hushed-walk {w} mode (Ok u) x =

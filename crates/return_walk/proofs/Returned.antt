@@ -10,7 +10,6 @@ use mathlib.Core.List.{List, [], ◌++◌}
 use lib.ListN.{drop}
 use Rattle.refusal.specs.declared.Refusal.{Refusal}
 use Rattle.heads.specs.Got.{Got, ok, no, bind, word_in, any_word}
-use Rattle.heads.specs.Head.{Tables}
 use Rattle.clauses.specs.Read.{max_depth, alias_of}
 use Rattle.semantics.specs.World.{World}
 use Rattle.semantics.specs.Resolve.{Seen, enter, leave, standing, alias_in}
@@ -19,7 +18,7 @@ use Rattle.fused.specs.Fused.{Both, Mode, Go, rounds, step}
 use Rattle.fused.specs.Clauses.{within, aliased, projections_go, returned, return_go}
 use Rattle.visible.specs.Visible.{seens}
 use Rattle.visible.specs.Stack.{entries, Sound}
-use Rattle.steps.specs.Memory.{words_in, tables_in, world_at}
+use Rattle.steps.specs.Memory.{words_in, names_in, world_at}
 use Rattle.steps.specs.Hold.{Fit, Holds, Frame, Still, Steps, Ready, Left, on_names}
 use Rattle.steps.specs.declared.Walk.{Walk}
 use Rattle.steps.specs.declared.context.Context.{Context}
@@ -41,15 +40,15 @@ module _ (P : List ℕ → Both → List ℕ → Got (Both × List ℕ)) (R : Go
   after-word (ok a r) = after-expr a (E r)
   after-word (no e) = refl
 
-module _ (w : World) (t : Tables) (m : Mode) (f : Both → Both) where
+module _ (w : World) (t : ℕ) (m : Mode) (f : Both → Both) where
   abbrev one : Go
-  one s r = bind (word_in 0 (suc t.names) r) (λ a r1. within w t m general s r1)
+  one s r = bind (word_in 0 (suc t) r) (λ a r1. within w t m general s r1)
 
   outputs-as : (n : ℕ) (xs : List ℕ) (s : Both) (r : List ℕ) → bind (projections_go w t aliased m n xs s r) (λ x r2. ok (f x.0) r2) ≡ bind (rounds n one s r) (λ u r2. ok (f u) r2)
   unfolding projections_go rounds
   outputs-as zero xs s r = refl
   outputs-as (suc n) xs s r =
-      after-word (projections_go w t aliased m n) (rounds n one) f (outputs-as n) (within w t m general s) (λ a. xs ++ alias_in (alias_of a)) (word_in 0 (suc t.names) r)
+      after-word (projections_go w t aliased m n) (rounds n one) f (outputs-as n) (within w t m general s) (λ a. xs ++ alias_in (alias_of a)) (word_in 0 (suc t) r)
 
 -- ---- a RETURN
 -- what is walked from outside the scope, and then its scope is current
@@ -64,13 +63,13 @@ module _ (c : Context) (m : Mode) (a b : ℕ) (id : ℕ → ℕ) (s : Both) wher
   unfolding return_go
   return-as false r = go (any_word r)
     where
-      go : (g : Got ℕ) → bind g (λ n r1. bind (projections_go (world_at c id) (tables_in c) aliased m n [] outside r1) (λ x r2. ended x.0 r2)) ≡ bind (bind g (λ n r1. rounds n (output_at c m id) outside r1)) ended
-      go (ok n r1) = outputs-as (world_at c id) (tables_in c) m (returned m s) n [] outside r1
+      go : (g : Got ℕ) → bind g (λ n r1. bind (projections_go (world_at c id) (names_in c) aliased m n [] outside r1) (λ x r2. ended x.0 r2)) ≡ bind (bind g (λ n r1. rounds n (output_at c m id) outside r1)) ended
+      go (ok n r1) = outputs-as (world_at c id) (names_in c) m (returned m s) n [] outside r1
       go (no e) = refl
   return-as true r = go (any_word r)
     where
       P : ℕ → List ℕ → Got (Both × List ℕ)
-      P n r1 = projections_go (world_at c id) (tables_in c) aliased m n [] outside r1
+      P n r1 = projections_go (world_at c id) (names_in c) aliased m n [] outside r1
 
       inner : (g : Got (Both × List ℕ)) → bind g (λ x r2. bind (hushed_at c m x.1 id x.0 r2) ended) ≡ bind (bind g (λ x r2. hushed_at c m x.1 id x.0 r2)) ended
       inner (ok x r2) = refl

@@ -17,7 +17,7 @@ use Rattle.semantics.specs.Resolve.{alias_in}
 use Rattle.semantics.specs.Kinds.{general}
 use Rattle.fused.specs.Fused.{Both, Mode}
 use Rattle.fused.specs.Clauses.{within, aliased, projections_go}
-use Rattle.steps.specs.Memory.{names_in, tables_in, world_at}
+use Rattle.steps.specs.Memory.{names_in, world_at}
 use Rattle.steps.specs.Hold.{Ready}
 use Rattle.steps.specs.declared.Walk.{Walk}
 use Rattle.steps.specs.declared.context.Context.{Context}
@@ -34,13 +34,13 @@ module _ (c : Context) (mode : Mode) where
 
   -- projections, with the aliases so far, and the sort keys
   abbrev pub Remaining : ℕ → List ℕ → Rest
-  Remaining left xs id s t = step (projections_go (world_at c id) (tables_in c) aliased mode left xs t) (finish id)
+  Remaining left xs id s t = step (projections_go (world_at c id) (names_in c) aliased mode left xs t) (finish id)
 
   -- the same with a projection more before them
   abbrev pub OneMore : ℕ → List ℕ → Rest
   OneMore left xs id s t =
       step (word_in 0 (names_in c + 1))
-      (λ a. step (within (world_at c id) (tables_in c) mode general t) (λ u. Remaining left (xs ++ alias_in (alias_of a)) id s u))
+      (λ a. step (within (world_at c id) (names_in c) mode general t) (λ u. Remaining left (xs ++ alias_in (alias_of a)) id s u))
 
   unroll : (left k : ℕ) (xs : List ℕ) (id : ℕ → ℕ) (s t : Both) (r : List ℕ) → left ≡ suc k → run (Remaining left xs id s t) r ≡ run (OneMore k xs id s t) r
   unfolding projections_go
@@ -48,7 +48,7 @@ module _ (c : Context) (mode : Mode) where
       ap (λ (n : ℕ). run (Remaining n xs id s t) r) l ∙ rw (add-one (names_in c)) (alias (word_in 0 (suc (names_in c)) r))
     where
       P : ℕ → Both → List ℕ → Got (Both × List ℕ)
-      P a u r2 = projections_go (world_at c id) (tables_in c) aliased mode k (xs ++ alias_in (alias_of a)) u r2
+      P a u r2 = projections_go (world_at c id) (names_in c) aliased mode k (xs ++ alias_in (alias_of a)) u r2
 
       F : Both × List ℕ → List ℕ → Got Both
       F x r2 = hushed_at c mode x.1 id x.0 r2
@@ -57,9 +57,9 @@ module _ (c : Context) (mode : Mode) where
       expr a (ok u r2) = refl
       expr a (no e) = refl
 
-      alias : (g : Got ℕ) → bind (bind g (λ a r1. bind (within (world_at c id) (tables_in c) mode general t r1) (λ u r2. P a u r2))) F
-          ≡ bind g (λ a r1. bind (within (world_at c id) (tables_in c) mode general t r1) (λ u r2. bind (P a u r2) F))
-      alias (ok a r1) = expr a (within (world_at c id) (tables_in c) mode general t r1)
+      alias : (g : Got ℕ) → bind (bind g (λ a r1. bind (within (world_at c id) (names_in c) mode general t r1) (λ u r2. P a u r2))) F
+          ≡ bind g (λ a r1. bind (within (world_at c id) (names_in c) mode general t r1) (λ u r2. bind (P a u r2) F))
+      alias (ok a r1) = expr a (within (world_at c id) (names_in c) mode general t r1)
       alias (no e) = refl
 
 pub record Sorting (c : Context) (w₀ : Walk) (held₀ : List ℕ) (mode : Mode) (n : ℕ) (w : Walk) (held : List ℕ) (k i : ℕ) : Type 0 where
@@ -103,7 +103,7 @@ module _ {c : Context} {w₀ : Walk} {held₀ : List ℕ} {mode : Mode} {n : ℕ
 
     module _ {w1 : Walk} {a : ℕ} (x : Next c 0 (names_in c + 1) w w1 (Ok a)) where
       alias-stage : Stage (Some max_depth) 0 c w₀ (keyed_at c mode n) 1 w1
-          (λ id s t. step (within (world_at c id) (tables_in c) mode general t) (λ u. Remaining c mode (n - (i + 1)) (aliases_in k held ++ alias_in (alias_of a)) id s u))
+          (λ id s t. step (within (world_at c id) (names_in c) mode general t) (λ u. Remaining c mode (n - (i + 1)) (aliases_in k held ++ alias_in (alias_of a)) id s u))
       alias-stage = past unrolled x
 
       pub expr-ready : Ready 0 c w₀ → Ready 0 c w1

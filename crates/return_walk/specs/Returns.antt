@@ -8,7 +8,7 @@ use Rattle.semantics.specs.Resolve.{alias_in}
 use Rattle.semantics.specs.Kinds.{general}
 use Rattle.fused.specs.Fused.{Mode, rounds}
 use Rattle.fused.specs.Clauses.{within, aliased, projections_go, hushed_row, return_go}
-use Rattle.steps.specs.Memory.{names_in, tables_in, world_at}
+use Rattle.steps.specs.Memory.{names_in, world_at}
 use Rattle.walk.specs.Goes.{Goer}
 use Rattle.clause_parts.specs.Passes.{Held, Clear}
 use Rattle.steps.specs.declared.context.Context.{Context}
@@ -52,7 +52,7 @@ KeysIn false c m held marks = Unit {0}
 module _ (c : Context) (mode : Mode) where
   -- projections of which nothing is held
   abbrev pub output_at : Goer
-  output_at id s r = bind (word_in 0 (suc (names_in c)) r) (λ a r1. within (world_at c id) (tables_in c) mode general s r1)
+  output_at id s r = bind (word_in 0 (suc (names_in c)) r) (λ a r1. within (world_at c id) (names_in c) mode general s r1)
 
   abbrev pub outputs_at : ℕ → Goer
   outputs_at n id = rounds n (output_at id)
@@ -62,11 +62,11 @@ module _ (c : Context) (mode : Mode) where
 
   -- sort keys, in which these names are no use
   abbrev pub hushed_at : List ℕ → Goer
-  hushed_at xs id = hushed_row (world_at c id) (tables_in c) xs mode
+  hushed_at xs id = hushed_row (world_at c id) (names_in c) xs mode
 
   -- n projections and sort keys; a count, and as many
   abbrev pub keyed_at : ℕ → Goer
-  keyed_at n id s r = bind (projections_go (world_at c id) (tables_in c) aliased mode n [] s r) (λ x r2. hushed_at x.1 id x.0 r2)
+  keyed_at n id s r = bind (projections_go (world_at c id) (names_in c) aliased mode n [] s r) (λ x r2. hushed_at x.1 id x.0 r2)
 
   abbrev pub sorted_at : Goer
   sorted_at id s r = bind (any_word r) (λ n r1. keyed_at n id s r1)
@@ -78,4 +78,4 @@ module _ (c : Context) (mode : Mode) where
 
   -- a RETURN with its span from a to b, sorted or not
   abbrev pub return_at : Bool → (a b : ℕ) → Goer
-  return_at sorts a b id = return_go (world_at c id) (tables_in c) mode a b sorts
+  return_at sorts a b id = return_go (world_at c id) (names_in c) mode a b sorts

@@ -22,7 +22,7 @@ use Rattle.sheet_walk.proofs.Section.{cut-long, tail-long}
 
 -- no names, no events, no findings, no expression 25
 abbrev nothing : Both
-nothing = record { names = record { visible = []; cur = 0; last = 0; log = [] }; kinds = []; known = true; olds = 0 }
+nothing = record { names = record { visible = []; cur = 0; last = 0; log = [] }; kinds = []; olds = 0 }
 
 kept-none : (b : Bool) → kept b [] ≡ []
 unfolding kept written
@@ -43,7 +43,7 @@ module _ {p : Places} {c : Context} {w : Walk} (b : Beginning p c w) where
         let v = w.visible.words.now in
         record {
           some = some;
-          places = omega (arith, k.names, b.set.names, places);
+          places = omega (arith, k.names, b.set, places);
           sound = empty slots v (omega (arith, few, b.set.few, b.names, h.head, t)) (λ x j. b.unseen x);
           descends = rw (seens-none slots v) tt;
           cur = omega arith;
@@ -66,7 +66,6 @@ module _ {p : Places} {c : Context} {w : Walk} (b : Beginning p c w) where
           last = refl;
           log = sym (kept-none c.wants);
           kinds = refl;
-          known = refl;
           olds = refl;
           counts = record { made = refl; taken = refl };
           uses = uses;

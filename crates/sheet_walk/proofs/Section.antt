@@ -80,7 +80,6 @@ module _ {to : ℕ} {c c' : Context} (k : CutTo to c c') where
         last = h.last;
         log = rw k.wants h.log;
         kinds = h.kinds;
-        known = h.known;
         olds = h.olds;
         counts = h.counts;
         uses = rw (k.names, k.uses) h.uses;
@@ -94,7 +93,6 @@ module _ {to : ℕ} {c c' : Context} (k : CutTo to c c') where
         last = h.last;
         log = rw k.wants at h.log;
         kinds = h.kinds;
-        known = h.known;
         olds = h.olds;
         counts = h.counts;
         uses = rw (k.names, k.uses) at h.uses;

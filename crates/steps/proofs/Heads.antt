@@ -108,7 +108,7 @@ record Unmoved (wants : Bool) (s t : State) : Type 0 where
   made : made s.log ≡ made t.log
   taken : carried_in s.log ≡ carried_in t.log
 
-still-holds : {id : ℕ → ℕ} {c : Context} {w : Walk} {s : Both} {t : State} {fs : List Finding} → Holds id c w s → Unmoved c.wants s.names t → s.kinds ≡ fs → Holds id c w (record { names = t; kinds = fs; known = s.known; olds = s.olds })
+still-holds : {id : ℕ → ℕ} {c : Context} {w : Walk} {s : Both} {t : State} {fs : List Finding} → Holds id c w s → Unmoved c.wants s.names t → s.kinds ≡ fs → Holds id c w (record { names = t; kinds = fs; olds = s.olds })
 still-holds h u e =
     record {
       visible = h.visible ∙ u.visible;
@@ -116,7 +116,6 @@ still-holds h u e =
       last = h.last ∙ u.last;
       log = h.log ∙ u.log;
       kinds = h.kinds ∙ e;
-      known = h.known;
       olds = h.olds;
       counts = record { made = h.counts.made ∙ u.made; taken = h.counts.taken ∙ u.taken };
       uses = h.uses;
@@ -215,13 +214,13 @@ module _ {c : Context} {w : Walk} (x : ℕ) where
     pub missing-name : answer (lookup x (entries w.visible)) p ≡ None → Says (5 ∷ x ∷ 0 ∷ 0 ∷ 0 ∷ 0 ∷ []) w.log l → Steps 1 c w (logged w l) (RecordsAs c x)
     missing-name q s =
         instead _ (says-step s (λ id l. wanted _ e (λ r. refl) l) (λ id. no-count (λ n. refl) (λ n. refl)))
-        (λ id t h. let z : lookup x t.names.visible ≡ None = ap (λ l. lookup x l) (sym h.visible) ∙ sym (looked-up (lookup x (entries w.visible)) p) ∙ ap hit_of q in rw z)
+        (λ id t h. let z : lookup x t.visible ≡ None = ap (λ l. lookup x l) (sym h.visible) ∙ sym (looked-up (lookup x (entries w.visible)) p) ∙ ap hit_of q in rw z)
 
     pub found_name : (n : Newest) (k : ℕ) → answer (lookup x (entries w.visible)) p ≡ Some n → k ≡ row_kind (row_in c.rows n.variable) → Says (5 ∷ x ∷ 1 ∷ n.variable ∷ k ∷ n.via ∷ []) w.log l → Steps 1 c w (logged w l) (RecordsAs c x)
     unfolding kind_of
     found_name n k q r s =
         instead _ (says-step s (λ id l. wanted _ e (λ r. refl) l) (λ id. no-count (λ n. refl) (λ n. refl)))
-        (λ id t h. let z : lookup x t.names.visible ≡ Some (hit n.variable n.via) = ap (λ l. lookup x l) (sym h.visible) ∙ sym (looked-up (lookup x (entries w.visible)) p) ∙ ap hit_of q in rw (z, r))
+        (λ id t h. let z : lookup x t.visible ≡ Some (hit n.variable n.via) = ap (λ l. lookup x l) (sym h.visible) ∙ sym (looked-up (lookup x (entries w.visible)) p) ∙ ap hit_of q in rw (z, r))
 
 -- of a name that is no use nothing is said
 pub hushed-use : {j : ℕ} {c : Context} {w : Walk} (x : ℕ) → hushed_in c x ≡ true → Steps j c w w (λ id. on_names (name_use (world_at c id) x))

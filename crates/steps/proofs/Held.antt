@@ -234,7 +234,6 @@ module _ {c : Context} {w : Walk} {l : Log} {event : List ℕ} (p : Says event w
               last = h.last;
               log = p.events id ∙ ap (λ r. event_by id event ∷ r) h.log ∙ sym (z id s.names.log);
               kinds = p.findings ∙ h.kinds;
-              known = h.known;
               olds = h.olds;
               counts = uncounted (y id) (recounted refl refl h.counts);
               uses = h.uses;
@@ -248,7 +247,7 @@ module _ {c : Context} {w : Walk} {l : Log} {event : List ℕ} (p : Says event w
 -- what is not wanted is not said
 pub unsaid-step : {j k : ℕ} {c : Context} {w : Walk} (e : (ℕ → ℕ) → Event) → ((id : ℕ → ℕ) (l : List Event) → kept c.wants (e id ∷ l) ≡ kept c.wants l) → ((id : ℕ → ℕ) → Uncounted (e id)) → Costs j k c w w (λ id. on_names (say (e id)))
 unsaid-step e z y =
-    idle-step _ (λ id s h. record { visible = h.visible; cur = h.cur; last = h.last; log = h.log ∙ sym (z id s.names.log); kinds = h.kinds; known = h.known; olds = h.olds; counts = uncounted (y id) h.counts; uses = h.uses })
+    idle-step _ (λ id s h. record { visible = h.visible; cur = h.cur; last = h.last; log = h.log ∙ sym (z id s.names.log); kinds = h.kinds; olds = h.olds; counts = uncounted (y id) h.counts; uses = h.uses })
 
 module _ {c : Context} {w : Walk} {l : Log} {one : List ℕ} (p : Tells one w.log l) where
   pub tells-costs : Costs 1 0 c w (logged w l) (λ id. on_kinds (finding_by one ∷ []))
@@ -267,7 +266,6 @@ module _ {c : Context} {w : Walk} {l : Log} {one : List ℕ} (p : Tells one w.lo
               last = h.last;
               log = p.events id ∙ h.log;
               kinds = p.findings ∙ ap (λ r. finding_by one ∷ r) h.kinds;
-              known = h.known;
               olds = h.olds;
               counts = recounted refl refl h.counts;
               uses = h.uses;

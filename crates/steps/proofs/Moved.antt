@@ -51,7 +51,6 @@ opens {c} {w} =
             last = add-one w.last ∙ ap suc h.last;
             log = h.log;
             kinds = h.kinds;
-            known = h.known;
             olds = h.olds;
             counts = recounted refl refl h.counts;
             uses = h.uses;
@@ -97,7 +96,6 @@ pushes {c} {w} {vis} {x} {v} p =
             last = h.last;
             log = h.log;
             kinds = h.kinds;
-            known = h.known;
             olds = h.olds;
             counts = recounted refl refl h.counts;
             uses = h.uses;
@@ -124,7 +122,6 @@ makes c w l x v k y few logs kinds =
             last = h.last;
             log = logs id s.names.log h.log;
             kinds = kinds ∙ h.kinds;
-            known = h.known;
             olds = h.olds;
             counts = record { made = ap suc h.counts.made; taken = h.counts.taken };
             uses = h.uses;
@@ -188,7 +185,7 @@ module _ {c : Context} {w : Walk} (v : ℕ) where
   unfolding all_known
   noted-idle q =
       idle-step _
-      (λ id s h. record { visible = h.visible; cur = h.cur; last = h.last; log = h.log; kinds = h.kinds; known = h.known ∙ known-stays s.known (row_in c.rows v) q; olds = h.olds; counts = h.counts; uses = h.uses })
+      (λ id s h. record { visible = h.visible; cur = h.cur; last = h.last; log = h.log; kinds = h.kinds; olds = h.olds; counts = h.counts; uses = h.uses })
 
   pub noted-lost : is_some (row_in c.rows v) ≡ false → Costs 0 0 c w (record w { known = false }) (λ id. noting (world_at c id) (v ∷ []))
   unfolding all_known
@@ -206,7 +203,6 @@ module _ {c : Context} {w : Walk} (v : ℕ) where
               last = h.last;
               log = h.log;
               kinds = h.kinds;
-              known = known-falls s.known (row_in c.rows v) q;
               olds = h.olds;
               counts = recounted refl refl h.counts;
               uses = h.uses;
@@ -241,7 +237,6 @@ module _ {room e t i k : ℕ} {c : Context} {w n : Walk} {vis : Visible} (f : Fi
         last = j.last;
         log = j.log;
         kinds = j.kinds;
-        known = j.known;
         olds = j.olds;
         counts = recounted refl refl j.counts;
         uses = j.uses;

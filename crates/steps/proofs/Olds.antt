@@ -80,7 +80,6 @@ counted {c} {w} =
             last = h.last;
             log = h.log;
             kinds = h.kinds;
-            known = h.known;
             olds = ap (λ (n : ℕ). n + 1) h.olds;
             counts = recounted refl refl h.counts;
             uses = h.uses;

@@ -44,7 +44,7 @@ module _ {c : Context} {w w1 : Walk} {x v k : ℕ} {t : Bool} (a b : ℕ) (y : B
   pub anew-no : t ≡ false → Costs 1 3 c w w1 (λ id. on_names (bind_anew (world_at c id) a b x v k))
   anew-no z = anew-not (rw z (and-false c.warns))
 
-both-same : {n n' : State} {k k' : List Finding} (b : Bool) (o : ℕ) → n ≡ n' → k ≡ k' → ◌≡◌ {A = Both} (record { names = n; kinds = k; known = b; olds = o }) (record { names = n'; kinds = k'; known = b; olds = o })
+both-same : {n n' : State} {k k' : List Finding} (b : Bool) (o : ℕ) → n ≡ n' → k ≡ k' → ◌≡◌ {A = Both} (record { names = n; kinds = k; olds = o }) (record { names = n'; kinds = k'; olds = o })
 both-same b o p q = rw (p, q)
 
 is_name : {names x : ℕ} {o : Option Row} {r : Option (ℕ × ℕ)} → ShownTo names o r → x ≡ name_in r → x ≡ row_name o

@@ -23,7 +23,7 @@ use Rattle.semantics.specs.Kinds.{both, settings}
 use Rattle.semantics.specs.Kinds as kinds
 use Rattle.fused.specs.Fused.{Both, Go, row_go, expr_go}
 use Rattle.steps.specs.Modes.{mode_of, setting_of, pair_of}
-use Rattle.steps.specs.Memory.{words_in, names_in, tables_in, world_at}
+use Rattle.steps.specs.Memory.{words_in, names_in, world_at}
 use Rattle.steps.specs.Hold.{Steps, Ready, cost_of, idle, level_of}
 use Rattle.steps.specs.declared.Level.{Level}
 use Rattle.steps.specs.declared.Walk.{Walk}
@@ -76,7 +76,7 @@ ahead E left c e s r F h =
 
 -- ---- where the loop stands: left expressions at the level d, and those that wait above it
 abbrev pub within : Context → Mode → (ℕ → ℕ) → ℕ → kinds.Setting → Go
-within c mode id d = expr_go (world_at c id) (tables_in c) d (mode_of mode)
+within c mode id d = expr_go (world_at c id) (names_in c) d (mode_of mode)
 
 abbrev pub waits : Context → (room : ℕ) → Mode → (level : ℕ → Level) → (d : ℕ) → (ℕ → ℕ) → Both → Chain Both
 waits c room mode level d id u = last (climb (within c mode id) level d (room - d) u)
@@ -185,7 +185,7 @@ module _ {c : Context} {w₀ : Walk} {room : ℕ} {mode : Mode} {n : ℕ} {first
         jump _ (1 + t % 2) end (next some) (omega arith) (omega arith) (omega arith)
         (λ id s u. ap (λ (g : Got Both). bind g (λ x r2. bind (later_row (within c mode id d) (left - 1) later x r2) (λ y r3. climb (within c mode id) (level_of w) d (room - d) y r3)))
         (ap (λ (k : ℕ). within c mode id k (setting_of now) u (drop w.at (words_in c))) one
-        ∙ plain-expr (world_at c id) (tables_in c) (d - 1) (mode_of mode) code word (setting_of now) u (drop w.at (words_in c)) (drop end (words_in c)) shaped limited (rw (← i, ← j, e) at f.same)
+        ∙ plain-expr (world_at c id) (names_in c) (d - 1) (mode_of mode) code word (setting_of now) u (drop w.at (words_in c)) (drop end (words_in c)) shaped limited (rw (← i, ← j, e) at f.same)
         ∙ ap (λ (k : ℕ). row_go (within c mode id (d - 1)) (parts_of k word) (settings (world_at c id).is_id (headed code word) (setting_of now)) (Does c mode now code word id u) (drop end (words_in c))) (sym as-shaped)))
 
     head-ready : Ready 0 c w₀ → Ready (cost_of (headed code word)) c read
@@ -261,7 +261,7 @@ written {w = w} d x b o =
       on = λ id s h. let n = o.on id s h in let k = n.holds in
           record {
             state = n.state;
-            holds = record { visible = k.visible; cur = k.cur; last = k.last; log = k.log; kinds = k.kinds; known = k.known; olds = k.olds; counts = record { made = k.counts.made; taken = k.counts.taken }; uses = k.uses };
+            holds = record { visible = k.visible; cur = k.cur; last = k.last; log = k.log; kinds = k.kinds; olds = k.olds; counts = record { made = k.counts.made; taken = k.counts.taken }; uses = k.uses };
             same = n.same;
           };
     }

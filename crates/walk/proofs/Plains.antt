@@ -12,7 +12,6 @@ use borrow.Author.Tests.{lt-ltb, le-leb, eqb-true, eqb-false}
 use Rattle.words.proofs.Words.{drop-word}
 use Rattle.heads.specs.Got.{Got, ok, no, bind, word_in}
 use Rattle.heads.specs.Form.{shape_of, limit_of, form_none, form_one, rest_of, read_form, kids_of, items_of}
-use Rattle.heads.specs.Head.{Tables}
 use Rattle.heads.specs.declared.Form.{Form}
 use Rattle.semantics.specs.Log.{Finding, e5010, e5011}
 use Rattle.semantics.specs.World.{World}
@@ -154,7 +153,7 @@ unfolding rest_go rounds
 simple-rest w E m f c u s r h =
     rw (h.inner w E m s r, h.items) (ends (row_go (E m) (kids_of f) (settings w.is_id f c) s r) (tail_of m f u) (h.tail m u))
 
-pub plain-expr : (w : World) (t : Tables) (d : ℕ) (m : Mode) (code a : ℕ) (c : Setting) (s : Both) (r p : List ℕ) → 0 < shape code → a ≤ limit code → read_form t.names r ≡ ok (headed code a) p → expr_go w t (suc d) m c s r ≡ row_go (expr_go w t d m) (parts_of (shape code) a) (settings w.is_id (headed code a) c) (head_of w m (headed code a) c s) p
+pub plain-expr : (w : World) (t : ℕ) (d : ℕ) (m : Mode) (code a : ℕ) (c : Setting) (s : Both) (r p : List ℕ) → 0 < shape code → a ≤ limit code → read_form t r ≡ ok (headed code a) p → expr_go w t (suc d) m c s r ≡ row_go (expr_go w t d m) (parts_of (shape code) a) (settings w.is_id (headed code a) c) (head_of w m (headed code a) c s) p
 unfolding expr_go
 plain-expr w t d m code a c s r p h l q =
     let k = law code a h l in
@@ -198,7 +197,7 @@ unfolding told
 still m (f ∷ fs) s e = never (cc)
 still m [] s e = go m.resolves m.checks s.names s.kinds
   where
-    go : (b d : Bool) (n : State) (k : List Finding) → ◌≡◌ {A = Both} (record { names = when b same n; kinds = when d (told []) k; known = s.known; olds = s.olds }) (record { names = n; kinds = k; known = s.known; olds = s.olds })
+    go : (b d : Bool) (n : State) (k : List Finding) → ◌≡◌ {A = Both} (record { names = when b same n; kinds = when d (told []) k; olds = s.olds }) (record { names = n; kinds = k; olds = s.olds })
     go true true n k = refl
     go true false n k = refl
     go false true n k = refl

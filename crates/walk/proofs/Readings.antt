@@ -15,7 +15,7 @@ use Rattle.heads.specs.declared.Elem.{Elem}
 use Rattle.heads.proofs.Chain.{step, last}
 use Rattle.semantics.specs.Kinds.{Setting, plain, settings}
 use Rattle.fused.specs.Fused.{Mode, elem_go, elem_step, part_go, pattern_go, mark_go, rest_go, expr_go, head_of, tail_of}
-use Rattle.steps.specs.Memory.{words_in, names_in, tables_in, world_at}
+use Rattle.steps.specs.Memory.{words_in, names_in, world_at}
 use Rattle.steps.specs.Hold.{Ready, Steps, cost_of, path_step}
 use Rattle.steps.specs.declared.Walk.{Walk}
 use Rattle.steps.specs.declared.context.Context.{Context}
@@ -70,7 +70,7 @@ module _ {c : Context} {w : Walk} (room : ℕ) (mode : Mode) (r : Ready 0 c w) w
     unfolding expr_go
     expr-begins =
         let e : room ≡ suc (room - 1) = omega arith in
-        start {G = expr_at c room mode set} _ r (λ id s t. ap (λ (d : ℕ). expr_go (world_at c id) (tables_in c) d mode set s t) e)
+        start {G = expr_at c room mode set} _ r (λ id s t. ap (λ (d : ℕ). expr_go (world_at c id) (names_in c) d mode set s t) e)
 
     module _ {f : Form} {p : ℕ} (a : Ans (words_in c) w.at (read_form (names_in c) (drop w.at (words_in c))) (ok f (drop p (words_in c))) p) where
       pub head-read : Stage (Some room) 0 c w (expr_at c room mode set) (cost_of f) (placed w p) (λ id u v. step (rest_at c (room - 1) mode f set id (head_of (world_at c id) mode f set v)) λ x. last (ok (tail_of mode f u x)))

@@ -58,7 +58,6 @@ module _ {w : Walk} {p : ℕ} where
         last = h.last;
         log = h.log;
         kinds = h.kinds;
-        known = h.known;
         olds = h.olds;
         counts = record { made = h.counts.made; taken = h.counts.taken };
         uses = h.uses;

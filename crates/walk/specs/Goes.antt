@@ -6,7 +6,7 @@ use Rattle.heads.specs.Got.{Got, ok, no}
 use Rattle.heads.specs.declared.Form.{Form}
 use Rattle.semantics.specs.Kinds.{Setting, Pair}
 use Rattle.fused.specs.Fused.{Both, Mode, Go, rounds, row_go, mark_go, elem_go, part_go, pattern_go, inner_go, rest_go, expr_go}
-use Rattle.steps.specs.Memory.{words_in, tables_in, world_at}
+use Rattle.steps.specs.Memory.{words_in, names_in, world_at}
 use Rattle.steps.specs.Hold.{Fit, Holds, Frame, Still}
 use Rattle.steps.specs.declared.Walk.{Walk}
 use Rattle.steps.specs.declared.context.Context.{Context}
@@ -53,31 +53,31 @@ path_cost None = 0
 -- What is walked, with room for so many levels, in a mode.
 module _ (c : Context) (room : ℕ) (mode : Mode) where
   abbrev pub expr_at : Setting → Goer
-  expr_at set id = expr_go (world_at c id) (tables_in c) room mode set
+  expr_at set id = expr_go (world_at c id) (names_in c) room mode set
 
   abbrev pub row_at : ℕ → Pair → Goer
-  row_at n pair id = row_go (expr_go (world_at c id) (tables_in c) room mode) n pair
+  row_at n pair id = row_go (expr_go (world_at c id) (names_in c) room mode) n pair
 
   abbrev pub rest_at : Form → Setting → Goer
-  rest_at f set id = rest_go (world_at c id) (expr_go (world_at c id) (tables_in c) room) mode f set
+  rest_at f set id = rest_go (world_at c id) (expr_go (world_at c id) (names_in c) room) mode f set
 
   abbrev pub inner_at : Form → Goer
-  inner_at f id = inner_go (world_at c id) (expr_go (world_at c id) (tables_in c) room) mode f
+  inner_at f id = inner_go (world_at c id) (expr_go (world_at c id) (names_in c) room) mode f
 
   abbrev pub mark_at : ℕ → Goer
-  mark_at kind id = mark_go (world_at c id) (expr_go (world_at c id) (tables_in c) room) mode kind
+  mark_at kind id = mark_go (world_at c id) (expr_go (world_at c id) (names_in c) room) mode kind
 
   abbrev pub marks_at : ℕ → ℕ → Goer
   marks_at kind n id = rounds n (mark_at kind id)
 
   abbrev pub elem_at : Goer
-  elem_at id = elem_go (world_at c id) (expr_go (world_at c id) (tables_in c) room) mode
+  elem_at id = elem_go (world_at c id) (expr_go (world_at c id) (names_in c) room) mode
 
   abbrev pub part_at : Goer
-  part_at id = part_go (world_at c id) (expr_go (world_at c id) (tables_in c) room) mode
+  part_at id = part_go (world_at c id) (expr_go (world_at c id) (names_in c) room) mode
 
   abbrev pub pattern_at : Goer
-  pattern_at id = pattern_go (world_at c id) (expr_go (world_at c id) (tables_in c) room) mode
+  pattern_at id = pattern_go (world_at c id) (expr_go (world_at c id) (names_in c) room) mode
 
   abbrev pub elems_at : ℕ → Goer
   elems_at n id = rounds n (elem_at id)

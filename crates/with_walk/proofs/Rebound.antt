@@ -223,7 +223,7 @@ module _ {w : Walk} (b k : ℕ) where
   counts-fit h f = refit f counts-still f.sound f.descends f.cur f.last f.count f.stack f.olds h f.within
 
   -- and the state that it counts is held
-  counts-hold : {id : ℕ → ℕ} {c : Context} {s : Both} {t : State} {l : List Seen} → Beside c.wants k b l s.names t → l ≡ s.names.visible → Holds id c w s → Holds id c (record w { taken = w.taken + k; made = w.made + b }) (record { names = t; kinds = s.kinds; known = s.known; olds = s.olds })
+  counts-hold : {id : ℕ → ℕ} {c : Context} {s : Both} {t : State} {l : List Seen} → Beside c.wants k b l s.names t → l ≡ s.names.visible → Holds id c w s → Holds id c (record w { taken = w.taken + k; made = w.made + b }) (record { names = t; kinds = s.kinds; olds = s.olds })
   counts-hold z e h =
       record {
         visible = h.visible ∙ sym (z.visible ∙ e);
@@ -231,7 +231,6 @@ module _ {w : Walk} (b k : ℕ) where
         last = h.last ∙ sym z.last;
         log = h.log ∙ sym z.log;
         kinds = h.kinds;
-        known = h.known;
         olds = h.olds;
         counts = record { made = omega (arith, h.counts.made, z.made); taken = omega (arith, h.counts.taken, z.taken) };
         uses = h.uses;

@@ -46,7 +46,6 @@ seen-holds e h =
       last = h.last;
       log = h.log;
       kinds = h.kinds;
-      known = h.known;
       olds = h.olds;
       counts = recounted refl refl h.counts;
       uses = h.uses;
@@ -129,7 +128,7 @@ each_seen {n} {p} {w₀} {v} b c =
       fit = λ i k f h. seen-fits b.still f b.sound b.descends (omega (arith, h, b.top, b.still.names));
       goes = λ id s h.
           let e : standing (above w₀.cur (pairs_in n p.words.now) (entries w₀.visible)) w₀.cur s.names ≡ seen_by (pairs_in n p.words.now) s.names = rw (seen_as_lem (pairs_in n p.words.now) s.names, h.visible, h.cur) in
-          subst (λ (t : State). Holds id c (record w₀ { visible = v }) (record { names = t; kinds = s.kinds; known = s.known; olds = s.olds })) e (seen-holds b.seen h);
+          subst (λ (t : State). Holds id c (record w₀ { visible = v }) (record { names = t; kinds = s.kinds; olds = s.olds })) e (seen-holds b.seen h);
     }
 
 pub all_seen : {n : ℕ} {p : Pairs} {w₀ w : Walk} {made : ℕ} → Seeing n p w₀ w made → SeesFirst n p w₀ w made

@@ -20,7 +20,7 @@ use Rattle.fused.specs.Clauses.{Taken, nothing, takes, all_of, within, projectio
 use Rattle.fused.proofs.StarKeys.{star-sort}
 use Rattle.visible.specs.Visible.{seens, Descends}
 use Rattle.visible.specs.Stack.{entries}
-use Rattle.steps.specs.Memory.{words_in, tables_in, world_at}
+use Rattle.steps.specs.Memory.{words_in, names_in, world_at}
 use Rattle.steps.specs.Hold.{Fit, Holds, Still, Ready, on_names}
 use Rattle.steps.specs.declared.Walk.{Walk}
 use Rattle.steps.specs.declared.context.Context.{Context}
@@ -55,11 +55,11 @@ module _ (K : Both × Taken → List ℕ → Got Both) where
     after-count P (no e) = refl
 
 with-as : (c : Context) (m : Mode) (a b : ℕ) (sorts : Bool) (id : ℕ → ℕ) (s : Both) (r : List ℕ) →
-    with_at c m sorts a b id s r ≡ bind (filtered_at c m id nothing s r) (λ x r2. sort_go (world_at c id) (tables_in c) m a b sorts s (rooted_by (world_at c id) (tables_in c) m a b (all_of x.1 s.names.visible) x.0) r2)
+    with_at c m sorts a b id s r ≡ bind (filtered_at c m id nothing s r) (λ x r2. sort_go (world_at c id) (names_in c) m a b sorts s (rooted_by (world_at c id) (names_in c) m a b (all_of x.1 s.names.visible) x.0) r2)
 unfolding with_go
 with-as c m a b sorts id s r =
     let w = world_at c id in
-    let t = tables_in c in
+    let t = names_in c in
     after-count (λ x r2. sort_go w t m a b sorts s (rooted_by w t m a b (all_of x.1 s.names.visible) x.0) r2) (λ n u r3. row_go (within w t m) n plain u r3) (λ k r1. projections_go w t (takes w) m k nothing s r1) (any_word r)
 
 -- ---- nothing is taken at first
@@ -185,8 +185,8 @@ module _ {m : Mode} {c : Context} {l : MutBor (List ℕ)} {w w2 : Walk} {p : Pai
       let q : Taken = record { star = true; pairs = pairs_of p } in
       with-as c m a b true id s (rest_in c w)
       ∙ rw (g.same, e)
-      (star-sort W (tables_in c) (λ v. refl) m a b q s g.state w2.cur (rest_in c w2) given.resolves refl (λ d y n. unbound w2.cur d y s.names.visible n (outside id s h)) (omega (arith, f.cur, g.holds.last))
-      ∙ ap (λ (v : Both). bind (counted_row W (tables_in c) m v (rest_in c w2)) (λ z r. ok (left m v z) r)) (names-step m (renewed W a b (all_of q s.names.visible)) g.state given.resolves))
+      (star-sort W (names_in c) (λ v. refl) m a b q s g.state w2.cur (rest_in c w2) given.resolves refl (λ d y n. unbound w2.cur d y s.names.visible n (outside id s h)) (omega (arith, f.cur, g.holds.last))
+      ∙ ap (λ (v : Both). bind (counted_row W (names_in c) m v (rest_in c w2)) (λ z r. ok (left m v z) r)) (names-step m (renewed W a b (all_of q s.names.visible)) g.state given.resolves))
   keys-as false a b id s h e =
       let g = x.goes id s h in
       let W = world_at c id in
@@ -196,8 +196,8 @@ module _ {m : Mode} {c : Context} {l : MutBor (List ℕ)} {w w2 : Walk} {p : Pai
       let free : (y : ℕ) → binds (suc (barrier W a b (pairs_of p) g.state.names).last) y s.names.visible ≡ false = λ y. unbound w2.cur _ y s.names.visible (omega (arith, f.cur, g.holds.last, n)) (outside id s h) in
       with-as c m a b true id s (rest_in c w)
       ∙ rw (g.same, e)
-      (ap (λ (v : Both). sort_go W (tables_in c) m a b true s v (rest_in c w2)) (names-step m (renewed W a b ps) g.state given.resolves)
-      ∙ ap (λ (k : Both). bind (counted_row W (tables_in c) m k (rest_in c w2)) (λ z r. ok (left m (on_names (renewed W a b ps) g.state) z) r)) (rooted-beside W a b ps m s g.state given.resolves free))
+      (ap (λ (v : Both). sort_go W (names_in c) m a b true s v (rest_in c w2)) (names-step m (renewed W a b ps) g.state given.resolves)
+      ∙ ap (λ (k : Both). bind (counted_row W (names_in c) m k (rest_in c w2)) (λ z r. ok (left m (on_names (renewed W a b ps) g.state) z) r)) (rooted-beside W a b ps m s g.state given.resolves free))
 
   module _ {w3 : Walk} {a b : ℕ} (y : Rebinds c p w2 w3 a b w.visible.top) where
     keyed-holds : (t : Bool) (id : ℕ → ℕ) (s : Both) (h : Holds id c w s) → p.star ≡ t → let u = (x.goes id s h).state in Holds id c w3 (keyed t id a b s u)

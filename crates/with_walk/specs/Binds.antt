@@ -10,7 +10,8 @@ use Rattle.fused.specs.Fused.{Both, Mode}
 use Rattle.fused.specs.Clauses.{all_of, with_go}
 use Rattle.visible.specs.Visible.{seens}
 use Rattle.visible.specs.Stack.{entries, Sound, Restacked}
-use Rattle.steps.specs.Memory.{tables_in, world_at}
+use Rattle.steps.specs.Memory.{names_in, world_at}
+use Rattle.steps.specs.Named.{as_named}
 use Rattle.steps.specs.Hold.{Binding, Fits, Fit, Holds, Still, Left, on_names}
 use Rattle.walk.specs.Goes.{Goer}
 use Rattle.projection_walk.specs.Pairs.{pairs_in, pairs_of, InNames, kept_of, taken_by}
@@ -30,13 +31,13 @@ under_star star l = cond star [] l
 
 -- the first `top` names that are visible
 abbrev pub first_seen : ℕ → Walk → List Seen
-first_seen top w = seens w.visible.names top w.visible.words.now
+first_seen top w = as_named w.rowless (seens w.visible.names top w.visible.words.now)
 
 -- What a WITH leaves: of the names before it the first `top` are seen below the pairs, or each of them is carried by a star.
 pub record Rebinds (c : Context) (p : Pairs) (w w' : Walk) (a b top : ℕ) : Type 0 where
   pub at : w'.at ≡ w.at
   pub still : Still w w'
-  pub fit : (k : ℕ) → Fit (2 + k + kept_of p) c w → w.visible.names + (top + p.count) + k ≤ w.at → Fit k c w'
+  pub fit : (k : ℕ) → Fit (2 + k + kept_of p) c w → w.rowless.listed + (top + p.count) + k ≤ w.at → Fit k c w'
   pub goes : (id : ℕ → ℕ) (s : Both) → Holds id c w s →
       Holds id c w' (on_names (rooted_on (under_star p.star (first_seen top w)) (world_at c id) a b (all_of (taken_by p) (first_seen top w))) s)
 
@@ -52,8 +53,8 @@ firsts c (pair x v ∷ ps) l = cond (binds c x l) 0 1 + firsts c ps (seen x (hit
 
 -- the first n pairs are seen
 pub record SeesAll (n : ℕ) (p : Pairs) (c : Context) (w w' : Walk) : Type 0 where
-  pub fit : (i k : ℕ) → Fits i k c w → w.visible.names + (w.visible.top + n) + k ≤ w.at + 1 → Fits i k c w'
-  pub goes : (id : ℕ → ℕ) (s : Both) → Holds id c w s → Holds id c w' (on_names (seen_by (pairs_in n p.words.now)) s)
+  pub fit : (i k l : ℕ) → Fits i k l c w → InNames w.rowless.listed (pairs_in n p.words.now) → w.rowless.listed + (w.visible.top + n) + k ≤ w.at + 1 → Fits i k l c w'
+  pub goes : (id : ℕ → ℕ) (s : Both) → InNames w.rowless.listed (pairs_in n p.words.now) → Holds id c w s → Holds id c w' (on_names (seen_by (pairs_in n p.words.now)) s)
 
 -- they are, beside which nothing changes but what is visible, and r of them are first
 pub record SeesFirst (n : ℕ) (p : Pairs) (w w' : Walk) (r : ℕ) : Type 0 where
@@ -71,8 +72,9 @@ pub record SeesIn (w : Walk) (p : Pairs) : Type 0 where
   pub short : w.cur < 2147483648
   pub binding : Binding w
   pub wide : p.count * 2 ≤ length p.words.now
-  pub named : InNames w.visible.names (pairs_of p)
+  pub named : InNames w.rowless.listed (pairs_of p)
   pub few : w.visible.top + p.count < 4294967296
+  pub places : w.rowless.listed ≤ w.visible.names
   pub room : w.visible.names + (w.visible.top + p.count) * 4 ≤ length w.visible.words.now
 
 -- where there is a star, each name that is seen is seen once, in the current scope: r of them
@@ -92,9 +94,9 @@ pub record CountsPairs (held star first : ℕ) (w w' : Walk) : Type 0 where
 -- what binding above the first `top` names asks
 pub record BindsIn (top : ℕ) (w : Walk) (p : Pairs) : Type 0 where
   pub wide : p.count * 2 ≤ length p.words.now
-  pub named : InNames w.visible.names (pairs_of p)
+  pub named : InNames w.rowless.listed (pairs_of p)
   pub low : top ≤ w.visible.top
-  pub room : w.visible.names + (top + p.count) ≤ w.at
+  pub room : w.rowless.listed + (top + p.count) ≤ w.at
 
 -- what seeing the pairs alone again asks: the stack is above a height, and there is room for the pairs
 pub record SeesAgainIn (height root : ℕ) (w : Walk) (p : Pairs) : Type 0 where
@@ -102,8 +104,9 @@ pub record SeesAgainIn (height root : ℕ) (w : Walk) (p : Pairs) : Type 0 where
   pub sound : Sound w.visible
   pub low : height ≤ w.visible.top
   pub wide : p.count * 2 ≤ length p.words.now
-  pub named : InNames w.visible.names (pairs_of p)
+  pub named : InNames w.rowless.listed (pairs_of p)
   pub few : p.count < 4294967296
+  pub places : w.rowless.listed ≤ w.visible.names
   pub room : w.visible.names + p.count * 4 ≤ length w.visible.words.now
 
 -- with a star what is seen up to the height is all of it; else the pairs are seen above nothing
@@ -124,4 +127,4 @@ sorts kind = eqb (code_of kind) (code_of SortedWith)
 -- a WITH from a to b in a mode, sorted or not
 module _ (c : Context) (mode : Mode) where
   abbrev pub with_at : Bool → (a b : ℕ) → Goer
-  with_at sorts a b id = with_go (world_at c id) (tables_in c) mode a b sorts
+  with_at sorts a b id = with_go (world_at c id) (names_in c) mode a b sorts

@@ -9,7 +9,7 @@ use Rattle.heads.proofs.Chain.{step, last}
 use Rattle.heads.specs.Got.{word_in}
 use Rattle.semantics.specs.Kinds.{plain}
 use Rattle.steps.specs.Modes.{mode_of}
-use Rattle.steps.specs.Memory.{tables_in, world_at}
+use Rattle.steps.specs.Memory.{names_in, world_at}
 use Rattle.steps.specs.Hold.{Ready}
 use Rattle.steps.specs.declared.Walk.{Walk}
 use Rattle.steps.specs.declared.context.Context.{Context}
@@ -19,7 +19,7 @@ use Rattle.clause_parts.proofs.Passing.{past, no_word}
 use Rattle.clause_parts.proofs.walk_counted.Goals as goal
 
 begun : {c : Context} {w : Walk} (m : Mode) → Ready 0 c w →
-    Stage (Some max_depth) 0 c w (counted_at c m) 0 w (λ id u v. step (word_in 0 4294967296) (λ n. last (row_go (within (world_at c id) (tables_in c) m) n plain v)))
+    Stage (Some max_depth) 0 c w (counted_at c m) 0 w (λ id u v. step (word_in 0 4294967296) (λ n. last (row_go (within (world_at c id) (names_in c) m) n plain v)))
 begun m h = start _ h (λ id s r. refl)
 
 pub returns-in_err-n : goal.returns-in_err-n

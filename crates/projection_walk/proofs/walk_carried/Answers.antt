@@ -2,7 +2,7 @@
 use mathlib.Core.Path.{ap}
 use Rattle.fused.specs.Clauses.{direct_form}
 use Rattle.steps.specs.Modes.{mode_of}
-use Rattle.steps.specs.Memory.{tables_in, world_at}
+use Rattle.steps.specs.Memory.{names_in, world_at}
 use Rattle.projection_walk.proofs.Projected.{var-within, name-within, var-paid, name-paid, form-ready, form-holding, form-refused, other-form, direct-passes, other-passes}
 use Rattle.projection_walk.proofs.walk_carried.Goals as goal
 
@@ -27,14 +27,14 @@ returns-in-Var c =
     let a = c.args in
     let form = c.in_ok-f.ensures.takes in
     let is = c.in-Var.is in
-    direct-passes (var-paid _ form is) form a.alias (mode_of a.mode) c.carry_var.ensures (ap direct_form is) (λ id s. var-within (world_at a.context.now id) (tables_in a.context.now) (mode_of a.mode) s _ (rw is at form.same))
+    direct-passes (var-paid _ form is) form a.alias (mode_of a.mode) c.carry_var.ensures (ap direct_form is) (λ id s. var-within (world_at a.context.now id) (names_in a.context.now) (mode_of a.mode) s _ (rw is at form.same))
 
 pub returns-in-Unresolved : goal.returns-in-Unresolved
 returns-in-Unresolved c =
     let a = c.args in
     let form = c.in_ok-f.ensures.takes in
     let is = c.in-Unresolved.is in
-    direct-passes (name-paid _ form is).0 form a.alias (mode_of a.mode) c.carry_name.ensures (ap direct_form is) (λ id s. name-within (world_at a.context.now id) (tables_in a.context.now) (mode_of a.mode) s _ c.requires.1.0.resolves (rw is at form.same))
+    direct-passes (name-paid _ form is).0 form a.alias (mode_of a.mode) c.carry_name.ensures (ap direct_form is) (λ id s. name-within (world_at a.context.now id) (names_in a.context.now) (mode_of a.mode) s _ c.requires.1.0.resolves (rw is at form.same))
 
 pub returns-in_ok-walk_expr-in_default : goal.returns-in_ok-walk_expr-in_default
 returns-in_ok-walk_expr-in_default c =

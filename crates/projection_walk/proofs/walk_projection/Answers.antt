@@ -2,7 +2,7 @@
 use native.Mathlib.Omega.{arith}
 use Rattle.clauses.specs.Read.{alias_of}
 use Rattle.steps.specs.Modes.{mode_of}
-use Rattle.steps.specs.Memory.{names_in, tables_in, world_at}
+use Rattle.steps.specs.Memory.{names_in, world_at}
 use Rattle.walk.specs.Goes.{rest_in}
 use Rattle.clause_parts.proofs.Passing.{in_range, alias-read}
 use Rattle.projection_walk.specs.Carries.{carried_at, projections_at}
@@ -15,7 +15,7 @@ returns-in_err-alias c =
     let a = c.args in
     let x = a.context.now in
     let m = mode_of a.mode in
-    as-passes (projections_at x m 1) _ (λ id q s. first-as (world_at x id) (tables_in x) m q s (rest_in x a.walk.now)) (word-refused (λ n. carried_at x m (alias_of n)) _ c.in_err-alias.ensures c.from_residual.ensures)
+    as-passes (projections_at x m 1) _ (λ id q s. first-as (world_at x id) (names_in x) m q s (rest_in x a.walk.now)) (word-refused (λ n. carried_at x m (alias_of n)) _ c.in_err-alias.ensures c.from_residual.ensures)
 
 pub walk_carried-requires : goal.walk_carried-requires
 walk_carried-requires c =
@@ -27,5 +27,5 @@ returns c =
     let a = c.args in
     let x = a.context.now in
     let m = mode_of a.mode in
-    as-passes (projections_at x m 1) _ (λ id q s. first-as (world_at x id) (tables_in x) m q s (rest_in x a.walk.now))
+    as-passes (projections_at x m 1) _ (λ id q s. first-as (world_at x id) (names_in x) m q s (rest_in x a.walk.now))
     (word-passes c.in_ok-alias.ensures {i = 1} (omega arith) (λ n. carried_at x m (alias_of n)) _ (rw (alias-read c.in_ok-alias.alias) c.walk_carried.ensures))
