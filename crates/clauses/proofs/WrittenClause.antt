@@ -61,7 +61,7 @@ alias-word : (a : ℕ) → alias_word (alias_of a) ≡ a
 alias-word zero = refl
 alias-word (suc x) = refl
 
-alias-well : (names : ℕ) (a : ℕ) → a < suc names → WellAlias names (alias_of a)
+alias-well : (names a : ℕ) → a < suc names → WellAlias names (alias_of a)
 unfolding WellAlias
 alias-well names zero h = tt
 alias-well names (suc x) h = omega arith

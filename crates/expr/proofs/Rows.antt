@@ -100,7 +100,7 @@ module _ (P : Reader) where
   part_rows = record { all = λ n r. bare (parts n P r); one = λ r. bare (part_one P r); more = parts_more; end = parts-end }
 
 -- an expression: its head, the pattern if there is one, its own list and the items
-module _ {ws : List ℕ} {at p q : ℕ} {f : Form} (names : ℕ) (room d : ℕ) (l : room ≡ suc d) (one : Ans ws at (read_form names (drop at ws)) (ok f (drop p ws)) p) (two : Ans ws p (bare (maybe_pattern (has_pattern f) (read_expr names d) (drop p ws))) (ok tt (drop q ws)) q) where
+module _ {ws : List ℕ} {at p q : ℕ} {f : Form} (names room d : ℕ) (l : room ≡ suc d) (one : Ans ws at (read_form names (drop at ws)) (ok f (drop p ws)) p) (two : Ans ws p (bare (maybe_pattern (has_pattern f) (read_expr names d) (drop p ws))) (ok tt (drop q ws)) q) where
   more_of : {h : Got (Unit {0})} {e : ℕ} → Ans ws q (bare (times (kids_of f) (read_expr names d) (marks 0 (items_of f) (read_expr names d)) (drop q ws))) h e → Ans ws at (bare (read_expr names room (drop at ws))) h e
   unfolding read_expr after_form
   more_of a =

@@ -83,7 +83,7 @@ module _ {P P' : Reader} (p : Deeper P P') where
   deep-after f r =
       deep-bind (deep-pattern (has_pattern f) r) (λ s r2. deep-bind (deep-times (kids_of f) p (deep-marks 0 (items_of f)) r2) (λ es r3. same))
 
-pub deep-expr : (names : ℕ) (room : ℕ) (ws : List ℕ) → Deep (read_expr names (suc room) ws) (read_expr names room ws)
+pub deep-expr : (names room : ℕ) (ws : List ℕ) → Deep (read_expr names (suc room) ws) (read_expr names room ws)
 unfolding read_expr deep_cause read_form word_in
 deep-expr names zero [] = same
 deep-expr names zero (x ∷ ws) = deep

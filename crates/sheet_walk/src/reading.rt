@@ -101,7 +101,6 @@ pub fn context_of<'a>(
             bytes: s,
             names: p.names,
             rows: p.rows,
-            bound: None,
         },
         rows: Rows {
             bytes: s,

@@ -1,4 +1,4 @@
-// The head and the arms of a sheet, each walked to its end. Causes 5 to 7.
+// The head and the arms of a sheet, each walked to its end. Causes 5 and 6.
 ghost use Rattle.std.specs.Prelude.{◌≡◌, ◌*◌, ◌≤◌, length};
 ghost use Rattle.words.specs.Words.{words};
 ghost use Rattle.sheet_walk.specs.Parts.{CutTo, Lent, Begins, Beginning, Standing, Walks, head_in, arms_in, WalksAll};
@@ -83,7 +83,7 @@ fn walk_tail(
     check_end(walk.at, p.trailer)
 }
 
-// The head and the arms; then whether every binder had a row.
+// The head and the arms.
 pub fn walk_all(
     walk: &mut Walk,
     context: &Context,
@@ -99,9 +99,5 @@ pub fn walk_all(
 {
     begin(walk, context, p);
     walk_head(walk, context, p, held, marks, carried)?;
-    walk_tail(walk, context, p, held, marks, carried)?;
-    if walk.known {
-        return Ok(());
-    }
-    Err(Refusal::Unbound)
+    walk_tail(walk, context, p, held, marks, carried)
 }
