@@ -1,6 +1,6 @@
 -- What was found in an accepted sheet whose answer fits, as its lines go by it: where its names stand, its findings in words, and how many
 -- expressions 25 it has.
-use Rattle.std.specs.Prelude.{ℕ, ◌+◌, ◌*◌, ◌≤◌, ◌≡◌, Bool, true, List, length, take, get_or}
+use Rattle.std.specs.Prelude.{ℕ, ◌+◌, ◌*◌, ◌/◌, ◌≤◌, ◌≡◌, Bool, true, List, length, take, get_or}
 use Rattle.words.specs.Words.{words}
 use Rattle.tables.specs.Answer.{names_in}
 use Rattle.sheet.specs.Trailer.{places_of}
@@ -22,6 +22,10 @@ pub record FoundIn (warns : Bool) (s places : List ℕ) (w : Walk) : Type 0 wher
   pub few : w.log.said + w.log.told ≤ length (words s)
   pub many : (places_of (words s)).names ≤ length places
   pub wide : (w.log.said + w.log.told) * 6 ≤ length w.log.words.now
+
+-- the words that a run needs for a sheet of w words
+abbrev pub scratch_for : ℕ → ℕ
+scratch_for w = w * 16 + 8 + (w / 3 + 1) * 5
 
 -- every number is 0
 pub record AllZero (l : List ℕ) : Type 0 where

@@ -8,7 +8,7 @@ ghost use Rattle.words.specs.Words.{words};
 ghost use Rattle.texts.specs.Page.{answered, written_as, page_as, WritesAsWord, number};
 ghost use Rattle.sheet_walk.specs.Runs.{Clean};
 ghost use Rattle.listing.specs.Listing.{listing};
-ghost use Rattle.listing.specs.Found.{FoundIn, AllZero};
+ghost use Rattle.listing.specs.Found.{FoundIn, AllZero, scratch_for};
 
 use lines::{Found, Names, write_listing};
 use refusal::Refusal;
@@ -20,31 +20,32 @@ use words::count;
 // How many entries a list may need.
 const ENTRIES: u32 = 2048;
 
-// Scratch for so many words: sixteen for each of them, and 8 besides. A const for each: the language computes no const argument. The first
-// stays below 2 KB, which is cleared fastest; for large sheets they stand close, since clearing is then a good part of the time.
-const FOR_28: usize = 28 * 16 + 8;
+// Scratch for so many words: sixteen for each of them and 8 besides, and five for each binder that they may have, which takes three words. A const
+// for each: the language computes no const argument. The first stays below 2 KB, which is cleared fastest; for large sheets they stand close, since
+// clearing is then a good part of the time.
+const FOR_28: usize = 28 * 16 + 8 + (28 / 3 + 1) * 5;
 
-const FOR_64: usize = 64 * 16 + 8;
+const FOR_64: usize = 64 * 16 + 8 + (64 / 3 + 1) * 5;
 
-const FOR_128: usize = 128 * 16 + 8;
+const FOR_128: usize = 128 * 16 + 8 + (128 / 3 + 1) * 5;
 
-const FOR_256: usize = 256 * 16 + 8;
+const FOR_256: usize = 256 * 16 + 8 + (256 / 3 + 1) * 5;
 
-const FOR_384: usize = 384 * 16 + 8;
+const FOR_384: usize = 384 * 16 + 8 + (384 / 3 + 1) * 5;
 
-const FOR_512: usize = 512 * 16 + 8;
+const FOR_512: usize = 512 * 16 + 8 + (512 / 3 + 1) * 5;
 
-const FOR_768: usize = 768 * 16 + 8;
+const FOR_768: usize = 768 * 16 + 8 + (768 / 3 + 1) * 5;
 
-const FOR_1024: usize = 1024 * 16 + 8;
+const FOR_1024: usize = 1024 * 16 + 8 + (1024 / 3 + 1) * 5;
 
-const FOR_1280: usize = 1280 * 16 + 8;
+const FOR_1280: usize = 1280 * 16 + 8 + (1280 / 3 + 1) * 5;
 
-const FOR_1536: usize = 1536 * 16 + 8;
+const FOR_1536: usize = 1536 * 16 + 8 + (1536 / 3 + 1) * 5;
 
-const FOR_1792: usize = 1792 * 16 + 8;
+const FOR_1792: usize = 1792 * 16 + 8 + (1792 / 3 + 1) * 5;
 
-const FOR_2048: usize = 2048 * 16 + 8;
+const FOR_2048: usize = 2048 * 16 + 8 + (2048 / 3 + 1) * 5;
 
 // What was found, `said` of it by the name walk: words and counts as a Log has them, of which only these are read, and how many expressions 25
 // the walk has counted.
@@ -95,9 +96,9 @@ fn list_in(s: &[u8], warns: bool, scratch: &mut Scratch, page: &mut [u8]) -> Res
     write(s, warns, scratch, page)
 }
 
-// With scratch of sixteen words, all zeros, for each of a sheet's words, and 8 besides.
+// With scratch, all zeros: sixteen words for each of a sheet's words, 8 besides, and five for each binder that it may have.
 fn list(s: &[u8], warns: bool, scratch: &mut [u32], page: &mut [u8]) -> Result<usize, Refusal>
-    requires { (length (words s.now) * 16 + 8 ≤ length scratch.old) × AllZero scratch.old }
+    requires { (scratch_for (length (words s.now)) ≤ length scratch.old) × AllZero scratch.old }
     ensures { WritesAsWord (listing warns s.now) page.old page.new result }
 {
     let n = count(s);
@@ -106,21 +107,24 @@ fn list(s: &[u8], warns: bool, scratch: &mut [u32], page: &mut [u8]) -> Result<u
     let (chains, rest) = rest.split_at_mut(n);
     let (marks, rest) = rest.split_at_mut(n);
     let (held, rest) = rest.split_at_mut(n * 2);
-    let (visible, said) = rest.split_at_mut(n * 4 + 8);
+    let binders = n / 3 + 1;
+    let (slots, rest) = rest.split_at_mut(binders * 2);
+    let (entries, rest) = rest.split_at_mut(binders * 2);
+    let (visible, said) = rest.split_at_mut(n * 4 + 8 + binders);
     let mut scratch = Scratch {
         places,
         ids,
         chains,
         marks,
         held,
-        walk: Walk::new(visible, said),
+        walk: Walk::new(visible, said, slots, entries),
     };
     list_in(s, warns, &mut scratch, page)
 }
 
 // With scratch of N words.
 fn list_with<const N: usize>(s: &[u8], warns: bool, page: &mut [u8]) -> Result<usize, Refusal>
-    requires { (length (words s.now) * 16 + 8 ≤ N) × (N ≤ 65536) }
+    requires { (scratch_for (length (words s.now)) ≤ N) × (N ≤ 65536) }
     ensures { WritesAsWord (listing warns s.now) page.old page.new result }
 {
     let mut scratch = [0u32; N];

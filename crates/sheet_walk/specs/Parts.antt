@@ -5,9 +5,11 @@ use Rattle.words.specs.Words.{words}
 use Rattle.words.specs.Fnv.{use_id}
 use Rattle.refusal.specs.Number.{number_of}
 use Rattle.refusal.specs.declared.Refusal.{Refusal}
+use mathlib.Core.List.{flat_map}
 use Rattle.heads.specs.Answer.{row_ids, is_in}
 use Rattle.tables.specs.Answer.{names_in}
-use Rattle.tables.specs.Distinct.{distinct}
+use Rattle.tables.specs.Distinct.{name_in, distinct}
+use Rattle.tables.specs.Name.{name_words}
 use Rattle.tables.specs.Index.{index_of}
 use Rattle.tables.specs.Index as index
 use Rattle.tables.specs.Row.{Row}
@@ -21,7 +23,8 @@ use Rattle.fused.proofs.ApartStatement.{HasTables, world_by}
 use Rattle.rows.specs.Slot.{slots}
 use Rattle.rows.specs.Table.{row_by, Stands}
 use Rattle.rows.specs.declared.Index.{Index}
-use Rattle.steps.specs.Memory.{words_in, use_in, world_at}
+use Rattle.rowless.specs.Rowless.{most, Fresh, Still as Unmoved}
+use Rattle.steps.specs.Memory.{words_in, use_in, texts_in, world_at}
 use Rattle.steps.specs.Memory as memory
 use Rattle.steps.specs.Hold.{Fine, Fit, Holds}
 use Rattle.steps.specs.Hold as hold
@@ -108,6 +111,8 @@ pub record Settles (s : List ℕ) (p : Places) (choice : Choice) (x : Index) (pl
   pub rows : c.rows.bytes.now ≡ s
   pub hung : c.rows.chains.now ≡ chains
   pub indexed : c.rows.index ≡ x
+  pub texts : c.texts.section.now ≡ take (p.rows * 4) s
+  pub placed : c.texts.places.now ≡ take p.names places
   pub uses : c.uses.now ≡ ids
   pub hushed : c.hushed.now ≡ []
   pub star : index.number_of c.star ≡ index_of (42 ∷ []) (names_by s p places)
@@ -120,6 +125,7 @@ pub record CutTo (to : ℕ) (c c' : Context) : Type 0 where
   pub words : words_in c' ≡ take to (words_in c)
   pub names : memory.names_in c' ≡ memory.names_in c
   pub rows : c'.rows ≡ c.rows
+  pub texts : c'.texts ≡ c.texts
   pub uses : c'.uses ≡ c.uses
   pub hushed : c'.hushed ≡ c.hushed
   pub star : c'.star ≡ c.star
@@ -129,12 +135,14 @@ pub record CutTo (to : ℕ) (c c' : Context) : Type 0 where
 
 -- ---- the sections
 
--- the context is in order for the sections of a sheet, and no name is hushed
+-- the context is in order for the sections of a sheet, each name is there once and stands before the head, and none is hushed
 pub record Set (p : Places) (c : Context) : Type 0 where
   pub places : InPlaces c.section.bytes.now p
   pub fine : Fine c
   pub names : memory.names_in c ≡ p.names
   pub few : p.names ≤ p.head
+  pub apart : distinct name_in (texts_in c) ≡ true
+  pub before : length (flat_map name_words (texts_in c)) ≤ p.head
   pub unhushed : passes.Unhushed c
 
 pub record Lent (p : Places) (c : Context) (held marks : List ℕ) : Type 0 where
@@ -142,10 +150,12 @@ pub record Lent (p : Places) (c : Context) (held marks : List ℕ) : Type 0 wher
   pub pairs : 2 * length (words_in c) ≤ length held
   pub clear : passes.Clear c marks
 
--- the walk has words for what is visible and for what is said, and nothing is visible yet
+-- the walk has words for what is visible, for what is said and for the places of names, and nothing is visible yet
 pub record Beginning (p : Places) (c : Context) (w : Walk) : Type 0 where
   pub set : Set p c
-  pub names : 4 * (length (words_in c) + 2) ≤ length w.visible.words.now
+  pub names : most w.rowless + 4 * (length (words_in c) + 2) ≤ length w.visible.words.now
+  pub binders : length (words_in c) < 3 * most w.rowless
+  pub fresh : Fresh (texts_in c) w.rowless
   pub unseen : (i : ℕ) → get_or w.visible.words.now i 0 ≡ 0
   pub room : length (words_in c) * 6 ≤ length w.log.words.now
 
@@ -198,6 +208,7 @@ arms_in p c id u = arms_go (world_at c id) p.names p.arms u (section (words_in c
 pub record Lasting (w w' : Walk) : Type 0 where
   pub visible : w'.visible.words.ghost_name ≡ w.visible.words.ghost_name
   pub seen : length w'.visible.words.now ≡ length w.visible.words.now
+  pub rowless : Unmoved w.rowless w'.rowless
   pub log : w'.log.words.ghost_name ≡ w.log.words.ghost_name
   pub wrote : length w'.log.words.now ≡ length w.log.words.now
 

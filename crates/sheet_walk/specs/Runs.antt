@@ -1,6 +1,6 @@
 -- What reading and walking a whole sheet in one leaves: the refusal, or the events and findings of the definition's two walks, in words, and
 -- what they carry.
-use Rattle.std.specs.Prelude.{ℕ, ◌+◌, ◌*◌, ◌≤◌, ◌≡◌, List, map, reverse, length, get_or, take, Result, Ok, Err}
+use Rattle.std.specs.Prelude.{ℕ, ◌+◌, ◌*◌, ◌^◌, ◌<◌, ◌≤◌, ◌≡◌, List, map, reverse, length, get_or, take, Result, Ok, Err}
 use Rattle.words.specs.Words.{words}
 use Rattle.words.specs.Fnv.{use_id}
 use Rattle.refusal.specs.Number.{number_of}
@@ -16,6 +16,7 @@ use Rattle.semantics.specs.Kinds.{kinds}
 use Rattle.theorems.specs.Needs as needs
 use Rattle.rows.specs.Table.{row_by, Stands}
 use Rattle.rows.specs.declared.Index.{Index}
+use Rattle.rowless.specs.Rowless.{most, Still as Unmoved}
 use Rattle.steps.specs.Said.{events_in, findings_in, kept}
 use Rattle.arm_walk.specs.Taking.{Carries}
 use Rattle.sheet_walk.specs.declared.Choice.{Choice}
@@ -58,7 +59,11 @@ pub record Clean (w : ℕ) (a : Scratch) : Type 0 where
   pub marked : w ≤ length a.marks.now
   pub unmarked : (i : ℕ) → get_or a.marks.now i 0 ≡ 0
   pub pairs : 2 * w ≤ length a.held.now
-  pub names : 4 * (w + 2) ≤ length a.walk.visible.words.now
+  pub names : most a.walk.rowless + 4 * (w + 2) ≤ length a.walk.visible.words.now
+  pub binders : w < 3 * most a.walk.rowless
+  pub listed : most a.walk.rowless * 2 ≤ length a.walk.rowless.entries.now
+  pub small : most a.walk.rowless < 2 ^ 31
+  pub unlisted : (i : ℕ) → get_or a.walk.rowless.chains.now i 0 ≡ 0
   pub unseen : (i : ℕ) → get_or a.walk.visible.words.now i 0 ≡ 0
   pub room : w * 6 ≤ length a.walk.log.words.now
 
@@ -76,5 +81,6 @@ pub record Still (a b : Scratch) : Type 0 where
   pub pairs : length b.held.now ≡ length a.held.now
   pub seen : length b.walk.visible.words.now ≡ length a.walk.visible.words.now
   pub lent : b.walk.visible.words.ghost_name ≡ a.walk.visible.words.ghost_name
+  pub rowless : Unmoved a.walk.rowless b.walk.rowless
   pub wrote : length b.walk.log.words.now ≡ length a.walk.log.words.now
   pub told : b.walk.log.words.ghost_name ≡ a.walk.log.words.ghost_name

@@ -1,4 +1,4 @@
-// A whole sheet, read and walked in one: the tables of names and bindings, the head, the arms. Causes 1 to 7. `held`, `marks` and `carried` are
+// A whole sheet, read and walked in one: the tables of names and bindings, the head, the arms. Causes 1 to 6. `held`, `marks` and `carried` are
 // lent beside the walk: a WITH's pairs and a context borrow them, and what a struct borrows from another's field is not known afterwards.
 #![tactic(auto)]
 

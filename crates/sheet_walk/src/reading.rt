@@ -13,7 +13,7 @@ use name_chains::are_names;
 use refusal::Refusal;
 use rows::{Index, Rows, multiplier};
 use sheet::{Places, read_bindings};
-use steps::Context;
+use steps::{Context, Texts};
 use tables::index_of;
 use words::word;
 
@@ -86,7 +86,7 @@ pub fn context_of<'a>(
     p: Places,
     choice: Choice,
     index: Index,
-    places: &[u32],
+    places: &'a [u32],
     ids: &'a [u32],
     chains: &'a [u32],
 ) -> Context<'a>
@@ -106,6 +106,10 @@ pub fn context_of<'a>(
             bytes: s,
             chains,
             index,
+        },
+        texts: Texts {
+            section: part,
+            places,
         },
         uses: ids,
         hushed: &[],

@@ -29,7 +29,7 @@ fn begin(walk: &mut Walk, context: &Context, p: Places)
     requires { Beginning p context.now walk.old }
     ensures { Begins p context.now walk.old walk.new }
 {
-    walk.restart(p.head, p.names.max(1));
+    walk.restart(p.head, context.texts);
     let root = [
         Sort::Scope as u32,
         ScopeKind::Root as u32,
