@@ -1,5 +1,6 @@
 -- What is visible as a stack of entries in its words, and what the functions do to it.
 use Rattle.std.specs.Prelude.{ℕ, suc, ◌≤◌, ◌≡◌, List, ◌∷◌, length}
+use Rattle.scope.specs.Graph.{indexed}
 use Rattle.semantics.specs.Resolve.{Hit, Seen, seen, once}
 use Rattle.visible.specs.Visible.{name_at, variable_at, seens, seen_once, Tabled}
 use Rattle.visible.specs.declared.Visible.{Visible}
@@ -25,7 +26,7 @@ pub record Still (old new : Visible) : Type 0 where
 pub record Bound (x : ℕ) (h : Hit) (c : ℕ) (old new : Visible) : Type 0 where
   pub still : Still old new
   pub height : new.top ≡ suc old.top
-  pub same : entries new ≡ seen x h c ∷ entries old
+  pub same : entries new ≡ seen (indexed x) h c ∷ entries old
   pub sound : Sound new
 
 -- back to a height

@@ -1,4 +1,4 @@
-// The visible names in lent words: for each name where its newest entry stands (its number + 1, or 0), then a stack of entries of four
+// The visible names in lent words, a name as its place: for each place where its newest entry stands (its number + 1, or 0), then a stack of entries of four
 // words: name, variable, twice the scope and 1 more if it came over a WITH, and where the name's newest entry stood before. Numbers + 1, and 0
 // for none, are what is stored: lent words, no heap. Finding and binding take constant time, and so does each entry that is undone.
 // One run of lent words for both: how many names there are is known only once the sheet is read. Entries are gone over by index: each turn writes
@@ -7,6 +7,7 @@
 #![tactic(auto)]
 
 ghost use Rattle.std.specs.Prelude.{◌≡◌, cond, ◌+◌, ◌*◌, ◌<◌, ◌≤◌, length};
+ghost use Rattle.scope.specs.Graph.{indexed};
 ghost use Rattle.semantics.specs.Resolve.{hit, lookup};
 ghost use Rattle.visible.specs.Visible.{scope_of, name_at, answer, Turned};
 ghost use Rattle.visible.specs.Stack.{entries, entry_at, Sound, Bound, Cut, Restacked};
@@ -31,7 +32,7 @@ impl Visible<'_> {
     // The newest binding of x; a name past the table has none.
     pub fn find(&self, x: u32) -> Option<Newest>
         requires { Sound self.now }
-        ensures { result ≡ answer (lookup x (entries self.now)) (scope_of x (entries self.now)) }
+        ensures { result ≡ answer (lookup (indexed x) (entries self.now)) (scope_of (indexed x) (entries self.now)) }
     {
         if x < self.names {
             let i = self.words[x as usize];
