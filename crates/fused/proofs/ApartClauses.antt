@@ -8,7 +8,7 @@ use mathlib.Core.Path.{◌≡◌, refl, ap, ap₂, sym, ◌∙◌}
 use mathlib.Core.Bool.{Bool, true, false, cond, ◌||◌, or_assoc, or-false}
 use mathlib.Core.List.{List, [], ◌∷◌, ◌++◌, flat_map, append_assoc, append-nil}
 use lib.Dec.{eqb}
-use Rattle.scope.specs.Graph.{unwind_scope, call_scope, return_scope}
+use Rattle.scope.specs.Graph.{unwind_scope, call_scope, return_scope, indexed}
 use Rattle.heads.specs.Got.{Got, ok, no, bind, word_in, any_word, flag, many, counted}
 use Rattle.heads.specs.Form.{read_form, kids_of, items_of, has_pattern}
 use Rattle.heads.specs.declared.Form.{Form}
@@ -418,7 +418,7 @@ module _ (w : World) where
 
       yields-cons : (y : Yield) (ys : List Yield) (s : Both) → step m (yields w a b (y ∷ ys)) [] s ≡ step m (yields w a b ys) [] (yielded w names m a b y s)
       unfolding yields
-      yields-cons (yield x alias v) ys s = step-two m (bind_anew w a b (yield_name x alias) v value_kind) (yields w a b ys) [] [] s
+      yields-cons (yield x alias v) ys s = step-two m (bind_anew w a b (indexed (yield_name x alias)) v value_kind) (yields w a b ys) [] [] s
 
       yields-nil : (s : Both) → step m (yields w a b []) [] s ≡ s
       unfolding yields

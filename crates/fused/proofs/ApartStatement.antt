@@ -23,8 +23,8 @@ use Rattle.fused.specs.Sheet.{sheet_go}
 use Rattle.fused.proofs.ApartSheet.{leaves, apart-sheet}
 
 -- two Worlds that say the same of every name and variable
-pub world_same : (w v : World) → ((x : ℕ) → w.id x ≡ v.id x) → ((x : ℕ) → w.is_star x ≡ v.is_star x) → ((x : ℕ) → w.is_id x ≡ v.is_id x) → ((x : ℕ) → w.hushed x ≡ v.hushed x) → ((x : ℕ) → w.row x ≡ v.row x) → w.warns ≡ v.warns → w ≡ v
-world_same w v ids stars is_ids hushed rows warns = λ i. record { id = λ x. ids x i; is_star = λ x. stars x i; is_id = λ x. is_ids x i; hushed = λ x. hushed x i; row = λ x. rows x i; warns = warns i }
+pub world_same : (w v : World) → ((x : ℕ) → w.id x ≡ v.id x) → ((x : ℕ) → w.is_star x ≡ v.is_star x) → ((x : ℕ) → w.is_id x ≡ v.is_id x) → ((x : ℕ) → w.hushed x ≡ v.hushed x) → ((x : ℕ) → w.row x ≡ v.row x) → ((x : ℕ) → w.named x ≡ v.named x) → w.warns ≡ v.warns → w ≡ v
+world_same w v ids stars is_ids hushed rows named warns = λ i. record { id = λ x. ids x i; is_star = λ x. stars x i; is_id = λ x. is_ids x i; hushed = λ x. hushed x i; row = λ x. rows x i; named = λ x. named x i; warns = warns i }
 
 -- the statement of a sheet, by its parts; the World is known before head and arms are read
 abbrev pub stated : List (List ℕ) → List Row → Places → List Clause × List Arm → Statement

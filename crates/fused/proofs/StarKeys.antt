@@ -6,7 +6,7 @@ use native.Mathlib.Omega.{arith}
 use mathlib.Core.Path.{◌≡◌, refl, ap, sym, ◌∙◌}
 use mathlib.Core.Bool.{Bool, true, false, cond, true≢false}
 use mathlib.Core.List.{List, [], ◌∷◌, ◌++◌, reverse}
-use Rattle.scope.specs.Graph.{root_scope, with_barrier, carried}
+use Rattle.scope.specs.Graph.{root_scope, with_barrier, carried, Name}
 use Rattle.heads.specs.Got.{ok, bind}
 use Rattle.expr.specs.Tree.{Exprs}
 use Rattle.clauses.specs.Read.{counted_exprs}
@@ -31,7 +31,7 @@ carry-last w (pair x v ∷ ps) s = carry-last w ps (say (carry (carried s.cur x 
 
 module _ (w : World) (names : ℕ) where
   pub row-alike : (m : Mode) (v : Both) (B : List Seen) (n : ℕ) (r : List ℕ) → m.resolves ≡ true
-      → ((x : ℕ) → lookup x v.names.visible ≡ None → lookup x B ≡ None) → ((d x : ℕ) → n < d → binds d x B ≡ false) → n ≤ v.names.last
+      → ((x : Name) → lookup x v.names.visible ≡ None → lookup x B ≡ None) → ((d : ℕ) (x : Name) → n < d → binds d x B ≡ false) → n ≤ v.names.last
       → bind (counted_row w names m (behind B v) r) (λ z r2. ok (left m v z) r2) ≡ bind (counted_row w names m v r) (λ z r2. ok (left m v z) r2)
   row-alike m v B n r e f g p =
       rw (← (counted-law w names m (behind B v) r), ← (counted-law w names m v r))
@@ -48,7 +48,7 @@ module _ (w : World) (names : ℕ) where
 
   -- a WITH's new Root with a star, and its sort keys
   pub star-sort : (m : Mode) (a b : ℕ) (q : Taken) (s u : Both) (n : ℕ) (r : List ℕ) → m.resolves ≡ true → q.star ≡ true
-      → ((d x : ℕ) → n < d → binds d x s.names.visible ≡ false) → n ≤ u.names.last
+      → ((d : ℕ) (x : Name) → n < d → binds d x s.names.visible ≡ false) → n ≤ u.names.last
       → (let v = rooted_by w names m a b (all_of q s.names.visible) u in sort_go w names m a b true s v r ≡ bind (counted_row w names m v r) (λ z r2. ok (left m v z) r2))
   star-sort m a b q s u n r e star g p = go m.resolves e
     where
@@ -61,7 +61,7 @@ module _ (w : World) (names : ℕ) where
       mode : Bool → Mode
       mode c = record { resolves = c; checks = m.checks }
 
-      finds : (x : ℕ) → lookup x (bind_all w ps root).visible ≡ None → lookup x s.names.visible ≡ None
+      finds : (x : Name) → lookup x (bind_all w ps root).visible ≡ None → lookup x s.names.visible ≡ None
       finds x h = all_found s.names.visible q.pairs root.cur x (ap (λ (c : Bool). lookup x (seen_in root.cur (cond c (reverse (once s.names.visible)) [] ++ q.pairs) [])) (sym star) ∙ ap (lookup x) (sym (bound-seen w ps root)) ∙ h)
 
       last : n ≤ (bind_all w ps root).last
