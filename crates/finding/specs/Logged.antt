@@ -1,7 +1,8 @@
 -- Findings in a log, six words each: those of a list but the mark, where a name is cited by its index. E1002 of a generated name has 6 for its code,
 -- the id and the span: no other finding has a generated name.
-use Rattle.std.specs.Prelude.{ℕ, ◌+◌, ◌<◌, ◌≤◌, cond, List, eqb, get_or, Some}
-use Rattle.scope.specs.Graph.{generated}
+use Rattle.std.specs.Prelude.{ℕ, zero, suc, ◌+◌, ◌<◌, ◌≤◌, cond, List, [], ◌∷◌, eqb, get_or, Some}
+use Rattle.scope.specs.Graph.{name, generated}
+use Rattle.scope.specs.Graph as graph
 use Rattle.scope.specs.declared.Name.{Name}
 use Rattle.semantics.specs.Log.{e1002, Finding, finding, cited}
 
@@ -16,6 +17,11 @@ logged_at l k = logged (get_or l k 0) (get_or l (k + 1) 0) (get_or l (k + 2) 0) 
 
 abbrev pub logged_in : List ℕ → Finding
 logged_in words = logged_at words 0
+
+-- E1002 of a name
+abbrev pub shadow_words : graph.Name → (start stop : ℕ) → List ℕ
+shadow_words (name zero x) a b = e1002 ∷ a ∷ b ∷ suc x ∷ 0 ∷ 0 ∷ []
+shadow_words (name (suc m) x) a b = shadow_code ∷ x ∷ a ∷ b ∷ 0 ∷ 0 ∷ []
 
 -- a name that six words can cite: an index whose number + 1 is a word, or a generated one
 pub record Cites (n : Name) : Type 0 where

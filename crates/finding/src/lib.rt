@@ -1,12 +1,11 @@
 // Finding records, and how they go into a lent list and come from one. The code is any number, since a lent list's words may be no finding's.
 #![tactic(auto)]
 
-ghost use Rattle.std.specs.Prelude.{◌≡◌, ◌+◌, ◌*◌, ◌≤◌, length, Some};
+ghost use Rattle.std.specs.Prelude.{◌≡◌, ◌+◌, ◌*◌, ◌≤◌, length};
 ghost use Rattle.std.proofs.lemmas.List.Edits.{sets};
 ghost use Rattle.scope.specs.Answer.{name_of};
-ghost use Rattle.semantics.specs.Log.{e1002, finding};
 ghost use Rattle.finding.specs.Records.{six_at, record_at, words_of, finding_by, into, out_of};
-ghost use Rattle.finding.specs.Logged.{logged_in, Cites};
+ghost use Rattle.finding.specs.Logged.{logged_in, shadow_words, Cites};
 
 use scope::Name;
 
@@ -57,7 +56,7 @@ impl From<[u32; 6]> for Finding {
 // E1002 of a name in a log.
 pub fn shadow(name: Name, start: u32, end: u32) -> [u32; 6]
     requires { Cites name }
-    ensures { logged_in result ≡ finding e1002 start end (Some (name_of name)) 0 0 }
+    ensures { result ≡ shadow_words (name_of name) start end }
 {
     match name.mark {
         0 => [1002, start, end, name.word + 1, 0, 0],

@@ -5,7 +5,7 @@
 -- `found_name`; of one that is no use, `hushed-use`; then E1001, `missed-use`, `star-use`, `seen-use`. A head by its act: `by-act`, with `none-counted`; its
 -- cost: `some_cost`; after its parts, `closed-stays`, `closed-fits`, `closed-frame`, `closed-holds`.
 use Rattle.std.specs.Prelude.{Option, None, Some}
-use Prim.Native.Nat.{ℕ, zero, suc, ◌+◌, ◌≤◌}
+use Prim.Native.Nat.{ℕ, zero, suc, ◌+◌, ◌≤◌, ◌<◌}
 use lib.Dec.{eqb}
 use lib.ListN.{get_or}
 use native.Mathlib.Nat.{add-zero}
@@ -20,6 +20,7 @@ use Rattle.expr.specs.Olds.{old_in}
 use Rattle.tables.specs.Row.{Row, row}
 use Rattle.semantics.specs.Log.{Finding, finding, find}
 use Rattle.semantics.specs.World.{World, row_kind, kind_of}
+use Rattle.scope.specs.Graph.{indexed}
 use Rattle.semantics.specs.Resolve.{Hit, hit, State, lookup, say, say_if, leave, use_var, use_name, visit}
 use Rattle.semantics.specs.Kinds.{no_type, map_type, leaf_types, type_of, at_type, at_row}
 use Rattle.semantics.specs.Kinds as kinds
@@ -35,7 +36,7 @@ use Rattle.visible.specs.Stack.{entries}
 use Rattle.visible.proofs.Pairs.{same_pair}
 use Rattle.steps.specs.Types.{type_number, type_at}
 use Rattle.steps.specs.Modes.{mode_of, setting_of, minds_none, quiet}
-use Rattle.steps.specs.Memory.{is_the, hushed_in, world_at}
+use Rattle.steps.specs.Memory.{is_the, hushed_in, world_at, names_in}
 use Rattle.steps.specs.Said.{kept, Says}
 use Rattle.steps.specs.Hold.{Fits, Holds, Frame, Still, Steps, SaysIf, AtRow, act_of, acts, opens_in, ClosedIf, Closed, cost_in, cost_of, on_names, on_kinds, logged, var_record, name_record}
 use Rattle.steps.specs.declared.Walk.{Walk}
@@ -46,6 +47,8 @@ use Rattle.steps.specs.declared.mode.Setting.{Setting}
 use Rattle.steps.specs.declared.mode.Setting.TheVariants.{General, Arithmetic, Property, Boolean, Indexed, Sliced, Iterated, Quantified}
 use Rattle.steps.specs.declared.head.Act.{Act}
 use Rattle.steps.specs.declared.head.Act.TheVariants.{Shows, Uses, Names, Opens}
+use Rattle.steps.specs.Named.{as_named}
+use Rattle.steps.proofs.Named.{lookup-index}
 use Rattle.steps.proofs.Held.{still-idle, idle-step, then-steps, more-costs, more-steps, instead, as-steps, wanted, unwanted, no-count, says-step, says_if}
 use Rattle.steps.proofs.Moved.{left-still, left-fits, left-frame, left-holds}
 
@@ -97,7 +100,7 @@ module _ {j : ℕ} {c : Context} {w : Walk} (m : Mode) where
 
 -- ---- a use of a variable
 pub var-said : {c : Context} {w w' : Walk} (m : Mode) (v k : ℕ) → m.resolves ≡ true → SaysIf c.wants (4 ∷ v ∷ k ∷ 0 ∷ 0 ∷ 0 ∷ []) w w' → Steps 1 c w w' (λ id. on_names (var_record (mode_of m) v k))
-var-said m v k r p = as-steps _ (more-costs (omega arith) (omega arith) (says_if p (λ id l. refl) (λ id l. refl) (λ id. no-count (λ n. refl) (λ n. refl)))) (λ id s. rw r)
+var-said m v k r p = as-steps _ (more-costs (omega arith) (omega arith) (omega arith) (says_if p (λ id l. refl) (λ id l. refl) (λ id. no-count (λ n. refl) (λ n. refl)))) (λ id s. rw r)
 
 -- the walk that holds s holds t too: it differs in events that are not kept
 record Unmoved (wants : Bool) (s t : State) : Type 0 where
@@ -203,24 +206,27 @@ name-unmoved e W x (Some (hit v u)) s = record { visible = refl; cur = refl; las
 
 -- what is recorded of a name, by what is visible
 abbrev RecordsAs : Context → ℕ → (ℕ → ℕ) → Both → Both
-RecordsAs c x id = on_names (λ y. name_record (world_at c id) x (lookup x y.visible) y)
+RecordsAs c x id = on_names (λ y. name_record (world_at c id) x (lookup (indexed x) y.visible) y)
 
 module _ {c : Context} {w : Walk} (x : ℕ) where
   pub unwanted-name : {j : ℕ} → c.wants ≡ false → Steps j c w w (RecordsAs c x)
-  unwanted-name e = idle-step _ (λ id s h. still-holds h (name-unmoved e (world_at c id) x (lookup x s.names.visible) s.names) refl)
+  unwanted-name e = idle-step _ (λ id s h. still-holds h (name-unmoved e (world_at c id) x (lookup (indexed x) s.names.visible) s.names) refl)
 
   -- by what `find` tells
-  module _ {l : Log} (p : ℕ) (e : c.wants ≡ true) where
-    pub missing-name : answer (lookup x (entries w.visible)) p ≡ None → Says (5 ∷ x ∷ 0 ∷ 0 ∷ 0 ∷ 0 ∷ []) w.log l → Steps 1 c w (logged w l) (RecordsAs c x)
+  module _ {i j k : ℕ} (at : x < names_in c) (f : Fits i j k c w) (p : ℕ) (e : c.wants ≡ true) where
+    seen-at : (t : State) → as_named w.rowless (entries w.visible) ≡ t.visible → lookup (indexed x) t.visible ≡ lookup (indexed x) (entries w.visible)
+    seen-at t h = ap (λ l. lookup (indexed x) l) (sym h) ∙ lookup-index f.numbered x (entries w.visible) (omega (arith, f.listed)) f.below
+
+    pub missing-name : {l : Log} → answer (lookup (indexed x) (entries w.visible)) p ≡ None → Says (5 ∷ x ∷ 0 ∷ 0 ∷ 0 ∷ 0 ∷ []) w.log l → Steps 1 c w (logged w l) (RecordsAs c x)
     missing-name q s =
         instead _ (says-step s (λ id l. wanted _ e (λ r. refl) l) (λ id. no-count (λ n. refl) (λ n. refl)))
-        (λ id t h. let z : lookup x t.visible ≡ None = ap (λ l. lookup x l) (sym h.visible) ∙ sym (looked-up (lookup x (entries w.visible)) p) ∙ ap hit_of q in rw z)
+        (λ id t h. let z : lookup (indexed x) t.names.visible ≡ None = seen-at t.names h.visible ∙ sym (looked-up (lookup (indexed x) (entries w.visible)) p) ∙ ap hit_of q in rw z)
 
-    pub found_name : (n : Newest) (k : ℕ) → answer (lookup x (entries w.visible)) p ≡ Some n → k ≡ row_kind (row_in c.rows n.variable) → Says (5 ∷ x ∷ 1 ∷ n.variable ∷ k ∷ n.via ∷ []) w.log l → Steps 1 c w (logged w l) (RecordsAs c x)
+    pub found_name : {l : Log} (n : Newest) (k : ℕ) → answer (lookup (indexed x) (entries w.visible)) p ≡ Some n → k ≡ row_kind (row_in c.rows n.variable) → Says (5 ∷ x ∷ 1 ∷ n.variable ∷ k ∷ n.via ∷ []) w.log l → Steps 1 c w (logged w l) (RecordsAs c x)
     unfolding kind_of
     found_name n k q r s =
         instead _ (says-step s (λ id l. wanted _ e (λ r. refl) l) (λ id. no-count (λ n. refl) (λ n. refl)))
-        (λ id t h. let z : lookup x t.visible ≡ Some (hit n.variable n.via) = ap (λ l. lookup x l) (sym h.visible) ∙ sym (looked-up (lookup x (entries w.visible)) p) ∙ ap hit_of q in rw (z, r))
+        (λ id t h. let z : lookup (indexed x) t.names.visible ≡ Some (hit n.variable n.via) = seen-at t.names h.visible ∙ sym (looked-up (lookup (indexed x) (entries w.visible)) p) ∙ ap hit_of q in rw (z, r))
 
 -- of a name that is no use nothing is said
 pub hushed-use : {j : ℕ} {c : Context} {w : Walk} (x : ℕ) → hushed_in c x ≡ true → Steps j c w w (λ id. on_names (name_use (world_at c id) x))
@@ -232,25 +238,27 @@ record-visible : (W : World) (x : ℕ) (o : Option Hit) (s : State) → (name_re
 record-visible W x None s = refl
 record-visible W x (Some (hit v u)) s = refl
 
-module _ {c : Context} {w w1 : Walk} (x : ℕ) (u : hushed_in c x ≡ false) (s : Steps 1 c w w1 (RecordsAs c x)) where
-  sought : (id : ℕ → ℕ) (b : Both) → Holds id c w b → lookup x b.names.visible ≡ lookup x (entries w1.visible)
-  sought id b k = ap (λ l. lookup x l) (sym ((s.goes id b k).visible ∙ record-visible (world_at c id) x (lookup x b.names.visible) b.names))
+module _ {c : Context} {w w1 : Walk} {i j k : ℕ} (x : ℕ) (at : x < names_in c) (f : Fits i j k c w1) (u : hushed_in c x ≡ false) (s : Steps 1 c w w1 (RecordsAs c x)) where
+  sought : (id : ℕ → ℕ) (b : Both) → Holds id c w b → lookup (indexed x) b.names.visible ≡ lookup (indexed x) (entries w1.visible)
+  sought id b h =
+      ap (λ l. lookup (indexed x) l) (sym ((s.goes id b h).visible ∙ record-visible (world_at c id) x (lookup (indexed x) b.names.visible) b.names))
+      ∙ lookup-index f.numbered x (entries w1.visible) (omega (arith, f.listed)) f.below
 
-  use-as : (id : ℕ → ℕ) (b : Both) → on_names (λ y. use_name (world_at c id) x (lookup x y.visible) y) b ≡ on_names (name_use (world_at c id) x) b
+  use-as : (id : ℕ → ℕ) (b : Both) → on_names (λ y. use_name (world_at c id) x (lookup (indexed x) y.visible) y) b ≡ on_names (name_use (world_at c id) x) b
   unfolding visit
   use-as id b = rw u
 
-  pub missed-use : {w2 : Walk} → lookup x (entries w1.visible) ≡ None → is_the x c.star ≡ false → Steps 1 c w1 w2 (λ id. on_names (say (find (finding 1001 0 0 (x + 1) 0 0)))) → Steps 2 c w w2 (λ id. on_names (name_use (world_at c id) x))
+  pub missed-use : {w2 : Walk} → lookup (indexed x) (entries w1.visible) ≡ None → is_the x c.star ≡ false → Steps 1 c w1 w2 (λ id. on_names (say (find (finding 1001 0 0 (Some (indexed x)) 0 0)))) → Steps 2 c w w2 (λ id. on_names (name_use (world_at c id) x))
   unfolding use_name say_if
-  missed-use z e y = instead _ (then-steps s y) (λ id b k. (let q : lookup x b.names.visible ≡ None = sought id b k ∙ z in rw (q, e, add-one x)) ∙ use-as id b)
+  missed-use z e y = instead _ (then-steps s y) (λ id b h. (let q : lookup (indexed x) b.names.visible ≡ None = sought id b h ∙ z in rw (q, e)) ∙ use-as id b)
 
-  pub star-use : lookup x (entries w1.visible) ≡ None → is_the x c.star ≡ true → Steps 2 c w w1 (λ id. on_names (name_use (world_at c id) x))
+  pub star-use : lookup (indexed x) (entries w1.visible) ≡ None → is_the x c.star ≡ true → Steps 2 c w w1 (λ id. on_names (name_use (world_at c id) x))
   unfolding use_name say_if
-  star-use z e = instead _ (more-steps (omega arith) s) (λ id b k. (let q : lookup x b.names.visible ≡ None = sought id b k ∙ z in rw (q, e)) ∙ use-as id b)
+  star-use z e = instead _ (more-steps (omega arith) s) (λ id b h. (let q : lookup (indexed x) b.names.visible ≡ None = sought id b h ∙ z in rw (q, e)) ∙ use-as id b)
 
-  pub seen-use : (lookup x (entries w1.visible) ≡ None → ⊥) → Steps 2 c w w1 (λ id. on_names (name_use (world_at c id) x))
+  pub seen-use : (lookup (indexed x) (entries w1.visible) ≡ None → ⊥) → Steps 2 c w w1 (λ id. on_names (name_use (world_at c id) x))
   unfolding use_name
-  seen-use e = instead _ (more-steps (omega arith) s) (λ id b k. go id b (lookup x b.names.visible) (λ q. e (sym (sought id b k) ∙ q)) ∙ use-as id b)
+  seen-use e = instead _ (more-steps (omega arith) s) (λ id b h. go id b (lookup (indexed x) b.names.visible) (λ q. e (sym (sought id b h) ∙ q)) ∙ use-as id b)
     where
       go : (id : ℕ → ℕ) (b : Both) (o : Option Hit) → (o ≡ None → ⊥) → on_names (λ y. name_record (world_at c id) x o y) b ≡ on_names (λ y. use_name (world_at c id) x o y) b
       go id b None n = absurd (n refl)
@@ -343,7 +351,7 @@ pub record Stays (n n' : Walk) : Type 0 where
   pub at : n'.at ≡ n.at
   pub still : Still n n'
 
-module _ {room e t i k : ℕ} {c : Context} {w n n' : Walk} (m : fused.Mode) (f : Form) (a : Fits e t c w) (g : Fits i k c n) (y : Still w n) (r : Frame room w n) (p : Closed n n' w.visible.top w.cur m f) where
+module _ {room e t u i k l : ℕ} {c : Context} {w n n' : Walk} (m : fused.Mode) (f : Form) (a : Fits e t u c w) (g : Fits i k l c n) (y : Still w n) (r : Frame room w n) (p : Closed n n' w.visible.top w.cur m f) where
   pub closed-stays : Stays n n'
   closed-stays = go (opens_in (act_of f) && m.resolves) p
     where
@@ -351,10 +359,10 @@ module _ {room e t i k : ℕ} {c : Context} {w n n' : Walk} (m : fused.Mode) (f 
       go true p = record { at = ap (λ (v : Walk). v.at) p.same; still = left-still a g y r p }
       go false p = rw p (record { at = refl; still = still-idle })
 
-  pub closed-fits : Fits i k c n'
+  pub closed-fits : Fits i k l c n'
   closed-fits = go (opens_in (act_of f) && m.resolves) p
     where
-      go : (b : Bool) → ClosedIf b n n' w.visible.top w.cur → Fits i k c n'
+      go : (b : Bool) → ClosedIf b n n' w.visible.top w.cur → Fits i k l c n'
       go true p = left-fits a g y r p
       go false p = rw p g
 

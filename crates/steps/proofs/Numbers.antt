@@ -1,9 +1,10 @@
 -- A kind and a type as a number of the code are the definition's numbers (`kind-number`, `row-number`, `type-number`), and a type's is not 0
 -- (`some-type`). What a setting that wants no list minds of a type and of a kind (`minds-no-type`, `minds-no-kind`).
-use Rattle.std.specs.Prelude.{None, Some}
-use Prim.Native.Nat.{ℕ, ◌+◌}
+use Rattle.std.specs.Prelude.{Option, None, Some}
+use Prim.Native.Nat.{ℕ, suc, ◌+◌, ◌<◌}
+use native.Mathlib.Omega.{arith}
 use borrow.Author.Tests.{ne_eqb}
-use mathlib.Core.Path.{◌≡◌, refl}
+use mathlib.Core.Path.{◌≡◌, refl, ap}
 use mathlib.Core.Bool as bool
 use mathlib.Core.List.{[]}
 use lib.Dec.{eqb}
@@ -38,6 +39,24 @@ kind-number Call = refl
 kind-number WithBarrier = refl
 kind-number Return = refl
 kind-number PatternComprehension = refl
+
+abbrev code-of : Option (ℕ × ℕ) → ℕ
+code-of None = 0
+code-of (Some p) = p.0
+
+above : {m a code one : ℕ} → ◌≡◌ {A = Option (ℕ × ℕ)} (Some (suc (suc (suc (suc (suc (suc (suc m)))))), a)) (Some (code, one)) → 6 < code
+above q = let z = ap code-of q in omega arith
+
+-- the codes of the findings where a list is wanted
+pub list-codes : (s : Setting) {code one : ℕ} → list_code s ≡ Some (code, one) → 6 < code
+list-codes General q = absurd (cc q)
+list-codes Arithmetic q = absurd (cc q)
+list-codes Property q = absurd (cc q)
+list-codes Boolean q = absurd (cc q)
+list-codes Indexed q = above q
+list-codes Sliced q = above q
+list-codes Iterated q = above q
+list-codes Quantified q = above q
 
 -- the settings that want no list
 pub minds-no-type : (s : Setting) (t : ℕ) → list_code s ≡ None → sameb the_type s Boolean ≡ bool.false → at_type (setting_of s) t ≡ []

@@ -21,6 +21,7 @@ use Rattle.steps.specs.declared.Walk.{Walk}
 use Rattle.steps.specs.declared.context.Context.{Context}
 use Rattle.steps.specs.declared.mode.Mode.{Mode}
 use Rattle.steps.specs.declared.mode.Setting.{Setting}
+use Rattle.steps.proofs.Named.{unmoved-idle}
 use Rattle.steps.proofs.Held.{seen-idle, log-idle, framed-same, refit, recounted, more-steps, as-steps}
 use Rattle.steps.proofs.Heads.{some_cost}
 
@@ -67,12 +68,12 @@ old-head W m d (MapProjection n) s e = absurd (omega arith)
 
 counted : {c : Context} {w : Walk} → Steps 1 c w (record w { olds = w.olds + 1 }) (λ id. counting 1)
 counted {c} {w} =
-    let still : Still w (record w { olds = w.olds + 1 }) = record { visible = seen-idle; log = log-idle } in
+    let still : Still w (record w { olds = w.olds + 1 }) = record { visible = seen-idle; rowless = unmoved-idle; log = log-idle } in
     record {
       at = refl;
       still = still;
-      fit = λ i k f. refit f still f.sound f.descends f.cur (omega (arith, f.last)) (omega (arith, f.count)) (omega (arith, f.stack)) (omega (arith, f.olds)) (omega (arith, f.needs)) f.within;
-      frame = framed-same refl refl refl;
+      fit = λ i k l f. refit f still refl f.below f.sound f.descends f.cur (omega (arith, f.last)) (omega (arith, f.count)) (omega (arith, f.stack)) (omega (arith, f.rowless)) (omega (arith, f.olds)) (omega (arith, f.needs)) f.within;
+      frame = framed-same refl refl refl refl;
       goes = λ id s h.
           record {
             visible = h.visible;

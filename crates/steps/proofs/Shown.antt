@@ -1,10 +1,9 @@
--- Laws of a row as the code tells it: whether there is one (`as-shown`), its name (`name-as`, `name_below`, `names_small`); whether a name that was
--- sought is visible (`unseen`, `once-seen`) and is not `*` (`spared`), and E2008 by it is
--- the definition's (`misplaced-as`).
+-- Laws of a row as the code tells it: its name is small (`name_small`, `names_small`, `places_small`); whether a name that was sought is visible (`unseen`,
+-- `once-seen`) and is not `*` (`spared`), and E2008 by it is the definition's (`misplaced-as`).
 use Rattle.std.specs.Prelude.{Option, None, Some, is_some}
 use Rattle.std.specs.Option.{option_eq, MatchOption}
 use borrow.Author.Tests.{eqb-true, eqb-false}
-use Rattle.steps.specs.Memory.{is_the}
+use Rattle.steps.specs.Memory.{is_the, names_in}
 use Prim.Native.Nat.{ℕ, suc, ◌<◌, ◌≤◌}
 use native.Mathlib.Omega.{arith}
 use mathlib.Core.Path.{◌≡◌, refl, sym}
@@ -13,23 +12,19 @@ use mathlib.Core.List.{List, [], ◌∷◌}
 use lib.Dec.{eqb}
 use Rattle.tables.specs.Row.{Row, row}
 use Rattle.semantics.specs.Log.{Finding, finding}
-use Rattle.semantics.specs.World.{row_name}
 use Rattle.semantics.specs.Resolve.{Hit, hit}
 use Rattle.semantics.specs.Kinds.{misplaced}
 use Rattle.fused.specs.Fused.{told, when}
-use Rattle.fused.specs.Fused.{is_some as has}
 use Rattle.visible.specs.Visible.{answer, is_of}
 use Rattle.visible.specs.declared.Newest.{Newest}
 use Rattle.rows.specs.Rows.{shown}
-use Rattle.steps.specs.Hold.{Ready, InRange, ShownTo, name_in, kind_in, misplaced_in}
+use Rattle.rowless.specs.Rowless.{places}
+use Rattle.scope.specs.Graph.{indexed}
+use Rattle.steps.specs.Hold.{Fine, Fits, Ready, InRange, ShownTo, name_in, kind_in, misplaced_in}
 use Rattle.steps.specs.declared.Walk.{Walk}
 use Rattle.steps.specs.declared.context.Context.{Context}
 
--- whether there is a row, and whether a name is visible
-pub as-shown : (o : Option Row) {r : Option (ℕ × ℕ)} → r ≡ shown o → has o ≡ is_some r
-as-shown None q = rw q
-as-shown (Some (row i y l a b)) q = rw q
-
+-- whether a name is visible
 pub unseen : (o : Option Hit) (p : ℕ) {r : Option Newest} → r ≡ answer o p → is_some r ≡ false → o ≡ None
 unseen None p q e = refl
 unseen (Some (hit v u)) p q e = let z : true ≡ false = rw q at e in cc
@@ -54,30 +49,29 @@ spared x (Some y) q = rw q (go (eqb x y) (eqb y x) refl refl)
     go true false p q = absurd (eqb-false y x q (sym (eqb-true x y p)))
     go false true p q = absurd (eqb-false x y p (sym (eqb-true y x q)))
 
-pub name-as : (o : Option Row) → name_in (shown o) ≡ row_name o
-unfolding row_name
-name-as None = refl
-name-as (Some (row i y l a b)) = refl
-
-pub name_below : {names n : ℕ} {o : Option Row} {r : Option (ℕ × ℕ)} → 0 < n → names ≤ n → ShownTo names o r → name_in r < n
-name_below {names} {n} {r = r} h l q = go r q.range
+pub name_small : {j : ℕ} {c : Context} {w : Walk} {o : Option Row} {r : Option (ℕ × ℕ)} → Ready j c w → ShownTo (names_in c) o r → name_in r < 4294967295
+name_small {c = c} {r = r} y q = go r q.range
   where
-    go : (r : Option (ℕ × ℕ)) → InRange names r → name_in r < n
-    go (Some (x, k)) q = omega (arith, q.0)
-    go None q = h
+    go : (r : Option (ℕ × ℕ)) → InRange (names_in c) r → name_in r < 4294967295
+    go (Some (x, k)) q = omega (arith, q.0, y.fit.stack, y.fit.listed, y.fit.within, y.fine.short)
+    go None q = omega arith
 
-pub names_small : {j : ℕ} {c : Context} {w : Walk} → Ready j c w → w.visible.names ≤ 2049
-names_small r = omega (arith, r.fit.stack, r.fit.within, r.fine.short)
+-- names and places are few
+pub names_small : {j : ℕ} {c : Context} {w : Walk} → Ready j c w → names_in c ≤ 2049
+names_small r = omega (arith, r.fit.listed, r.fit.stack, r.fit.within, r.fine.short)
+
+pub places_small : {e t u : ℕ} {c : Context} {w : Walk} → Fine c → Fits e t u c w → places w.rowless ≤ 4096
+places_small h f = omega (arith, f.stack, f.rowless, f.within, h.short)
 
 -- E2008
 pub misplaced-as : (checks : Bool) (o : Option Row) (one want a b : ℕ) (ks : List Finding) →
-    told (cond (misplaced_in checks want (shown o)) (finding 2008 a b (suc (name_in (shown o))) one (kind_in (shown o)) ∷ []) []) ks ≡ when checks (told (misplaced one want a b o)) ks
+    told (cond (misplaced_in checks want (shown o)) (finding 2008 a b (Some (indexed (name_in (shown o)))) one (kind_in (shown o)) ∷ []) []) ks ≡ when checks (told (misplaced one want a b o)) ks
 unfolding told misplaced
 misplaced-as true None one want a b ks = refl
 misplaced-as false None one want a b ks = refl
 misplaced-as true (Some (row i y l c d)) one want a b ks = go (eqb l want)
   where
-    go : (t : Bool) → told (cond (not t) (finding 2008 a b (suc y) one l ∷ []) []) ks ≡ told (cond t [] (finding 2008 a b (suc y) one l ∷ [])) ks
+    go : (t : Bool) → told (cond (not t) (finding 2008 a b (Some (indexed y)) one l ∷ []) []) ks ≡ told (cond t [] (finding 2008 a b (Some (indexed y)) one l ∷ [])) ks
     go true = refl
     go false = refl
 misplaced-as false (Some (row i y l c d)) one want a b ks = refl

@@ -47,7 +47,7 @@ pub record Fine (c : Context) : Type 0 where
 -- nothing was said for yet, t that nothing was opened or bound for, and u that no variable without a row took a place for.
 pub record Fits (e t u : ℕ) (c : Context) (w : Walk) : Type 0 where
   pub listed : w.rowless.listed ≡ names_in c
-  pub places : w.visible.names ≡ w.rowless.listed + most w.rowless
+  pub heads : w.visible.names ≡ w.rowless.listed + most w.rowless
   pub numbered : Numbered w.rowless
   pub right : Right (named_in c) w.rowless
   pub below : Below (places w.rowless) (entries w.visible)

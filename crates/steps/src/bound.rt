@@ -89,7 +89,10 @@ impl Walk<'_> {
         let scope = self.cur;
         let Name { mark, word } = name;
         if again {
-            self.say_wanted(context, [Sort::Rebinding as u32, scope, word, v, kind, mark]);
+            self.say_wanted(
+                context,
+                [Sort::Rebinding as u32, scope, word, v, kind, mark],
+            );
         } else {
             self.say_wanted(context, [Sort::Binding as u32, scope, word, v, kind, mark]);
             self.made += 1;
@@ -159,14 +162,7 @@ impl Walk<'_> {
     }
 
     // A node's or a relationship's name is bound, where names are resolved, if it is not visible.
-    fn bind_new(
-        &mut self,
-        context: &Context,
-        r: Option<(u32, u32)>,
-        v: u32,
-        kind: u32,
-        mode: Mode,
-    )
+    fn bind_new(&mut self, context: &Context, r: Option<(u32, u32)>, v: u32, kind: u32, mode: Mode)
         requires { ShownTo (names_in context.now) (row_in context.now.rows v) r × Ready 3 context.now self.old }
         ensures { Costs 1 3 3 context.now self.old self.new (λ id. on_names (when (mode_of mode).resolves (λ y. bind_new (world_at context.now id) (lookup (name_of (world_at context.now id) v) y.visible) (name_of (world_at context.now id) v) v kind y))) }
     {

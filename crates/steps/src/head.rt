@@ -1,5 +1,6 @@
 // What the head of an expression does before its parts and after them. A finding's code is a number, since that is its name in document 01.
 ghost use Rattle.std.specs.Prelude.{◌≡◌, ◌<◌, ◌≤◌, cond, get_or};
+ghost use Rattle.scope.specs.Graph.{indexed};
 ghost use Rattle.expr.specs.Olds.{old_in};
 ghost use Rattle.semantics.specs.Resolve.{lookup, use_var};
 ghost use Rattle.semantics.specs.Kinds.{no_type, leaf_types, at_type, at_row};
@@ -93,8 +94,8 @@ impl Walk<'_> {
 
     // What is recorded of a name.
     pub fn record_name(&mut self, context: &Context, x: u32)
-        requires { Ready 1 context.now self.old }
-        ensures { Steps 1 context.now self.old self.new (λ id. on_names (λ y. name_record (world_at context.now id) x (lookup x y.visible) y)) }
+        requires { (x < names_in context.now) × Ready 1 context.now self.old }
+        ensures { Steps 1 context.now self.old self.new (λ id. on_names (λ y. name_record (world_at context.now id) x (lookup (indexed x) y.visible) y)) }
     {
         if !context.wants {
             return;

@@ -1,10 +1,12 @@
 // The kind walk's findings at a place: a type, a row or a binder against what the place wants. A finding's code is a number, since that is its
 // name in document 01; the kind of a row is one, since the sheet's words have it.
-ghost use Rattle.std.specs.Prelude.{◌≡◌, ◌≤◌, ◌<◌, ◌&&◌, cond, [], ◌∷◌, suc, eqb, leb};
+ghost use Rattle.std.specs.Prelude.{◌≡◌, ◌≤◌, ◌<◌, ◌&&◌, cond, [], ◌∷◌, eqb, leb, None, Some};
+ghost use Rattle.scope.specs.Graph.{indexed};
 ghost use Rattle.expr.specs.Types.{number_of};
 ghost use Rattle.tables.specs.Row.{value_kind};
 ghost use Rattle.semantics.specs.Log.{e2007, finding};
 ghost use Rattle.semantics.specs.Kinds.{int_type, string_type, at_type, boolean, listed, kind_type};
+ghost use Rattle.finding.specs.Logged.{shadow_code};
 ghost use Rattle.steps.specs.Types.{type_number};
 ghost use Rattle.steps.specs.Modes.{setting_of};
 ghost use Rattle.steps.specs.Hold.{Ready, Steps, AtRow, on_kinds};
@@ -49,7 +51,7 @@ impl Walk<'_> {
 
     // The type that is shown, if any, where a list is wanted.
     fn want_list(&mut self, context: &Context, code: u32, one: u32, t: Option<Type>)
-        requires { Ready 1 context.now self.old }
+        requires { (shadow_code < code) × Ready 1 context.now self.old }
         ensures { Steps 1 context.now self.old self.new (λ id. on_kinds (at_type (listed code one) (type_number t))) }
     {
         if let Some(t) = t {
@@ -60,7 +62,7 @@ impl Walk<'_> {
     // E2007 for a row with the name x and the kind k.
     fn mistype(&mut self, context: &Context, x: u32, one: u32, k: u32)
         requires { (x < 4294967295) × Ready 1 context.now self.old }
-        ensures { Steps 1 context.now self.old self.new (λ id. on_kinds (finding e2007 0 0 (suc x) one k ∷ [])) }
+        ensures { Steps 1 context.now self.old self.new (λ id. on_kinds (finding e2007 0 0 (Some (indexed x)) one k ∷ [])) }
     {
         self.log.tell([2007, 0, 0, x + 1, one, k]);
     }
@@ -82,8 +84,8 @@ impl Walk<'_> {
 
     // A kind where a list is wanted. The types of nodes, relationships and paths follow Pattern as their kinds follow 0.
     fn want_kind(&mut self, context: &Context, code: u32, one: u32, k: u32)
-        requires { (k ≤ 4) × Ready 1 context.now self.old }
-        ensures { Steps 1 context.now self.old self.new (λ id. on_kinds (cond (eqb k value_kind) [] (finding code 0 0 0 one (kind_type k) ∷ []))) }
+        requires { (shadow_code < code) × ((k ≤ 4) × Ready 1 context.now self.old) }
+        ensures { Steps 1 context.now self.old self.new (λ id. on_kinds (cond (eqb k value_kind) [] (finding code 0 0 None one (kind_type k) ∷ []))) }
     {
         if k != VarKind::Value as u32 {
             self.log

@@ -96,7 +96,7 @@ impl Walk<'_> {
     // The walk begins anew at a word, with these names: all its other numbers are as `new` has them, but what waits at the levels.
     pub fn restart(&mut self, at: usize, texts: Texts)
         requires { (length texts.places.now + most self.old.rowless < 4294967296) × Fresh (names_at texts.section.now texts.places.now) self.old.rowless }
-        ensures { Restarts at (names_at texts.section.now texts.places.now) self.old self.new }
+        ensures { Restarts at (names_at texts.entry.section.now texts.entry.places.now) self.old self.new }
     {
         self.rowless.restart(texts.section, texts.places);
         self.at = at;

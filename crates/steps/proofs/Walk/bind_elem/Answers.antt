@@ -1,5 +1,5 @@
--- The row is noted, the name bound and the kind checked, one after the other (`elem-steps`), where there is a variable.
-use Rattle.steps.proofs.Shown.{name_below, names_small}
+-- The name is bound and the kind checked, one after the other (`elem-steps`), where there is a variable.
+use Rattle.steps.proofs.Shown.{name_small}
 use Rattle.steps.proofs.Placed.{elem-steps, elem-none}
 use Rattle.steps.proofs.Held.{roomy-in, more-costs}
 use native.Mathlib.Omega.{arith}
@@ -7,11 +7,11 @@ use Rattle.steps.proofs.Walk.bind_elem.Goals as goal
 
 pub bind_new-requires : goal.bind_new-requires
 bind_new-requires c =
-    let p = c.requires.1 in let n = c.note-r.ensures in let f = n.steps.fit 3 3 p.fit in (omega (arith, c.name_in.ensures, name_below f.some f.places n.told), record { fine = p.fine; fit = f })
+    (record { same = c.row_of-r.ensures.value; range = c.row_of-r.ensures.range }, c.requires.1)
 
 pub misplace-requires : goal.misplace-requires
 misplace-requires c =
-    let p = c.requires.1 in let n = c.note-r.ensures in (omega (arith, names_small p, name_below p.fit.some p.fit.places n.told), roomy-in p.fine (c.bind_new.ensures.fit 2 0 (n.steps.fit 3 3 p.fit)))
+    let p = c.requires.1 in (name_small p (record { same = c.row_of-r.ensures.value; range = c.row_of-r.ensures.range }), roomy-in p.fine (c.bind_new.ensures.fit 2 0 0 p.fit))
 
 pub returns-in_default : goal.returns-in_default
 returns-in_default c =
@@ -19,4 +19,5 @@ returns-in_default c =
 
 pub returns-in-Some : goal.returns-in-Some
 returns-in-Some c =
-    let n = c.note-r.ensures in more-costs (omega arith) (omega arith) (elem-steps _ c.args.mode n.told c.name_in.ensures n.steps _ _ _ c.in-Some.is c.bind_new.ensures c.misplace.ensures)
+    more-costs (omega arith) (omega arith) (omega arith)
+    (elem-steps _ c.args.mode (record { same = c.row_of-r.ensures.value; range = c.row_of-r.ensures.range }) _ _ _ c.in-Some.is c.bind_new.ensures c.misplace.ensures)

@@ -4,4 +4,4 @@ use Rattle.steps.proofs.Walk.bind_name.Goals as goal
 
 pub returns : goal.returns
 returns c =
-    names c.is_again-again.ensures c.say_bound.ensures c.bind.ensures
+    names c.requires c.is_again-again.ensures c.name-name.ensures.name c.say_bound.ensures c.bind.ensures

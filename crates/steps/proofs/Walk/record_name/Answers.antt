@@ -9,8 +9,8 @@ returns-then-not-context c =
 
 pub returns-in-Some : goal.returns-in-Some
 returns-in-Some c =
-    found_name c.args.x _ c.if-not-context.false _ _ (sym c.find.ensures ∙ c.in-Some.is) c.kind.ensures c.say.ensures
+    found_name c.args.x c.requires.0 c.requires.1.fit _ c.if-not-context.false _ _ (sym c.find.ensures ∙ c.in-Some.is) c.kind.ensures c.say.ensures
 
 pub returns-in-None : goal.returns-in-None
 returns-in-None c =
-    missing-name c.args.x _ c.if-not-context.false (sym c.find.ensures ∙ c.in-None.is) c.say-in-None.ensures
+    missing-name c.args.x c.requires.0 c.requires.1.fit _ c.if-not-context.false (sym c.find.ensures ∙ c.in-None.is) c.say-in-None.ensures

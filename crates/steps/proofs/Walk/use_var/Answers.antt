@@ -11,7 +11,7 @@ returns-then-is_quiet c =
 
 pub at_row-requires : goal.at_row-requires
 at_row-requires c =
-    let p = c.requires in let r = rw c.in-Some.is at c.row_of.ensures.range in (omega (arith, r.0, names_small p, p.fit.places), (r.1, record { fine = p.fine; fit = c.record_var.ensures.fit 1 1 p.fit }))
+    let p = c.requires in let r = rw c.in-Some.is at c.row_of.ensures.range in (omega (arith, r.0, names_small p), (r.1, record { fine = p.fine; fit = c.record_var.ensures.fit 1 1 1 p.fit }))
 
 pub returns-in_default : goal.returns-in_default
 returns-in_default c =
