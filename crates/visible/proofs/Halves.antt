@@ -11,6 +11,7 @@ use lib.Dec.{eqb, ltb}
 use lib.ListN.{length, get_or, set, length-set}
 use lib.Seq.{get_or-set_same, get_or-set_other}
 use borrow.Author.Tests.{ne_eqb, eq-eqb, eqb-true, eqb-false, ltb-true, ltb-false}
+use Rattle.scope.specs.Graph.{indexed, same_name}
 use Rattle.semantics.specs.Resolve.{hit, seen, pair, once}
 use Rattle.visible.specs.Visible.{place, name_at, seens, seen_once, newest, Tabled, Halfway, Turned}
 use Rattle.visible.proofs.Places.{parted, Written, length-seens, place-le, seens-alike}
@@ -24,14 +25,14 @@ module _ (n top c : ℕ) (old m : List ℕ) (i j : ℕ) (w : Tabled n top old) (
   v = get_or old (n + i * 4 + 1) 0
 
   -- an entry that is not the newest of its name
-  pass-newest : place x (seens n top old) ≢ suc i → newest n top old (suc i) ≡ newest n top old i
+  pass-newest : place (indexed x) (seens n top old) ≢ suc i → newest n top old (suc i) ≡ newest n top old i
   unfolding newest
-  pass-newest older = rw (ne_eqb (place x (seens n top old)) (suc i) older) refl
+  pass-newest older = rw (ne_eqb (place (indexed x) (seens n top old)) (suc i) older) refl
 
-  passed-by : place x (seens n top old) ≢ suc i → (y : ℕ) → place y (seens n top old) ≢ suc i
+  passed-by : place (indexed x) (seens n top old) ≢ suc i → (y : ℕ) → place (indexed y) (seens n top old) ≢ suc i
   passed-by older y e = older (rw (place-name y n top i old e) e)
 
-  pass : place x (seens n top old) ≢ suc i → Halfway n top c old m (suc i) j
+  pass : place (indexed x) (seens n top old) ≢ suc i → Halfway n top c old m (suc i) j
   pass older = record {
     few = omega (arith, f.few);
     kept = f.kept;
@@ -45,53 +46,53 @@ module _ (n top c : ℕ) (old m : List ℕ) (i j : ℕ) (w : Tabled n top old) (
   }
 
   -- an entry that is
-  module _ (new : List ℕ) (here : place x (seens n top old) ≡ suc i) (q : Written n j x v (c * 2 + 1) 0 m new) where
+  module _ (new : List ℕ) (here : place (indexed x) (seens n top old) ≡ suc i) (q : Written n j x v (c * 2 + 1) 0 m new) where
     named-old : x < n
     named-old = w.named i lt
 
     below : (t : ℕ) → t ≤ j → seens n t new ≡ seens n t m
     below t h = seens-alike n t new m (λ p a b. q.keep p (omega arith) (λ e. omega (arith, named-old)))
 
-    all : seens n (suc j) new ≡ seen x (hit v 1) c ∷ seens n j m
+    all : seens n (suc j) new ≡ seen (indexed x) (hit v 1) c ∷ seens n j m
     unfolding seens
-    all = rw (q.at0, q.at1, q.at2, below j (omega arith), parted x v c 1 (omega arith)) refl
+    all = rw (q.at0, q.at1, q.at2, below j (omega arith), parted (indexed x) v c 1 (omega arith)) refl
 
-    take-newest : newest n top old (suc i) ≡ pair x v ∷ newest n top old i
+    take-newest : newest n top old (suc i) ≡ pair (indexed x) v ∷ newest n top old i
     unfolding newest
-    take-newest = rw (eq-eqb (place x (seens n top old)) (suc i) here) refl
+    take-newest = rw (eq-eqb (place (indexed x) (seens n top old)) (suc i) here) refl
 
     same : seens n (suc j) new ≡ seen_once c (newest n top old (suc i))
     unfolding seen_once
     same = rw (all, take-newest, f.same) refl
 
-    passed : (y : ℕ) → y < n → place y (seens n top old) ≤ suc i → get_or new y 0 ≡ place y (seens n (suc j) new)
-    unfolding place
+    passed : (y : ℕ) → y < n → place (indexed y) (seens n top old) ≤ suc i → get_or new y 0 ≡ place (indexed y) (seens n (suc j) new)
+    unfolding place same_name
     passed y h l = rw all (go (eqb y x) refl)
       where
-        go : (b : Bool) → eqb y x ≡ b → get_or new y 0 ≡ cond b (suc (length (seens n j m))) (place y (seens n j m))
+        go : (b : Bool) → eqb y x ≡ b → get_or new y 0 ≡ cond b (suc (length (seens n j m))) (place (indexed y) (seens n j m))
         go true e =
             let z : y ≡ x = eqb-true y x e in
             ap (λ (k : ℕ). get_or new k 0) z ∙ q.head ∙ omega (arith, length-seens n j m)
         go false e =
-            let older : place y (seens n top old) ≢ suc i = λ g. eqb-false y x e (sym (place-name y n top i old g)) in
+            let older : place (indexed y) (seens n top old) ≢ suc i = λ g. eqb-false y x e (sym (place-name y n top i old g)) in
             q.keep y (omega arith) (eqb-false y x e) ∙ f.passed y h (omega (arith, older))
 
-    another : (y : ℕ) → suc i < place y (seens n top old) → y ≢ x
+    another : (y : ℕ) → suc i < place (indexed y) (seens n top old) → y ≢ x
     another y l e =
-        let z : place y (seens n top old) ≡ suc i = ap (λ (k : ℕ). place k (seens n top old)) e ∙ here in
+        let z : place (indexed y) (seens n top old) ≡ suc i = ap (λ (k : ℕ). place (indexed k) (seens n top old)) e ∙ here in
         omega arith
 
-    unseen : (y : ℕ) → y < n → suc i < place y (seens n top old) → place y (seens n (suc j) new) ≡ 0
-    unfolding place
+    unseen : (y : ℕ) → y < n → suc i < place (indexed y) (seens n top old) → place (indexed y) (seens n (suc j) new) ≡ 0
+    unfolding place same_name
     unseen y h l = rw (all, ne_eqb y x (another y l)) (f.unseen y h (omega arith))
 
     name_below : (a : ℕ) → a < j → name_at n new a ≡ name_at n m a
     name_below a h = q.keep _ (omega arith) (λ e. omega (arith, named-old))
 
-    prevs : (a : ℕ) → a < suc j → get_or new (n + a * 4 + 3) 0 ≡ place (name_at n new a) (seens n a new)
+    prevs : (a : ℕ) → a < suc j → get_or new (n + a * 4 + 3) 0 ≡ place (indexed (name_at n new a)) (seens n a new)
     prevs a h = go (ltb a j) refl
       where
-        go : (b : Bool) → ltb a j ≡ b → get_or new (n + a * 4 + 3) 0 ≡ place (name_at n new a) (seens n a new)
+        go : (b : Bool) → ltb a j ≡ b → get_or new (n + a * 4 + 3) 0 ≡ place (indexed (name_at n new a)) (seens n a new)
         go true e =
             let l : a < j = ltb-true a j e in
             q.keep _ (omega arith) (λ e. omega (arith, named-old)) ∙ f.prevs a l ∙ rw (name_below a l, below a (omega arith)) refl
@@ -126,14 +127,14 @@ module _ (n top c : ℕ) (old m : List ℕ) (i j : ℕ) (w : Tabled n top old) (
     }
 
   -- what the head says: the entry i is the newest of its name if the head points at it
-  is-newest : get_or m x 0 ≡ suc i → place x (seens n top old) ≡ suc i
-  is-newest e = go (ltb i (place x (seens n top old))) refl
+  is-newest : get_or m x 0 ≡ suc i → place (indexed x) (seens n top old) ≡ suc i
+  is-newest e = go (ltb i (place (indexed x) (seens n top old))) refl
     where
-      go : (b : Bool) → ltb i (place x (seens n top old)) ≡ b → place x (seens n top old) ≡ suc i
+      go : (b : Bool) → ltb i (place (indexed x) (seens n top old)) ≡ b → place (indexed x) (seens n top old) ≡ suc i
       go true d = sym (f.coming x (w.named i lt) (ltb-true i _ d)) ∙ e
-      go false d = absurd (omega (arith, e, f.few, place-le x n j m, f.passed x (w.named i lt) (ltb-false i _ d)))
+      go false d = absurd (omega (arith, e, f.few, place-le (indexed x) n j m, f.passed x (w.named i lt) (ltb-false i _ d)))
 
-  is-older : get_or m x 0 ≢ suc i → place x (seens n top old) ≢ suc i
+  is-older : get_or m x 0 ≢ suc i → place (indexed x) (seens n top old) ≢ suc i
   is-older older e = older (f.coming x (w.named i lt) (omega (arith, e)) ∙ e)
 
 -- the next entry's name
@@ -206,7 +207,7 @@ once-seens {n} {top} {c} {j} {old} f = f.same ∙ ap (seen_once c) (sym (once-ne
 pub once-tabled : {n top c j : ℕ} {old m : List ℕ} → Tabled n top old → Halfway n top c old m top j → Tabled n j m
 once-tabled {n} {top} {c} {j} {old} w f = record {
   room = omega (arith, f.few, f.kept, w.room);
-  heads = λ x h. f.passed x h (place-le x n top old);
+  heads = λ x h. f.passed x h (place-le (indexed x) n top old);
   prevs = f.prevs;
   named = f.named;
 }

@@ -10,34 +10,35 @@ use mathlib.Core.List.{List, [], ◌∷◌}
 use lib.Dec.{eqb}
 use lib.ListN.{length, get_or}
 use borrow.Author.Tests.{ne_eqb, eqb-false}
+use Rattle.scope.specs.Graph.{Name, indexed, same_name}
 use Rattle.semantics.specs.Resolve.{Hit, hit, Seen, seen, lookup, binds}
 use Rattle.visible.specs.Visible.{scope_of, answer, place, seens, Descends, is_of, Tabled}
 use Rattle.visible.specs.declared.Newest.{Newest}
 
 -- a name without a place is not visible, and the other way round
-unplaced : (x : ℕ) (l : List Seen) → place x l ≡ 0 → lookup x l ≡ None
+unplaced : (x : Name) (l : List Seen) → place x l ≡ 0 → lookup x l ≡ None
 unfolding place lookup
 unplaced x [] e = refl
-unplaced x (seen y u p ∷ l) e = go (eqb x y) e (unplaced x l)
+unplaced x (seen y u p ∷ l) e = go (same_name x y) e (unplaced x l)
   where
     go : (b : Bool) → cond b (suc (length l)) (place x l) ≡ 0 → (place x l ≡ 0 → lookup x l ≡ None) → cond b (Some u) (lookup x l) ≡ None
     go true e h = absurd (omega arith)
     go false e h = h e
 
-unseen-place : (x : ℕ) (l : List Seen) → lookup x l ≡ None → place x l ≡ 0
+unseen-place : (x : Name) (l : List Seen) → lookup x l ≡ None → place x l ≡ 0
 unfolding place lookup
 unseen-place x [] e = refl
-unseen-place x (seen y u p ∷ l) e = go (eqb x y) e (unseen-place x l)
+unseen-place x (seen y u p ∷ l) e = go (same_name x y) e (unseen-place x l)
   where
     go : (b : Bool) → cond b (Some u) (lookup x l) ≡ None → (lookup x l ≡ None → place x l ≡ 0) → cond b (suc (length l)) (place x l) ≡ 0
     go true e h = cc e
     go false e h = h e
 
-pub zero-unseen : {n top x : ℕ} {m : List ℕ} → Tabled n top m → x < n → get_or m x 0 ≡ 0 → lookup x (seens n top m) ≡ None
-zero-unseen {n} {top} {x} {m} w h e = unplaced x (seens n top m) (sym (w.heads x h) ∙ e)
+pub zero-unseen : {n top x : ℕ} {m : List ℕ} → Tabled n top m → x < n → get_or m x 0 ≡ 0 → lookup (indexed x) (seens n top m) ≡ None
+zero-unseen {n} {top} {x} {m} w h e = unplaced (indexed x) (seens n top m) (sym (w.heads x h) ∙ e)
 
-pub unseen-zero : {n top x : ℕ} {m : List ℕ} → Tabled n top m → x < n → lookup x (seens n top m) ≡ None → get_or m x 0 ≡ 0
-unseen-zero {n} {top} {x} {m} w h e = w.heads x h ∙ unseen-place x (seens n top m) e
+pub unseen-zero : {n top x : ℕ} {m : List ℕ} → Tabled n top m → x < n → lookup (indexed x) (seens n top m) ≡ None → get_or m x 0 ≡ 0
+unseen-zero {n} {top} {x} {m} w h e = w.heads x h ∙ unseen-place (indexed x) (seens n top m) e
 
 -- a list that descends from p descends from any higher c, as from a scope that is opened
 pub descends-above : (c p : ℕ) (l : List Seen) → p ≤ c → Descends p l → Descends c l
@@ -50,15 +51,15 @@ and-false true = refl
 and-false false = refl
 
 -- where no scope is above p, none is a higher c
-unbound : (c p x : ℕ) (l : List Seen) → p < c → Descends p l → binds c x l ≡ false
+unbound : (c p : ℕ) (x : Name) (l : List Seen) → p < c → Descends p l → binds c x l ≡ false
 unfolding Descends binds
 unbound c p x [] h f = refl
-unbound c p x (seen y u q ∷ l) h f = rw (ne_eqb q c (λ e. omega arith), and-false (eqb x y)) (unbound c q x l (omega arith) f.1)
+unbound c p x (seen y u q ∷ l) h f = rw (ne_eqb q c (λ e. omega arith), and-false (same_name x y)) (unbound c q x l (omega arith) f.1)
 
-pub newest-binds : (c x : ℕ) (l : List Seen) → Descends c l → is_of c (answer (lookup x l) (scope_of x l)) ≡ binds c x l
+pub newest-binds : (c : ℕ) (x : Name) (l : List Seen) → Descends c l → is_of c (answer (lookup x l) (scope_of x l)) ≡ binds c x l
 unfolding Descends binds lookup scope_of
 newest-binds c x [] f = refl
-newest-binds c x (seen y (hit v o) p ∷ l) f = go (eqb x y) (eqb p c) refl (newest-binds c x l (descends-above c p l f.0 f.1))
+newest-binds c x (seen y (hit v o) p ∷ l) f = go (same_name x y) (eqb p c) refl (newest-binds c x l (descends-above c p l f.0 f.1))
   where
     go : (b d : Bool) → eqb p c ≡ d → is_of c (answer (lookup x l) (scope_of x l)) ≡ binds c x l →
         is_of c (answer (cond b (Some (hit v o)) (lookup x l)) (cond b p (scope_of x l))) ≡ b && d || binds c x l

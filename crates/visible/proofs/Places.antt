@@ -12,6 +12,7 @@ use lib.Dec.{eqb, ltb}
 use lib.ListN.{length, get_or, set, length-set}
 use lib.Seq.{get_or-set_same, get_or-set_other}
 use borrow.Author.Tests.{ne_eqb, eqb-true, eqb-false, ltb-true, ltb-false}
+use Rattle.scope.specs.Graph.{Name, indexed, same_name}
 use Rattle.semantics.specs.Resolve.{Hit, hit, seen, lookup}
 use Rattle.visible.specs.Visible.{scope_of, answer, place, name_at, variable_at, seens, Tabled}
 use Rattle.visible.specs.declared.Newest.{Newest}
@@ -25,10 +26,10 @@ cond-le : (b : Bool) (p q t : ℕ) → p ≤ t → q ≤ t → cond b p q ≤ t
 cond-le true p q t h k = h
 cond-le false p q t h k = k
 
-pub place-le : (x n t : ℕ) (m : List ℕ) → place x (seens n t m) ≤ t
+pub place-le : (x : Name) (n t : ℕ) (m : List ℕ) → place x (seens n t m) ≤ t
 unfolding place seens
 place-le x n zero m = omega arith
-place-le x n (suc t) m = cond-le (eqb x (name_at n m t)) _ _ _ (omega (arith, length-seens n t m)) (omega (arith, place-le x n t m))
+place-le x n (suc t) m = cond-le (same_name x (indexed (name_at n m t))) _ _ _ (omega (arith, length-seens n t m)) (omega (arith, place-le x n t m))
 
 -- what the entry j tells
 abbrev told_at : ℕ → List ℕ → ℕ → Newest
@@ -43,14 +44,14 @@ told-head : (c : Bool) (n t l q : ℕ) (m : List ℕ) (u : Option Hit) (s : ℕ)
 told-head true n t l q m u s e k = ((λ g. absurd (omega arith)), (λ j g. let z : t ≡ j = omega (arith, e, g) in rw z))
 told-head false n t l q m u s e k = k
 
-pub told : (x n t : ℕ) (m : List ℕ) → Told n m (place x (seens n t m)) (answer (lookup x (seens n t m)) (scope_of x (seens n t m)))
+pub told : (x : Name) (n t : ℕ) (m : List ℕ) → Told n m (place x (seens n t m)) (answer (lookup x (seens n t m)) (scope_of x (seens n t m)))
 unfolding place seens lookup scope_of
 told x n zero m = ((λ l. refl), (λ j g. absurd (omega arith)))
-told x n (suc t) m = told-head (eqb x (name_at n m t)) n t _ _ m _ _ (length-seens n t m) (told x n t m)
+told x n (suc t) m = told-head (same_name x (indexed (name_at n m t))) n t _ _ m _ _ (length-seens n t m) (told x n t m)
 
 -- a name past the table has no place
-pub far : (x n t : ℕ) (m : List ℕ) → ((i : ℕ) → i < t → name_at n m i < n) → n ≤ x → place x (seens n t m) ≡ 0
-unfolding place seens
+pub far : (x n t : ℕ) (m : List ℕ) → ((i : ℕ) → i < t → name_at n m i < n) → n ≤ x → place (indexed x) (seens n t m) ≡ 0
+unfolding place seens same_name
 far x n zero m w h = refl
 far x n (suc t) m w h =
     rw (ne_eqb x (name_at n m t) (λ e. omega (arith, w t (omega arith))), far x n t m (λ i l. w i (omega arith)) h)
@@ -63,7 +64,7 @@ seens-alike n (suc t) new old e =
     rw (e (n + t * 4) (omega arith) (omega arith), e (n + t * 4 + 1) (omega arith) (omega arith), e (n + t * 4 + 2) (omega arith) (omega arith), seens-alike n t new old (λ i h k. e i h (omega arith)))
 
 -- a scope and whether it came over a WITH, as one word
-pub parted : (x v c o : ℕ) → o ≤ 1 → seen x (hit v ((c * 2 + o) % 2)) ((c * 2 + o) / 2) ≡ seen x (hit v o) c
+pub parted : (x : Name) (v c o : ℕ) → o ≤ 1 → seen x (hit v ((c * 2 + o) % 2)) ((c * 2 + o) / 2) ≡ seen x (hit v o) c
 parted x v c o h =
     let p : (c * 2 + o) % 2 ≡ o = omega arith in
     let q : (c * 2 + o) / 2 ≡ c = omega arith in
@@ -110,15 +111,15 @@ module _ (n top x v c o : ℕ) (bit : o ≤ 1) (old new : List ℕ) (w : Tabled 
   below : (t : ℕ) → t ≤ top → seens n t new ≡ seens n t old
   below t h = seens-alike n t new old (λ i a b. q.keep i (omega arith) (λ e. omega arith))
 
-  all : seens n (suc top) new ≡ seen x (hit v o) c ∷ seens n top old
+  all : seens n (suc top) new ≡ seen (indexed x) (hit v o) c ∷ seens n top old
   unfolding seens
-  all = rw (q.at0, q.at1, q.at2, below top (omega arith), parted x v c o bit)
+  all = rw (q.at0, q.at1, q.at2, below top (omega arith), parted (indexed x) v c o bit)
 
-  heads : (y : ℕ) → y < n → get_or new y 0 ≡ place y (seens n (suc top) new)
-  unfolding place
+  heads : (y : ℕ) → y < n → get_or new y 0 ≡ place (indexed y) (seens n (suc top) new)
+  unfolding place same_name
   heads y h = rw all (go (eqb y x) refl)
     where
-      go : (b : Bool) → eqb y x ≡ b → get_or new y 0 ≡ cond b (suc (length (seens n top old))) (place y (seens n top old))
+      go : (b : Bool) → eqb y x ≡ b → get_or new y 0 ≡ cond b (suc (length (seens n top old))) (place (indexed y) (seens n top old))
       go true e =
           let z : y ≡ x = eqb-true y x e in
           ap (λ (k : ℕ). get_or new k 0) z ∙ q.head ∙ omega (arith, length-seens n top old)
@@ -127,10 +128,10 @@ module _ (n top x v c o : ℕ) (bit : o ≤ 1) (old new : List ℕ) (w : Tabled 
   name_below : (i : ℕ) → i < top → name_at n new i ≡ name_at n old i
   name_below i h = q.keep _ (omega arith) (λ e. omega arith)
 
-  prevs : (i : ℕ) → i < suc top → get_or new (n + i * 4 + 3) 0 ≡ place (name_at n new i) (seens n i new)
+  prevs : (i : ℕ) → i < suc top → get_or new (n + i * 4 + 3) 0 ≡ place (indexed (name_at n new i)) (seens n i new)
   prevs i h = go (ltb i top) refl
     where
-      go : (b : Bool) → ltb i top ≡ b → get_or new (n + i * 4 + 3) 0 ≡ place (name_at n new i) (seens n i new)
+      go : (b : Bool) → ltb i top ≡ b → get_or new (n + i * 4 + 3) 0 ≡ place (indexed (name_at n new i)) (seens n i new)
       go true e =
           let l : i < top = ltb-true i top e in
           q.keep _ (omega arith) (λ e. omega arith) ∙ w.prevs i l ∙ rw (name_below i l, below i (omega arith))
@@ -151,7 +152,7 @@ module _ (n top x v c o : ℕ) (bit : o ≤ 1) (old new : List ℕ) (w : Tabled 
           let z : i ≡ top = omega arith in
           rw (z, q.at0) xn
 
-  pub more-seens : seens n (top + 1) new ≡ seen x (hit v o) c ∷ seens n top old
+  pub more-seens : seens n (top + 1) new ≡ seen (indexed x) (hit v o) c ∷ seens n top old
   more-seens = rw (add-one top) all
 
   pub more-tabled : Tabled n (top + 1) new
@@ -168,11 +169,11 @@ module _ (n t : ℕ) (old : List ℕ) (w : Tabled n (suc t) old) where
   pub less-seens : (k : ℕ) → seens n k less ≡ seens n k old
   less-seens k = seens-alike n k less old (λ i a b. same_from i a)
 
-  less-heads : (y : ℕ) → y < n → get_or less y 0 ≡ place y (seens n t old)
-  unfolding place seens
+  less-heads : (y : ℕ) → y < n → get_or less y 0 ≡ place (indexed y) (seens n t old)
+  unfolding place seens same_name
   less-heads y h = go (eqb y (name_at n old t)) refl
     where
-      go : (b : Bool) → eqb y (name_at n old t) ≡ b → get_or less y 0 ≡ place y (seens n t old)
+      go : (b : Bool) → eqb y (name_at n old t) ≡ b → get_or less y 0 ≡ place (indexed y) (seens n t old)
       go true e =
           let z : y ≡ name_at n old t = eqb-true y _ e in
           rw z (get_or-set_same old (name_at n old t) _ 0 (omega (arith, w.named t (omega arith))) ∙ w.prevs t (omega arith))
@@ -188,4 +189,4 @@ module _ (n t : ℕ) (old : List ℕ) (w : Tabled n (suc t) old) where
 
 -- a head lies within the words
 pub near-head : {n top x : ℕ} {m : List ℕ} → Tabled n top m → x < n → n + get_or m x 0 * 4 ≤ length m
-near-head {n} {top} {x} {m} w h = omega (arith, w.heads x h, place-le x n top m, w.room)
+near-head {n} {top} {x} {m} w h = omega (arith, w.heads x h, place-le (indexed x) n top m, w.room)
