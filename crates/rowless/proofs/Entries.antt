@@ -4,14 +4,14 @@ use Rattle.std.proofs.Common.{ℕ, suc, ◌≡◌, ◌≢◌, ◌+◌, ◌-◌, 
 use Rattle.std.specs.Prelude.{Option, None, Some}
 use Rattle.std.proofs.lemmas.List.{length-set, get_or-set_same, get_or-set_other}
 use borrow.Author.Count.{below_more}
-use borrow.Author.Tests.{lt-ltb, le-ltb, ltb-true, ltb-false}
+use borrow.Author.Tests.{lt-ltb, le-ltb, ltb-false}
 use lib.Dec.{ltb}
-use Rattle.scope.specs.Graph.{Name, indexed, generated}
+use Rattle.scope.specs.Graph.{indexed, generated}
 use Rattle.semantics.specs.World.{listed_name}
-use Rattle.rows.specs.Rows.{seek, number_of, Chained, Hangs}
+use Rattle.rows.specs.Rows.{seek, number_of, Hangs}
 use Rattle.rows.proofs.Chains.{seek-le, seek_hit, seek-miss, chained-alike}
 use Rattle.rowless.specs.Slot.{slot_of}
-use Rattle.rowless.specs.Rowless.{variable_at, place_at, named, places, most, Sound, Lacks, Right, Still, Grows, Finds, Room, Adds, Places}
+use Rattle.rowless.specs.Rowless.{variable_at, place_at, named, places, most, Sound, Lacks, Right, Still, Finds, Room, Adds, Places}
 use Rattle.rowless.specs.declared.Rowless.{Rowless}
 
 pub finds : (r : Rowless) (v : ℕ) (o : Option ℕ) → number_of o ≡ seek (variable_at r.entries.now) v r.count → Finds r v o
