@@ -18,8 +18,8 @@ use lib.ListN.{length, get_or, set, length-set}
 use lib.Seq.{get_or-take, length-take-le, take-suc}
 use Rattle.tables.specs.Distinct.{same_bytes, name_in, fresh_after}
 use Rattle.std.specs.Prelude.{None, Some, Option, is_some}
-use Rattle.rows.specs.Rows.{newest, seek, number_of, Hangs}
-use Rattle.rows.proofs.Chains.{none-chained}
+use Rattle.rows.specs.Rows.{newest, number_of, Hangs}
+use Rattle.rows.proofs.Chains.{none-chained, chained-alike}
 use Rattle.name_chains.specs.Slot.{hash_of, slot_of}
 use Rattle.tables.specs.Answer.{names_at}
 use Rattle.name_chains.specs.Hung.{text_in, itself, slot_in, Cleared, Hung}
@@ -71,25 +71,12 @@ pub fresh-next : (s places : List ℕ) (i : ℕ) → i < length places → fresh
 unfolding fresh_after
 fresh-next s places i h = rw (drop-word places i h, add-one i, take-suc places i 0 h, map-append)
 
--- what is sought among the first keys depends on no others
-seek-alike : (f h : ℕ → ℕ) (v t : ℕ) → ((j : ℕ) → j < t → f j ≡ h j) → seek f v t ≡ seek h v t
-unfolding newest
-seek-alike f h v zero e = refl
-seek-alike f h v (suc t) e = rw (e t (omega arith), seek-alike f h v t (λ j l. e j (omega arith)))
-
 -- the names that hang are the first
 pub first-hung : {slot : List ℕ → ℕ} {m n : ℕ} {chains : List ℕ} (s places : List ℕ) → n ≤ length places → Hung slot s places m n chains → Hung slot s (take n places) m (length (take n places)) chains
 first-hung {slot} {m} {n} {chains} s places h w =
     let all : length (take n places) ≡ n = length-take-le n places h in
     let same : (i : ℕ) → i < n → slot_in slot s places i ≡ slot_in slot s (take n places) i = λ i l. ap (λ p. slot (name_at s p)) (sym (get_or-take n places i 0 l)) in
-    rw all (record {
-      below = w.below;
-      chained = record {
-        room = w.chained.room;
-        heads = λ b l. w.chained.heads b l ∙ seek-alike _ _ b n same;
-        prevs = λ i l. w.chained.prevs i l ∙ rw (same i l) (seek-alike _ _ (slot_in slot s (take n places) i) i (λ j k. same j (omega arith)));
-      };
-    })
+    rw all (record { below = w.below; chained = chained-alike same w.chained })
 
 -- one name more
 pub one_more : {slot : List ℕ → ℕ} {s places : List ℕ} {m n x : ℕ} {old new : List ℕ} → Hung slot s places m n old → x ≡ slot_in slot s places n → Hangs m x n old new → Hung slot s places m (suc n) new

@@ -70,19 +70,19 @@ Finds r v (Some i) = (i < r.count) × (variable_at r.entries.now i ≡ v)
 Finds r v None = Lacks r v
 
 -- what one entry more asks: no other has its variable, and its place is in use then
-pub record Room (v place : ℕ) (r : Rowless) : Type 0 where
+pub record Room (v x : ℕ) (r : Rowless) : Type 0 where
   pub sound : Sound r
   pub lacks : Lacks r v
   pub few : r.count < most r
-  pub placed : place ≤ places r
+  pub placed : x ≤ places r
 
-pub record Adds (v place : ℕ) (old new : Rowless) : Type 0 where
+pub record Adds (v x : ℕ) (old new : Rowless) : Type 0 where
   pub still : Still old new
   pub listed : new.listed ≡ old.listed
   pub count : new.count ≡ suc old.count
   pub sound : Sound new
   pub variable : variable_at new.entries.now old.count ≡ v
-  pub place : place_at new.entries.now old.count ≡ place
+  pub place : place_at new.entries.now old.count ≡ x
   pub variables : (i : ℕ) → i < old.count → variable_at new.entries.now i ≡ variable_at old.entries.now i
   pub places : (i : ℕ) → i < old.count → place_at new.entries.now i ≡ place_at old.entries.now i
 

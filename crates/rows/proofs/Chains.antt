@@ -1,5 +1,5 @@
 -- Laws of chains: what is sought and found (`seek_hit`, `seek-miss`), a search along a chain (`at-head`, `at-prev`, `told`), one key
--- more (`more`), and none yet (`none-chained`).
+-- more (`more`), none yet (`none-chained`), and the same keys by other means (`chained-alike`).
 use Prim.Native.Nat.{ℕ, zero, suc, ◌+◌, ◌-◌, ◌<◌, ◌≤◌}
 use native.Mathlib.Omega.{arith}
 use native.Mathlib.Numerals.{add-one}
@@ -136,3 +136,16 @@ module _ (m n x : ℕ) (old : List ℕ) (r : m + n < length old) (b : x < m) whe
 pub none-chained : (g f : ℕ → ℕ) (m : ℕ) (tab : List ℕ) → m ≤ length tab → ((b : ℕ) → b < m → get_or tab b 0 ≡ 0) → Chained g m 0 f tab
 unfolding newest
 none-chained g f m tab h z = record { room = omega arith; heads = z; prevs = λ i l. absurd (omega arith) }
+
+-- what is sought among the first keys depends on no others, nor do their chains
+seek-alike : (f h : ℕ → ℕ) (v t : ℕ) → ((j : ℕ) → j < t → f j ≡ h j) → seek f v t ≡ seek h v t
+unfolding newest
+seek-alike f h v zero e = refl
+seek-alike f h v (suc t) e = rw (e t (omega arith), seek-alike f h v t (λ j l. e j (omega arith)))
+
+pub chained-alike : {g f h : ℕ → ℕ} {m n : ℕ} {tab : List ℕ} → ((j : ℕ) → j < n → f j ≡ h j) → Chained g m n f tab → Chained g m n h tab
+chained-alike {g} {f} {h} {m} {n} same w = record {
+  room = w.room;
+  heads = λ b l. w.heads b l ∙ seek-alike (keyed g f) (keyed g h) b n (λ j k. ap g (same j k));
+  prevs = λ i l. w.prevs i l ∙ rw (same i l) (seek-alike (keyed g f) (keyed g h) (g (h i)) i (λ j k. ap g (same j (omega arith))));
+}

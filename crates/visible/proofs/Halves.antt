@@ -55,7 +55,7 @@ module _ (n top c : ℕ) (old m : List ℕ) (i j : ℕ) (w : Tabled n top old) (
 
     all : seens n (suc j) new ≡ seen (indexed x) (hit v 1) c ∷ seens n j m
     unfolding seens
-    all = rw (q.at0, q.at1, q.at2, below j (omega arith), parted x v c 1 (omega arith)) refl
+    all = rw (q.at0, q.at1, q.at2, below j (omega arith), parted (indexed x) v c 1 (omega arith)) refl
 
     take-newest : newest n top old (suc i) ≡ pair (indexed x) v ∷ newest n top old i
     unfolding newest
@@ -132,7 +132,7 @@ module _ (n top c : ℕ) (old m : List ℕ) (i j : ℕ) (w : Tabled n top old) (
     where
       go : (b : Bool) → ltb i (place (indexed x) (seens n top old)) ≡ b → place (indexed x) (seens n top old) ≡ suc i
       go true d = sym (f.coming x (w.named i lt) (ltb-true i _ d)) ∙ e
-      go false d = absurd (omega (arith, e, f.few, place-le x n j m, f.passed x (w.named i lt) (ltb-false i _ d)))
+      go false d = absurd (omega (arith, e, f.few, place-le (indexed x) n j m, f.passed x (w.named i lt) (ltb-false i _ d)))
 
   is-older : get_or m x 0 ≢ suc i → place (indexed x) (seens n top old) ≢ suc i
   is-older older e = older (f.coming x (w.named i lt) (omega (arith, e)) ∙ e)
@@ -187,7 +187,7 @@ turn-stay {n} {c} {i} {j} {m} z h r e = rw (← z) (turn-take e (stay n i (c * 2
 
 -- the loop begins
 pub begin : {n top c : ℕ} {m : List ℕ} → Tabled n top m → Halfway n top c m m 0 0
-unfolding seens seen_once newest place same_name
+unfolding seens seen_once newest place
 begin {n} {top} {c} {m} w = record {
   few = omega arith;
   kept = refl;
@@ -207,7 +207,7 @@ once-seens {n} {top} {c} {j} {old} f = f.same ∙ ap (seen_once c) (sym (once-ne
 pub once-tabled : {n top c j : ℕ} {old m : List ℕ} → Tabled n top old → Halfway n top c old m top j → Tabled n j m
 once-tabled {n} {top} {c} {j} {old} w f = record {
   room = omega (arith, f.few, f.kept, w.room);
-  heads = λ x h. f.passed x h (place-le x n top old);
+  heads = λ x h. f.passed x h (place-le (indexed x) n top old);
   prevs = f.prevs;
   named = f.named;
 }

@@ -15,7 +15,7 @@ use Rattle.visible.specs.Visible.{place, name_at, seens, newest}
 use Rattle.visible.proofs.Places.{length-seens}
 
 length_without : (x : Name) (ps : List Pair) → length (without x ps) ≤ length ps
-unfolding without same_name
+unfolding without
 length_without x [] = omega arith
 length_without x (pair y v ∷ ps) = go (same_name x y) (length_without x ps)
   where

@@ -12,7 +12,7 @@ use lib.Dec.{eqb, ltb}
 use lib.ListN.{length, get_or, set, length-set}
 use lib.Seq.{get_or-set_same, get_or-set_other}
 use borrow.Author.Tests.{ne_eqb, eqb-true, eqb-false, ltb-true, ltb-false}
-use Rattle.scope.specs.Graph.{indexed, same_name}
+use Rattle.scope.specs.Graph.{Name, indexed, same_name}
 use Rattle.semantics.specs.Resolve.{Hit, hit, seen, lookup}
 use Rattle.visible.specs.Visible.{scope_of, answer, place, name_at, variable_at, seens, Tabled}
 use Rattle.visible.specs.declared.Newest.{Newest}
@@ -26,10 +26,10 @@ cond-le : (b : Bool) (p q t : ℕ) → p ≤ t → q ≤ t → cond b p q ≤ t
 cond-le true p q t h k = h
 cond-le false p q t h k = k
 
-pub place-le : (x n t : ℕ) (m : List ℕ) → place (indexed x) (seens n t m) ≤ t
-unfolding place seens same_name
+pub place-le : (x : Name) (n t : ℕ) (m : List ℕ) → place x (seens n t m) ≤ t
+unfolding place seens
 place-le x n zero m = omega arith
-place-le x n (suc t) m = cond-le (eqb x (name_at n m t)) _ _ _ (omega (arith, length-seens n t m)) (omega (arith, place-le x n t m))
+place-le x n (suc t) m = cond-le (same_name x (indexed (name_at n m t))) _ _ _ (omega (arith, length-seens n t m)) (omega (arith, place-le x n t m))
 
 -- what the entry j tells
 abbrev told_at : ℕ → List ℕ → ℕ → Newest
@@ -44,10 +44,10 @@ told-head : (c : Bool) (n t l q : ℕ) (m : List ℕ) (u : Option Hit) (s : ℕ)
 told-head true n t l q m u s e k = ((λ g. absurd (omega arith)), (λ j g. let z : t ≡ j = omega (arith, e, g) in rw z))
 told-head false n t l q m u s e k = k
 
-pub told : (x n t : ℕ) (m : List ℕ) → Told n m (place (indexed x) (seens n t m)) (answer (lookup (indexed x) (seens n t m)) (scope_of (indexed x) (seens n t m)))
-unfolding place seens lookup scope_of same_name
+pub told : (x : Name) (n t : ℕ) (m : List ℕ) → Told n m (place x (seens n t m)) (answer (lookup x (seens n t m)) (scope_of x (seens n t m)))
+unfolding place seens lookup scope_of
 told x n zero m = ((λ l. refl), (λ j g. absurd (omega arith)))
-told x n (suc t) m = told-head (eqb x (name_at n m t)) n t _ _ m _ _ (length-seens n t m) (told x n t m)
+told x n (suc t) m = told-head (same_name x (indexed (name_at n m t))) n t _ _ m _ _ (length-seens n t m) (told x n t m)
 
 -- a name past the table has no place
 pub far : (x n t : ℕ) (m : List ℕ) → ((i : ℕ) → i < t → name_at n m i < n) → n ≤ x → place (indexed x) (seens n t m) ≡ 0
@@ -64,7 +64,7 @@ seens-alike n (suc t) new old e =
     rw (e (n + t * 4) (omega arith) (omega arith), e (n + t * 4 + 1) (omega arith) (omega arith), e (n + t * 4 + 2) (omega arith) (omega arith), seens-alike n t new old (λ i h k. e i h (omega arith)))
 
 -- a scope and whether it came over a WITH, as one word
-pub parted : (x v c o : ℕ) → o ≤ 1 → seen (indexed x) (hit v ((c * 2 + o) % 2)) ((c * 2 + o) / 2) ≡ seen (indexed x) (hit v o) c
+pub parted : (x : Name) (v c o : ℕ) → o ≤ 1 → seen x (hit v ((c * 2 + o) % 2)) ((c * 2 + o) / 2) ≡ seen x (hit v o) c
 parted x v c o h =
     let p : (c * 2 + o) % 2 ≡ o = omega arith in
     let q : (c * 2 + o) / 2 ≡ c = omega arith in
@@ -113,7 +113,7 @@ module _ (n top x v c o : ℕ) (bit : o ≤ 1) (old new : List ℕ) (w : Tabled 
 
   all : seens n (suc top) new ≡ seen (indexed x) (hit v o) c ∷ seens n top old
   unfolding seens
-  all = rw (q.at0, q.at1, q.at2, below top (omega arith), parted x v c o bit)
+  all = rw (q.at0, q.at1, q.at2, below top (omega arith), parted (indexed x) v c o bit)
 
   heads : (y : ℕ) → y < n → get_or new y 0 ≡ place (indexed y) (seens n (suc top) new)
   unfolding place same_name
@@ -189,4 +189,4 @@ module _ (n t : ℕ) (old : List ℕ) (w : Tabled n (suc t) old) where
 
 -- a head lies within the words
 pub near-head : {n top x : ℕ} {m : List ℕ} → Tabled n top m → x < n → n + get_or m x 0 * 4 ≤ length m
-near-head {n} {top} {x} {m} w h = omega (arith, w.heads x h, place-le x n top m, w.room)
+near-head {n} {top} {x} {m} w h = omega (arith, w.heads x h, place-le (indexed x) n top m, w.room)
