@@ -4,3 +4,4 @@ pub mod Index
 pub mod Text
 pub mod Scan
 pub mod Ids
+pub mod VarNames

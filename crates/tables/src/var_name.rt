@@ -2,7 +2,7 @@
 ghost use Rattle.std.specs.Prelude.{◌≡◌, ◌≤◌, take};
 ghost use Rattle.tables.specs.VarName.{var_name, VarId};
 
-use words::{decimal_width, put_decimal};
+use words::put_decimal;
 
 // The text, of which no more than 15 bytes are in use.
 #[derive(Clone, Copy)]
@@ -15,7 +15,7 @@ pub struct VarName {
 impl VarName {
     // The name of a variable.
     pub fn new(v: u32) -> VarName
-        ensures { take result.len result.bytes.entry ≡ var_name v }
+        ensures { take result.len result.bytes ≡ var_name v }
     {
         let mut bytes = *b"__var0000000000";
         let digits = put_decimal(v, &mut bytes[5..]);
@@ -27,7 +27,7 @@ impl VarName {
 
     // Its text.
     pub fn text(&self) -> &[u8]
-        ensures { result.now ≡ take self.now.len self.now.bytes.entry }
+        ensures { result.now ≡ take self.now.len self.now.bytes }
     {
         &self.bytes[..self.len]
     }
@@ -41,7 +41,9 @@ pub fn var_id(text: &[u8]) -> Option<u32>
     // The number that the bytes would say as digits; whether they do is told by its name.
     let mut v: u32 = 0;
     for digit in digits {
-        v = v.wrapping_mul(10).wrapping_add(u32::from(*digit).wrapping_sub(48));
+        v = v
+            .wrapping_mul(10)
+            .wrapping_add(u32::from(*digit).wrapping_sub(48));
     }
     if VarName::new(v).text() == text {
         return Some(v);
