@@ -1,5 +1,4 @@
 -- Entries at the front of a list of words: what is stored after them, or in the place of one, makes the list of those with it.
-use Rattle.std.specs.Prelude.{None, Some}
 use Prim.Native.Nat.{ℕ, zero, suc, ◌+◌, ◌-◌, ◌*◌, ◌≤◌}
 use native.Mathlib.Nat.{zero-mul, zero-add, suc-add}
 use native.Mathlib.Omega.{arith}
@@ -7,10 +6,11 @@ use mathlib.Core.Path.{◌≡◌, refl, ◌∙◌}
 use mathlib.Core.List.{List, [], ◌∷◌, ◌++◌, flat_map, append_assoc, append-nil}
 use lib.ListN.{length, set, drop, length-append, length-drop}
 use lib.Seq.{sets, sets-eq, drop_at, drop-drop}
-use Rattle.scope.specs.Graph.{Scope, scope, Entry, entry, Carried, carried}
+use Rattle.scope.specs.Flat.{scope_width, binding_width, carried_width}
+use Rattle.scope.specs.Graph.{Scope, scope, name, Entry, entry, Carried, carried}
 use Rattle.semantics.specs.Log.{Write, write, found, missing, Finding, finding}
-use Rattle.finding.specs.Flat.{finding_words}
-use Rattle.entries.specs.Filled.{filled, scope_words, binding_words, carried_words, recorded_words}
+use Rattle.finding.specs.Flat.{finding_width, finding_words}
+use Rattle.entries.specs.Filled.{filled, scope_words, binding_words, carried_words, recorded_width, recorded_words}
 
 -- words that are filled, and words stored after them
 pub filled-nil : (old : List ℕ) → filled old [] ≡ old
@@ -80,23 +80,22 @@ module _ {A : Type 0} (words : A → List ℕ) (width : ℕ) (sized : (a : A) �
       rw (along, filled-append, filled-append, sets-append, sets_over e es i (drop (length (words x)) old) (omega arith))
 
 -- how many words an entry has
-pub sized-scope : (x : Scope) → length (scope_words x) ≡ 4
+pub sized-scope : (x : Scope) → length (scope_words x) ≡ scope_width
 unfolding scope_words
 sized-scope (scope k p a b) = refl
 
-pub sized-binding : (x : Entry) → length (binding_words x) ≡ 6
+pub sized-binding : (x : Entry) → length (binding_words x) ≡ binding_width
 unfolding binding_words
-sized-binding (entry s x v k None) = refl
-sized-binding (entry s x v k (Some u)) = refl
+sized-binding (entry s (name m x) v k r) = refl
 
-pub sized-carried : (x : Carried) → length (carried_words x) ≡ 3
+pub sized-carried : (x : Carried) → length (carried_words x) ≡ carried_width
 unfolding carried_words
-sized-carried (carried b x v) = refl
+sized-carried (carried b (name m x) v) = refl
 
-pub sized-recorded : (x : Write) → length (recorded_words x) ≡ 5
+pub sized-recorded : (x : Write) → length (recorded_words x) ≡ recorded_width
 unfolding recorded_words
 sized-recorded (write i (found v k via)) = refl
 sized-recorded (write i missing) = refl
 
-pub sized-finding : (x : Finding) → length (finding_words x) ≡ 6
+pub sized-finding : (x : Finding) → length (finding_words x) ≡ finding_width
 sized-finding (finding c a b x o t) = refl

@@ -9,7 +9,9 @@ use mathlib.Core.List.{List, [], ◌∷◌, ◌++◌}
 use borrow.Author.Tests.{eqb-true}
 use lib.Dec.{eqb}
 use lib.ListN.{length}
-use Rattle.scope.specs.Graph.{Entry, entry}
+use Rattle.scope.specs.Flat.{binding_width}
+use Rattle.scope.specs.Graph.{Name, name, same_name, Entry, entry}
+use Rattle.scope.specs.Answer.{name_of}
 use Rattle.semantics.specs.Log.{Bound, bound}
 use Rattle.semantics.specs.Lists.{put, puts}
 use Rattle.entries.specs.Adding.{place, is_binding}
@@ -22,9 +24,20 @@ not-both true true h = absurd (h refl refl)
 not-both true false h = refl
 not-both false c h = refl
 
-module _ (stamps : List ℕ) (s x : ℕ) (new : Knows stamps s x → ⊥) where
-  another : (t y : ℕ) → Knows stamps t y → (eqb s t && eqb x y) ≡ false
-  another t y k = not-both (eqb s t) (eqb x y) (λ p q. new (rw (eqb-true s t p, eqb-true x y q) k))
+both : (b c : Bool) → (b && c) ≡ true → (b ≡ true) × (c ≡ true)
+both true true h = (refl, refl)
+both true false h = absurd cc
+both false c h = absurd cc
+
+same-true : (x y : Name) → same_name x y ≡ true → x ≡ y
+unfolding same_name
+same-true (name m x) (name n y) h =
+    let t = both (eqb m n) (eqb x y) h in
+    rw (eqb-true m n t.0, eqb-true x y t.1)
+
+module _ (stamps : List ℕ) (s : ℕ) (x : Name) (new : Knows stamps s x → ⊥) where
+  another : (t : ℕ) (y : Name) → Knows stamps t y → (eqb s t && same_name x y) ≡ false
+  another t y k = not-both (eqb s t) (same_name x y) (λ p q. new (rw (eqb-true s t p, same-true x y q) k))
 
   pub new-place : (es : List Entry) → Stamped stamps es → place (is_binding s x) es ≡ length es
   unfolding Stamped place
@@ -37,7 +50,7 @@ of_two P true p q = p
 of_two P false p q = q
 
 -- stamps that know of a binding know of all when it is put
-module _ (s x v k : ℕ) {stamps new : List ℕ} (h : Marks s x stamps new) where
+module _ (s : ℕ) (x : Name) (v k : ℕ) {stamps new : List ℕ} (h : Marks s x stamps new) where
   stamped-still : (es : List Entry) → Stamped stamps es → Stamped new es
   unfolding Stamped
   stamped-still [] a = tt
@@ -46,13 +59,13 @@ module _ (s x v k : ℕ) {stamps new : List ℕ} (h : Marks s x stamps new) wher
   pub stamped-put : (es : List Entry) → Stamped stamps es → Stamped new (put (bound s x v k) es)
   unfolding Stamped put
   stamped-put [] a = (h.here, tt)
-  stamped-put (entry t y u j r ∷ es) a = of_two (Stamped new) (eqb s t && eqb x y) (h.here, stamped-still es a.1) (h.there t y a.0, stamped-put es a.1)
+  stamped-put (entry t y u j r ∷ es) a = of_two (Stamped new) (eqb s t && same_name x y) (h.here, stamped-still es a.1) (h.there t y a.0, stamped-put es a.1)
 
 -- bindings that are put never make a list shorter
 pub put-grows : (b : Bound) (es : List Entry) → length es ≤ length (put b es)
 unfolding put
 put-grows (bound s x v k) [] = omega arith
-put-grows (bound s x v k) (entry t y u j r ∷ es) = of_two (λ l. suc (length es) ≤ length l) (eqb s t && eqb x y) (omega arith) (omega (arith, put-grows (bound s x v k) es))
+put-grows (bound s x v k) (entry t y u j r ∷ es) = of_two (λ l. suc (length es) ≤ length l) (eqb s t && same_name x y) (omega arith) (omega (arith, put-grows (bound s x v k) es))
 
 pub puts-grow : (bs : List Bound) (es : List Entry) → length es ≤ length (puts bs es)
 unfolding puts
@@ -65,7 +78,7 @@ puts-append [] cs es = refl
 puts-append (b ∷ bs) cs es = puts-append bs cs (put b es)
 
 -- a binding whose place is found, with the stamps that know of it
-pub one-made : (b : Binding) {i : ℕ} {out new stamps left : List ℕ} {m r : ℕ} → Finds b.scope b.name out stamps m i → Marks b.scope b.name stamps left → Stores b i out new m r → Makes (bound_of b ∷ []) (record { list = out; made = m; stamps = stamps }) (record { list = new; made = r; stamps = left })
+pub one-made : (b : Binding) {i : ℕ} {out new stamps left : List ℕ} {m r : ℕ} → Finds b.scope (name_of b.name) out stamps m i → Marks b.scope (name_of b.name) stamps left → Stores b i out new m r → Makes (bound_of b ∷ []) (record { list = out; made = m; stamps = stamps }) (record { list = new; made = r; stamps = left })
 unfolding puts
 one-made b f h st =
     record {
@@ -74,7 +87,7 @@ one-made b f h st =
       within = st.within;
       holds = λ old es k room. record {
         list = st.holds old es k.list (f.found old es k) room;
-        stamped = stamped-put b.scope b.name b.variable b.kind h es k.stamped;
+        stamped = stamped-put b.scope (name_of b.name) b.variable b.kind h es k.stamped;
       };
     }
 
@@ -90,8 +103,8 @@ more-made {bs} {cs} {a} f g =
       marks = g.marks ∙ f.marks;
       within = rw (← f.kept) g.within;
       holds = λ old es b room.
-          let all : length (puts cs (puts bs es)) * 6 ≤ length a.list = rw (puts-append bs cs es) at room in
-          let some' : length (puts bs es) * 6 ≤ length a.list = omega (arith, all, puts-grow cs (puts bs es)) in
+          let all : length (puts cs (puts bs es)) * binding_width ≤ length a.list = rw (puts-append bs cs es) at room in
+          let some' : length (puts bs es) * binding_width ≤ length a.list = omega (arith, all, puts-grow cs (puts bs es)) in
           rw (puts-append bs cs es) (g.holds old (puts bs es) (f.holds old es b some') (rw f.kept all));
     }
 

@@ -2,7 +2,7 @@
 use Rattle.std.specs.Prelude.{ℕ, suc, ◌+◌, ◌≤◌, ◌≡◌, Bool, cond, ◌&&◌, eqb, length, Option, None, Some}
 use Rattle.std.specs.List.{starts_with}
 use mathlib.Core.List.{List, [], ◌∷◌, ◌++◌, flat_map}
-use Rattle.scope.specs.Graph.{Entry, entry}
+use Rattle.scope.specs.Graph.{Name, same_name, Entry, entry}
 use Rattle.semantics.specs.Log.{Answer, found, missing}
 use Rattle.entries.specs.Filled.{filled}
 use Rattle.entries.specs.declared.Found.{Found}
@@ -33,8 +33,8 @@ abbrev pub begins : (key words : List ℕ) → Bool
 begins key words = starts_with eqb words key
 
 -- a binding of a name in a scope
-abbrev pub is_binding : ℕ → ℕ → Entry → Bool
-is_binding s x (entry t y u j r) = eqb s t && eqb x y
+abbrev pub is_binding : ℕ → Name → Entry → Bool
+is_binding s x (entry t y u j r) = eqb s t && same_name x y
 
 -- the answer to a use, which is found or missing
 abbrev pub answer : Option Found → Answer

@@ -3,21 +3,35 @@
 // says why.
 #![tactic(auto)]
 
-ghost use Rattle.std.specs.Prelude.{◌≡◌, true, [], ◌∷◌, ◌+◌, ◌*◌, ◌≤◌, length};
+ghost use Rattle.std.specs.Prelude.{◌≡◌, true, [], ◌∷◌, ◌+◌, ◌*◌, ◌<◌, ◌≤◌, length, map};
 ghost use Rattle.std.proofs.lemmas.List.Edits.{sets};
-ghost use Rattle.scope.specs.Flat.{entries_of};
+ghost use Rattle.scope.specs.Flat.{binding_width, entries_of, binding_of};
 ghost use Rattle.scope.specs.Graph.{carried};
+ghost use Rattle.scope.specs.Answer.{name_of};
 ghost use Rattle.semantics.specs.Log.{write};
 ghost use Rattle.semantics.specs.Lists.{note};
-ghost use Rattle.entries.specs.Filled.{recorded_words};
-ghost use Rattle.entries.specs.Adding.{Becomes, place, begins, answer};
-ghost use Rattle.entries.specs.Stamps.{Knows, Marks, Finds, Stores, Makes, Carries, Fits, IsStill, bound_of, kept};
+ghost use Rattle.entries.specs.Filled.{recorded_width, recorded_words};
+ghost use Rattle.entries.specs.Adding.{Becomes, place, begins, is_binding, answer};
+ghost use Rattle.entries.specs.Stamps.{slot_of, stamp_of, Knows, Marks, Finds, Stores, Makes, Carries, Fits, IsStill, bound_of, kept};
+
+use scope::Name;
+
+// How many words an entry of each list has.
+pub const SCOPE_WIDTH: usize = 4;
+
+pub const BINDING_WIDTH: usize = 7;
+
+pub const CARRIED_WIDTH: usize = 4;
+
+pub const RECORDED_WIDTH: usize = 5;
+
+pub const FINDING_WIDTH: usize = 7;
 
 // A binding of a name in a scope.
 #[derive(Clone, Copy, Debug, PartialEq, Eq)]
 pub struct Binding {
     pub scope: u32,
-    pub name: u32,
+    pub name: Name,
     pub variable: u32,
     pub kind: u32,
 }
@@ -31,7 +45,8 @@ pub struct Found {
 }
 
 // A lent list of bindings, how many are made in it, and the stamps that know of them: word 0 is the highest scope that binds + 1, or 0, and
-// word name + 1 is the same number where that scope binds the name. Numbers + 1, 0 for none, since they are lent words that are zero at first.
+// the word in the place of a name is the same number where that scope binds the name. Numbers + 1, 0 for none, since they are lent words that are zero
+// at first.
 #[derive(Drop)]
 pub struct Bindings<'a> {
     pub list: &'a mut [u32],
@@ -39,7 +54,7 @@ pub struct Bindings<'a> {
     pub stamps: &'a mut [u32],
 }
 
-// An entry's words as the entry numbered i. Crates finding and steps store six words by themselves: neither names this crate, the one stands below
+// An entry's words as the entry numbered i. Crates finding and steps store theirs by themselves: neither names this crate, the one stands below
 // it and the other beside it.
 pub fn set_entry<const W: usize>(out: &mut [u32], i: usize, entry: [u32; W])
     requires { (i + 1) * W ≤ length out.old }
@@ -50,14 +65,14 @@ pub fn set_entry<const W: usize>(out: &mut [u32], i: usize, entry: [u32; W])
 }
 
 // A carried name as the entry numbered n, where the list has room for it.
-pub fn put_carried(out: &mut [u32], n: u32, barrier: u32, x: u32, v: u32)
-    ensures { Carries (carried barrier x v) out.old out.new n }
+pub fn put_carried(out: &mut [u32], n: u32, barrier: u32, name: Name, v: u32)
+    ensures { Carries (carried barrier (name_of name) v) out.old out.new n }
 {
     let i = n as usize;
-    if out.len() < (i + 1) * 3 {
+    if out.len() < (i + 1) * CARRIED_WIDTH {
         return;
     }
-    set_entry(out, i, [barrier, x, v]);
+    set_entry(out, i, [barrier, name.word, v, name.mark]);
 }
 
 // The place of the first of m entries of W words that begins with a key, or m, and no None: there a new entry goes. By index: tried `position` over `as_chunks`, and nothing is known of a
@@ -74,10 +89,44 @@ fn place_of<const W: usize>(out: &[u32], m: usize, key: &[u32]) -> usize
     m
 }
 
+// The place of a scope's binding of a name, or how many there are. A search of its own: the name's mark is an entry's last word.
+fn place_of_name(bindings: &[[u32; BINDING_WIDTH]], scope: u32, name: Name) -> usize
+    ensures { result ≡ place (is_binding scope (name_of name)) (map binding_of bindings.now) }
+{
+    let Name { mark, word } = name;
+    bindings
+        .iter()
+        .position(|[of, called, _, _, _, _, marked]| {
+            scope == *of && (mark == *marked && word == *called)
+        })
+        .unwrap_or(bindings.len())
+}
+
+// The slot of an id, one of m.
+#[tactic(auto, unfolding(crate::specs::Stamps::slot_of))]
+fn slot(id: u32, m: usize) -> usize
+    requires { m < 4294967296 }
+    ensures slot { result ≡ slot_of m id }
+    ensures below { result ≤ m }
+{
+    (u64::from(id.wrapping_mul(2654435769)) * m as u64 / 4294967296) as usize
+}
+
+// The place of a name among so many stamps: an index has the word of its number + 1, an id one in the upper half. Two names may have one place.
+fn stamp_of(name: Name, len: usize) -> usize
+    ensures { result ≡ stamp_of len (name_of name) }
+{
+    if name.mark == 0 {
+        return name.word as usize + 1;
+    }
+    let half = (len / 2).min(u32::MAX as usize);
+    len - half + slot(name.word, half)
+}
+
 // Whether the stamps tell that a scope doesn't bind a name: it is higher than any that binds, or the highest and the name's stamp is another.
-fn is_new(stamps: &[u32], scope: u32, name: u32) -> bool
+fn is_new(stamps: &[u32], scope: u32, name: Name) -> bool
     requires { 1 ≤ length stamps.now }
-    ensures { result ≡ true → Knows stamps.now scope name → ⊥ }
+    ensures { result ≡ true → Knows stamps.now scope (name_of name) → ⊥ }
 {
     let Some(stamp) = scope.checked_add(1) else {
         return false;
@@ -85,24 +134,27 @@ fn is_new(stamps: &[u32], scope: u32, name: u32) -> bool
     if stamp != stamps[0] {
         return stamps[0] < stamp;
     }
-    stamps.get(name as usize + 1).is_some_and(|s| *s != stamp)
+    stamps
+        .get(stamp_of(name, stamps.len()))
+        .is_some_and(|s| *s != stamp)
 }
 
 // The place of a binding among m, by the stamps or by a search.
-fn place_for(out: &[u32], m: usize, stamps: &[u32], scope: u32, name: u32) -> usize
-    requires { (m * 6 ≤ length out.now) × (1 ≤ length stamps.now) }
-    ensures { Finds scope name out.now stamps.now m result }
+fn place_for(out: &[u32], m: usize, stamps: &[u32], scope: u32, name: Name) -> usize
+    requires { (m * binding_width ≤ length out.now) × (1 ≤ length stamps.now) }
+    ensures { Finds scope (name_of name) out.now stamps.now m result }
 {
     if is_new(stamps, scope, name) {
         return m;
     }
-    place_of::<6>(out, m, &[scope, name])
+    let (all, _) = out.as_chunks::<BINDING_WIDTH>();
+    place_of_name(&all[..m], scope, name)
 }
 
 // The stamps with a scope's name. By a test and not by `get_mut`: tried, and the proof didn't close.
-fn mark(stamps: &mut [u32], scope: u32, name: u32)
+fn mark(stamps: &mut [u32], scope: u32, name: Name)
     requires { 1 ≤ length stamps.old }
-    ensures { Marks scope name stamps.old stamps.new }
+    ensures { Marks scope (name_of name) stamps.old stamps.new }
 {
     let Some(stamp) = scope.checked_add(1) else {
         return;
@@ -111,7 +163,7 @@ fn mark(stamps: &mut [u32], scope: u32, name: u32)
         return;
     }
     stamps[0] = stamp;
-    let i = name as usize + 1;
+    let i = stamp_of(name, stamps.len());
     if i < stamps.len() {
         stamps[i] = stamp;
     }
@@ -119,18 +171,23 @@ fn mark(stamps: &mut [u32], scope: u32, name: u32)
 
 // A binding in its place i among m, where the list has room for it.
 fn store_binding(out: &mut [u32], m: usize, i: usize, b: Binding) -> usize
-    requires { (i ≤ m) × (m * 6 ≤ length out.old) }
+    requires { (i ≤ m) × (m * binding_width ≤ length out.old) }
     ensures { Stores b i out.old out.new m result }
 {
+    let Name { mark, word } = b.name;
     if i < m {
-        let replaced = out[i * 6 + 2];
-        set_entry(out, i, [b.scope, b.name, b.variable, b.kind, 1, replaced]);
+        let replaced = out[i * BINDING_WIDTH + 2];
+        set_entry(
+            out,
+            i,
+            [b.scope, word, b.variable, b.kind, 1, replaced, mark],
+        );
         return m;
     }
-    if out.len() < (m + 1) * 6 {
+    if out.len() < (m + 1) * BINDING_WIDTH {
         return m;
     }
-    set_entry(out, m, [b.scope, b.name, b.variable, b.kind, 0, 0]);
+    set_entry(out, m, [b.scope, word, b.variable, b.kind, 0, 0, mark]);
     m + 1
 }
 
@@ -152,7 +209,7 @@ impl Bindings<'_> {
 
 // The words of an answer to a use.
 #[tactic(auto, unfolding(crate::specs::Filled::recorded_words))]
-fn answer_entry(id: u32, found: Option<Found>) -> [u32; 5]
+fn answer_entry(id: u32, found: Option<Found>) -> [u32; RECORDED_WIDTH]
     ensures { result ≡ recorded_words (write id (answer found)) }
 {
     match found {
@@ -163,10 +220,10 @@ fn answer_entry(id: u32, found: Option<Found>) -> [u32; 5]
 
 // An answer in its place among m; how many there are then.
 pub fn put_answer(out: &mut [u32], m: usize, id: u32, found: Option<Found>) -> usize
-    requires { (m + 1) * 5 ≤ length out.old }
+    requires { (m + 1) * recorded_width ≤ length out.old }
     ensures { Becomes 1 recorded_words (note (write id (answer found))) out.old out.new m result }
 {
-    let i = place_of::<5>(out, m, &[id]);
+    let i = place_of::<RECORDED_WIDTH>(out, m, &[id]);
     set_entry(out, i, answer_entry(id, found));
     if i < m { m } else { m + 1 }
 }

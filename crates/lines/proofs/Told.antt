@@ -7,8 +7,10 @@ use mathlib.Core.Path.{◌≡◌, refl, ap, sym, ◌∙◌}
 use mathlib.Core.List.{List, [], ◌∷◌, ◌++◌, flat_map, append_assoc, append-nil}
 use lib.ListN.{length, length-append}
 use Rattle.finding.specs.declared.Finding.{Finding}
+use Rattle.finding.specs.Flat.{cited_by}
+use Rattle.finding.specs.Records.{finding_by}
 use Rattle.lines.specs.Lines.{name_of, line_for, line}
-use Rattle.lines.specs.Given.{texts_of, finding_at, word_of, nth, findings_in, first}
+use Rattle.lines.specs.Given.{texts_of, nth, findings_in, first}
 use Rattle.lines.specs.declared.names.Names.{Names}
 use Rattle.lines.specs.declared.found.Found.{Found}
 
@@ -22,13 +24,9 @@ module _ (names : Names) (found : Found) where
   abbrev pub told : ℕ → List ℕ
   told n = flat_map (line (texts_of names)) (first found n)
 
-  -- the line of a record
-  abbrev pub line_of : Finding → List ℕ
-  line_of f = line_for f.code f.start f.end f.one f.two (name_of (texts_of names) f.name)
-
-  pub told_more : (n : ℕ) → told (suc n) ≡ told n ++ line_of (nth found n)
-  unfolding findings_in flat_map line
-  told_more n = flat_append (line (texts_of names)) (first found n) (finding_at found.words.now (word_of found.front found.words.now n) ∷ []) ∙ rw append-nil
+  pub told_more : (n : ℕ) → told (suc n) ≡ told n ++ line (texts_of names) (nth found n)
+  unfolding findings_in flat_map
+  told_more n = flat_append (line (texts_of names)) (first found n) (nth found n ∷ []) ∙ rw append-nil
 
   told-by : (i d : ℕ) → length (told i) ≤ length (told (d + i))
   told-by i zero = rw (zero-add i) (omega arith)
@@ -38,8 +36,9 @@ module _ (names : Names) (found : Found) where
   told-within i n h = let e : n ≡ n - i + i = omega arith in rw e (told-by i (n - i))
 
   -- one more line, of the record that is read and the name that is found
-  pub told-next : (i : ℕ) {f : Finding} {x : List ℕ} → f ≡ nth found i → x ≡ name_of (texts_of names) f.name → told (i + 1) ≡ told i ++ line_for f.code f.start f.end f.one f.two x
-  told-next i e h = rw (add-one i, h) (told_more i ∙ ap (λ (g : Finding). told i ++ line_of g) (sym e))
+  pub told-next : (i : ℕ) (f : Finding) {x : List ℕ} → finding_by f ≡ nth found i → x ≡ name_of (texts_of names) (cited_by f.mark f.name) → told (i + 1) ≡ told i ++ line_for f.code f.start f.end f.one f.two x
+  unfolding line
+  told-next i f e h = rw (add-one i, h) (told_more i ∙ ap (λ g. told i ++ line (texts_of names) g) (sym e))
 
 pub length-findings : (found : Found) (n : ℕ) → length (first found n) ≡ n
 unfolding findings_in

@@ -1,29 +1,22 @@
--- What the writer of the lines goes by: the names, and the findings as flat words, six each.
-use Rattle.std.specs.Prelude.{ℕ, zero, suc, ◌+◌, ◌-◌, ◌*◌, ◌≤◌, ◌≡◌, Bool, cond, List, [], ◌∷◌, ◌++◌, map, ltb, leb, length, get_or}
+-- What the writer of the lines goes by: the names, and the findings as the flat words of a log, six each.
+use Rattle.std.specs.Prelude.{ℕ, zero, suc, ◌-◌, ◌*◌, ◌≤◌, ◌≡◌, Bool, cond, List, [], ◌∷◌, ◌++◌, map, ltb, leb, length, take}
 use Rattle.tables.specs.Name.{name_at}
-use Rattle.semantics.specs.Log.{Finding, finding}
-use Rattle.finding.specs.declared.Finding.{Finding as Record}
+use Rattle.semantics.specs.Log.{Finding}
+use Rattle.finding.specs.Logged.{logged_at}
 use Rattle.lines.specs.Lines.{listed}
 use Rattle.lines.specs.declared.names.Names.{Names}
+use Rattle.lines.specs.declared.names.NameText.{NameText}
+use Rattle.lines.specs.declared.names.NameText.TheVariants.{Listed, Generated}
 use Rattle.lines.specs.declared.found.Found.{Found}
 
 -- the texts of the names
 abbrev pub texts_of : Names → List (List ℕ)
 texts_of names = map (name_at names.section.now) names.places.now
 
--- the finding whose words begin at k, and its record
-abbrev pub finding_at : List ℕ → ℕ → Finding
-finding_at l k = finding (get_or l k 0) (get_or l (k + 1) 0) (get_or l (k + 2) 0) (get_or l (k + 3) 0) (get_or l (k + 4) 0) (get_or l (k + 5) 0)
-
-abbrev pub record_at : List ℕ → ℕ → Record
-record_at l k = record {
-  code = get_or l k 0;
-  start = get_or l (k + 1) 0;
-  end = get_or l (k + 2) 0;
-  name = get_or l (k + 3) 0;
-  one = get_or l (k + 4) 0;
-  two = get_or l (k + 5) 0;
-}
+-- the bytes of a name
+abbrev pub bytes_in : NameText → List ℕ
+bytes_in (Listed text) = text.now
+bytes_in (Generated name) = take name.len name.bytes
 
 -- where the finding numbered i stands: the first ones from the front of the words on, so many, the others from their end back
 abbrev pub word_of : ℕ → List ℕ → ℕ → ℕ
@@ -32,10 +25,10 @@ word_of front l i = cond (ltb i front) (i * 6) (length l - suc (i - front) * 6)
 -- n findings in order
 unfoldable pub findings_in : ℕ → ℕ → List ℕ → List Finding
 findings_in front zero l = []
-findings_in front (suc n) l = findings_in front n l ++ (finding_at l (word_of front l n) ∷ [])
+findings_in front (suc n) l = findings_in front n l ++ (logged_at l (word_of front l n) ∷ [])
 
-abbrev pub nth : Found → ℕ → Record
-nth found i = record_at found.words.now (word_of found.front found.words.now i)
+abbrev pub nth : Found → ℕ → Finding
+nth found i = logged_at found.words.now (word_of found.front found.words.now i)
 
 -- the first n findings
 abbrev pub first : Found → ℕ → List Finding

@@ -3,16 +3,19 @@
 use Rattle.std.specs.Prelude.{ℕ, zero, suc, length, get_or, Option, None, Some}
 use mathlib.Core.List.{List, [], ◌++◌, flat_map}
 use Rattle.words.specs.Decimal.{decimal}
+use Rattle.scope.specs.Graph.{Name, name}
+use Rattle.tables.specs.VarName.{var_name}
 use Rattle.semantics.specs.Log.{Finding, finding}
 use Rattle.texts.specs.Bytes.{bytes}
 use Rattle.texts.specs.Texts.{text_of}
 use Rattle.texts.specs.Codes.{text_for}
 use Rattle.texts.specs.declared.Text.{Text}
 
--- the name that is cited as "name + 1 or 0"
-abbrev pub name_of : List (List ℕ) → ℕ → List ℕ
-name_of names zero = []
-name_of names (suc i) = get_or names i []
+-- the text of the name that is cited, if one is: the sheet's by its index, or a generated one by its id
+abbrev pub name_of : List (List ℕ) → Option Name → List ℕ
+name_of names None = []
+name_of names (Some (name zero i)) = get_or names i []
+name_of names (Some (name (suc m) v)) = var_name v
 
 abbrev pub said_text : Option Text → List ℕ → ℕ → List ℕ
 said_text (Some t) x two = text_of t x two

@@ -3,7 +3,7 @@ ghost use Rattle.std.specs.Prelude.{ℕ, ◌*◌, ◌^◌, ◌<◌, ◌≤◌, l
 
 use finding::{Finding, six_at};
 
-// So many findings, no more than a sheet has words, as flat words, six each: the first ones stand from the front of the words on, the others
+// So many findings, no more than a sheet has words, as flat words, six each (finding/specs/Logged): the first ones stand from the front of the words on, the others
 // from their end back. The words are the log's, which are lent (no heap), so front and count stand beside them; and so does how many expressions
 // 25 the sheet has.
 #[derive(Clone, Copy)]
@@ -19,6 +19,7 @@ pub struct Found<'a> {
 
 impl<'a> Found<'a> {
     ghost use Rattle.std.specs.Prelude.{◌≡◌, ◌+◌};
+    ghost use Rattle.finding.specs.Records.{finding_by};
     ghost use Rattle.lines.specs.Given.{word_of, nth};
 
     // The word where the finding numbered i begins.
@@ -35,7 +36,7 @@ impl<'a> Found<'a> {
 
     pub fn nth(&self, i: usize) -> Finding
         requires { i < self.now.count }
-        ensures { result ≡ nth self.now i }
+        ensures { finding_by result ≡ nth self.now i }
     {
         let at = self.word_of(i);
         Finding::from(six_at(self.words, at))

@@ -18,7 +18,7 @@ ghost use Rattle.lines.specs.Given.{texts_of, first, text_of, Measured};
 pub use found::Found;
 use lay::{lay_head, lay_line, lay_old};
 use measure::{line_len, old_len};
-pub use names::Names;
+pub use names::{NameText, Names};
 use refusal::Refusal;
 use words::decimal_width;
 
@@ -30,7 +30,7 @@ fn lay_lines(names: &Names, found: &Found, out: &mut [u8]) -> usize
     let mut at = 0;
     for i in 0..found.count {
         let f = found.nth(i);
-        at += lay_line(f, names.text(f.name), &mut out[at..]);
+        at += lay_line(f, names.text(f).bytes(), &mut out[at..]);
     }
     at
 }
@@ -62,7 +62,7 @@ fn has_room(names: &Names, found: &Found, room: usize) -> bool
             return true;
         }
         let f = found.nth(i);
-        need = need - most + line_len(f, names.text(f.name));
+        need = need - most + line_len(f, names.text(f).bytes());
     }
     need <= room
 }

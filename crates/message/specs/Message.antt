@@ -4,6 +4,7 @@ use Rattle.std.specs.Prelude.{ℕ, zero, suc, ◌≡◌, Bool, true, false, cond
 use Rattle.refusal.specs.Number.{number_of}
 use Rattle.refusal.specs.declared.Refusal.{Refusal}
 use Rattle.tables.specs.Distinct.{same_bytes}
+use Rattle.tables.specs.VarName.{var_name}
 use Rattle.sheet.specs.Read.{Sheet, accepted, refused, then', unless, read_text}
 use Rattle.texts.specs.Bytes.{bytes}
 use Rattle.texts.specs.Texts.{text_of}
@@ -49,5 +50,10 @@ unfoldable pub text_if : Option Text → Bool → ℕ → List ℕ → ℕ → S
 text_if None named code x two = refused 9
 text_if (Some t) named code x two = unless 9 (gives (push_of t) named two && not (starred code x)) (accepted (text_of t x two))
 
-unfoldable pub message : List ℕ → (code name one two : ℕ) → Sheet (List ℕ)
-message s code name one two = then' (name_text s name) (λ x. text_if (text_for code one) (ltb 0 name) code x two)
+-- Of a generated name the mark is 1 and the name's word "the bare id", and only an E1002 can have one; "any other mark gets 9" (document 02, CR 5).
+-- No table is searched for it.
+unfoldable pub message : List ℕ → (code name one two mark : ℕ) → Sheet (List ℕ)
+message s code name one two mark =
+    cond (eqb mark 0)
+    (then' (name_text s name) (λ x. text_if (text_for code one) (ltb 0 name) code x two))
+    (then' (name_text s 0) (λ x. unless 9 (eqb mark 1 && eqb code 1002) (text_if (text_for code one) true code (var_name name) two)))

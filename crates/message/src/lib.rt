@@ -13,7 +13,13 @@ ghost use Rattle.message.specs.Message.{starred, Cites, is_cited, text_in, text_
 use pushes::push_of;
 use refusal::Refusal;
 use sheet::text_at;
+use tables::VarName;
 use texts::{text_for, text_len, write_text};
+
+// The mark of a generated name, and the code of the one finding that can have such a name.
+const GENERATED: u32 = 1;
+
+const SHADOWS: u32 = 1002;
 
 // A name that is cited and that the table has not is no question that can be asked.
 fn cited(refusal: Refusal) -> Refusal
@@ -49,13 +55,15 @@ fn is_starred(code: u32, x: &[u8]) -> bool
     (code == 1001) & (x == b"*".as_slice())
 }
 
-// What a message is asked for: a finding's code, its name's index + 1 or 0, and its two details.
+// What a message is asked for: a finding's code, its name's index + 1 or 0, its two details, and the name's mark; with the mark 1 the name is the
+// id of a variable.
 #[derive(Clone, Copy, Debug, PartialEq, Eq)]
 pub struct Question {
     pub code: u32,
     pub name: u32,
     pub one: u32,
     pub two: u32,
+    pub mark: u32,
 }
 
 // The text of a finding, and of a name if one is cited, into the page.
@@ -80,8 +88,16 @@ fn say(a: Question, name: Option<&[u8]>, page: &mut [u8]) -> Result<usize, Refus
 
 // The message of a finding.
 pub fn message(s: &[u8], a: Question, page: &mut [u8]) -> Result<usize, Refusal>
-    ensures { Writes (message s.now a.code a.name a.one a.two) page.old page.new result }
+    ensures { Writes (message s.now a.code a.name a.one a.two a.mark) page.old page.new result }
 {
-    let text = find_text(s, a.name)?;
-    say(a, text, page)
+    if a.mark == 0 {
+        let text = find_text(s, a.name)?;
+        return say(a, text, page);
+    }
+    find_text(s, 0)?;
+    if a.mark != GENERATED || a.code != SHADOWS {
+        return Err(Refusal::Asked);
+    }
+    let name = VarName::new(a.name);
+    say(a, Some(name.text()), page)
 }

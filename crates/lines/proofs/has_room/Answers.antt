@@ -6,9 +6,9 @@ use mathlib.Core.Path.{◌≡◌, ap, sym, ◌∙◌}
 use lib.Dec.{leb}
 use lib.ListN.{length, length-append}
 use Rattle.lines.specs.Given.{text_of}
-use Rattle.lines.proofs.Sizes.{line-most, cited-short}
+use Rattle.lines.proofs.Sizes.{name-most}
 use Rattle.lines.proofs.Told.{told-next}
-use Rattle.lines.proofs.Most.{needed-first, first-small, needed-one, needed-next, needed-last, needed-enough, listed_small}
+use Rattle.lines.proofs.Most.{needed-first, first-small, needed-one, needed-next, needed-last, needed-enough, line-fits, listed_small}
 use Rattle.lines.proofs.has_room.Goals as goal
 
 pub overflow_add-need : goal.overflow_add-need
@@ -35,25 +35,24 @@ returns-then-need-room c =
 pub line_len-requires : goal.line_len-requires
 line_len-requires c =
     let names = c.args.names.now in
-    omega (arith, names.short, ap length c.text.ensures, cited-short names.section.now names.places.now c.nth-f.result.name)
+    let f = c.nth-f.result in
+    omega (arith, ap length (c.bytes.ensures ∙ c.text.ensures), name-most names.section.now names.places.now f.mark f.name (omega arith) names.short)
 
 pub overflow_add-need-in-loop-i : goal.overflow_add-need-in-loop-i
 overflow_add-need-in-loop-i c =
-    let names = c.args.names.now in
-    let f = c.nth-f.result in
-    let most = line-most f.code f.start f.end f.one f.two c.text.result.now (omega arith) (omega arith) (omega arith) in
-    omega (arith, most, c.line_len.ensures, ap length c.text.ensures, cited-short names.section.now names.places.now f.name, c.loop-i.invariant.small)
+    let fits = line-fits c.args.names.now c.args.found.now c.loop-i.i c.nth-f.result c.nth-f.ensures (c.bytes.ensures ∙ c.text.ensures) in
+    omega (arith, fits, c.line_len.ensures, c.loop-i.invariant.small)
 
 pub loop-i-preserved : goal.loop-i-preserved
 loop-i-preserved c =
     let names = c.args.names.now in
     let found = c.args.found.now in
-    let f = c.nth-f.result in
-    let most = line-most f.code f.start f.end f.one f.two c.text.result.now (omega arith) (omega arith) (omega arith) in
-    let longer = simp length-append at (ap length (told-next names found c.loop-i.i c.nth-f.ensures c.text.ensures)) in
+    let said = c.bytes.ensures ∙ c.text.ensures in
+    let fits = line-fits names found c.loop-i.i c.nth-f.result c.nth-f.ensures said in
+    let longer = simp length-append at (ap length (told-next names found c.loop-i.i c.nth-f.result c.nth-f.ensures said)) in
     record {
       same = rw c.loop-i.invariant.same (needed-next names found c.loop-i.i c.line_len.result (omega arith) (omega (arith, longer, c.line_len.ensures)));
-      small = omega (arith, most, c.line_len.ensures, ap length c.text.ensures, cited-short names.section.now names.places.now f.name, c.loop-i.invariant.small, c.loop-i.invariant.same, needed-one names found c.loop-i.i (omega arith));
+      small = omega (arith, fits, c.line_len.ensures, c.loop-i.invariant.small, c.loop-i.invariant.same, needed-one names found c.loop-i.i (omega arith));
     }
 
 pub returns : goal.returns

@@ -1,7 +1,7 @@
 -- The loop's invariant: the lines of the first i findings are laid.
 use Prim.Native.Nat.{◌+◌, ◌≤◌}
 use native.Mathlib.Omega.{arith}
-use mathlib.Core.Path.{ap}
+use mathlib.Core.Path.{ap, ◌∙◌}
 use mathlib.Core.List.{flat_map}
 use lib.ListN.{length, length-append, length-take, length-drop}
 use Rattle.texts.proofs.Laying.{lays-none, lays-then, lays-rest}
@@ -26,21 +26,21 @@ pub lay_line-at-requires : goal.lay_line-at-requires
 lay_line-at-requires c =
     let names = c.args.names.now in
     let found = c.args.found.now in
-    let longer = simp length-append at (ap length (told-next names found c.loop-i.i c.nth-f.ensures c.text.ensures)) in
+    let longer = simp length-append at (ap length (told-next names found c.loop-i.i c.nth-f.result c.nth-f.ensures (c.bytes.ensures ∙ c.text.ensures))) in
     simp (length-take, length-drop) (omega (arith, longer, c.loop-i.invariant, told-within names found (c.loop-i.i + 1) found.count (omega arith), c.requires))
 
 pub overflow_add-at : goal.overflow_add-at
 overflow_add-at c =
     let names = c.args.names.now in
     let found = c.args.found.now in
-    let longer = simp length-append at (ap length (told-next names found c.loop-i.i c.nth-f.ensures c.text.ensures)) in
+    let longer = simp length-append at (ap length (told-next names found c.loop-i.i c.nth-f.result c.nth-f.ensures (c.bytes.ensures ∙ c.text.ensures))) in
     omega (arith, longer, c.loop-i.invariant, c.lay_line-at.ensures, told-within names found (c.loop-i.i + 1) found.count (omega arith), c.requires, c.well_formed)
 
 pub loop-i-preserved : goal.loop-i-preserved
 loop-i-preserved c =
     let names = c.args.names.now in
     let found = c.args.found.now in
-    let next = told-next names found c.loop-i.i c.nth-f.ensures c.text.ensures in
-    let fits : c.loop-i.at + length (line_for c.nth-f.result.code c.nth-f.result.start c.nth-f.result.end c.nth-f.result.one c.nth-f.result.two c.text.result.now) ≤ length c.loop-i.out =
+    let next = told-next names found c.loop-i.i c.nth-f.result c.nth-f.ensures (c.bytes.ensures ∙ c.text.ensures) in
+    let fits : c.loop-i.at + length (line_for c.nth-f.result.code c.nth-f.result.start c.nth-f.result.end c.nth-f.result.one c.nth-f.result.two c.bytes.result.now) ≤ length c.loop-i.out =
     omega (arith, simp length-append at (ap length next), c.loop-i.invariant, told-within names found (c.loop-i.i + 1) found.count (omega arith), c.requires) in
     rw next (lays-then c.loop-i.invariant (lays-rest c.lay_line-at.ensures fits))

@@ -1,15 +1,14 @@
 -- The place that is found is that of the name.
-use Prim.Native.Nat.{ℕ, zero, suc, ◌-◌, ◌<◌, ◌≤◌}
+use Prim.Native.Nat.{ℕ, zero, suc, ◌<◌, ◌≤◌}
 use native.Mathlib.Omega.{arith}
 use mathlib.Core.Path.{◌≡◌, refl, ap, sym, ◌∙◌}
 use mathlib.Core.List.{List, [], ◌∷◌, map}
 use lib.ListN.{length, get_or}
 use denote.Bor.{Bor}
 use Rattle.std.proofs.Common.{rules}
-use Rattle.std.specs.Prelude.{Option, Some, None, MatchOption}
-use Rattle.std.specs.List.{HoldsAt}
+use Rattle.std.specs.Prelude.{Option, Some, None}
 use Rattle.tables.specs.Name.{name_at}
-use Rattle.lines.proofs.names.Names.text.Goals as goal
+use Rattle.lines.proofs.names.Names.listed.Goals as goal
 
 past : (s places : List ℕ) (i : ℕ) → length places ≤ i → get_or (map (name_at s) places) i [] ≡ []
 past s [] i h = refl
