@@ -1,5 +1,5 @@
 #!/usr/bin/env python3
-"""Makes the input and the expected output of the program `refusals`: small sheets that hold every cause 1 to 7 at every place where it
+"""Makes the input and the expected output of the program `refusals`: small sheets that hold every cause 1 to 6 at every place where it
 can arise, and accepted ones beside them.
 
     tools/refusals.py            writes crates/refusals/stdin and stdout
@@ -26,7 +26,7 @@ class Section:
     """The words of a section, read from the front; a missing or wrong word is cause 5."""
 
     def __init__(self, words, names):
-        self.words, self.at, self.names, self.binders = words, 0, names, []
+        self.words, self.at, self.names = words, 0, names
 
     def word(self, lo=0, hi=2**32):
         if self.at >= len(self.words) or not lo <= self.words[self.at] < hi:
@@ -45,7 +45,7 @@ class Section:
 
     def maybe(self):
         if self.word(0, 2):
-            self.binders.append(self.word())
+            self.word()
 
     def exprs(self, n, depth):
         for _ in range(n):
@@ -127,7 +127,7 @@ class Section:
         elif kind in (4, 13):
             self.projections()
         elif kind == 5:
-            self.binders.append(self.word())
+            self.word()
             self.expr(1)
         elif kind in (6, 7):
             self.pattern(1)
@@ -158,7 +158,6 @@ class Section:
             one()
         if self.at < len(self.words):
             raise Refused(5)
-        return self.binders
 
 
 def read_names(section, count):
@@ -192,11 +191,10 @@ def read_rows(words, count, names):
         if x >= names or not 1 <= kind <= 4 or start > end or v in ids:
             raise Refused(4)
         ids.append(v)
-    return ids
 
 
 def refusal(sheet):
-    """0, or the refusal 1 to 7 of document 01."""
+    """0, or the refusal 1 to 6 of document 01."""
     if len(sheet) % 4 or not 40 <= len(sheet) <= 8192:
         return 1
     words = struct.unpack("<%dI" % (len(sheet) // 4), sheet)
@@ -208,10 +206,11 @@ def refusal(sheet):
     rows, head, arms = (t - b for b in backs[1:])
     try:
         read_names(sheet[:4 * rows], counts[0])
-        ids = read_rows(words[rows:head], counts[1], counts[0])
+        read_rows(words[rows:head], counts[1], counts[0])
         clauses, union = Section(words[head:arms], counts[0]), Section(words[arms:t], counts[0])
-        binders = clauses.entire(clauses.clause, counts[2]) + union.entire(union.arm, counts[3])
-        return 0 if all(v in ids for v in binders) else 7
+        clauses.entire(clauses.clause, counts[2])
+        union.entire(union.arm, counts[3])
+        return 0
     except Refused as r:
         return r.args[0]
 
@@ -424,7 +423,7 @@ def made():
                        [12, 0, 0, 0, 1] + NULL + [1], [13, 0, 0, 0, 1], [13, 0, 0, 0, 2] + NULL):
             yield 0, placed([clause + deep(DEPTH)])
             yield 6, placed([clause + deep(DEPTH + 1)])
-        # 7: each binder, also where the walks don't look; yields and Var are free; 5 and 6 anywhere come first
+        # no binding is needed: each binder, also where the walks don't look, yields and Var; 5 and 6 after them
         unbound = pattern((None, [node(2)]))
         for clause in ([6, 0, 0] + unbound, [7, 0, 0] + unbound, [1, 0, 0, 0] + unbound, [1, 0, 0, 1] + pattern((2, [])),
                        [6, 0, 0] + pattern((None, [node(1), node(2, None, 2)])), [5, 0, 0, 2] + NULL, [5, 0, 0, 1, 20] + unbound,
@@ -435,19 +434,19 @@ def made():
                        [8, 0, 0, 1, 3, 20] + unbound, [9, 0, 0, 1, 1, 20] + unbound, [10, 0, 0, 1, 20] + unbound,
                        [12, 0, 0, 0, 0, 1, 20] + unbound, [12, 0, 0, 0, 0, 2, 22, 0, 0, 0] + unbound + NULL * 2, [13, 0, 0, 0, 1, 20] + unbound,
                        [13, 0, 0, 1, 1] + NULL + [1, 22, 0, 0, 0] + pattern((2, [])) + NULL):
-            yield 7, placed([clause])
-            yield 7, placed([clause, where(NULL)])
+            yield 0, placed([clause])
+            yield 0, placed([clause, where(NULL)])
             yield 5, placed([clause, where([99])])
             yield 6, placed([clause, where(deep(DEPTH + 1))])
         yield 0, placed([where([7, 2**32 - 1])])
         yield 0, placed([[11, 0, 0, 0, 1, 0, 0, 2**32 - 1]])
-    # head and arms together: an unread word of the head comes before the arms; 7 in the head after 5 and 6 in an arm
+    # head and arms together: an unread word of the head comes before the arms; no binding is needed in either
     yield 5, sheet(head=[where(NULL), [1]], counts={2: 1}, arms=[(0, 0, [where(deep(DEPTH + 1))])])
     yield 6, sheet(head=[where(NULL)], arms=[(0, 0, [where(deep(DEPTH + 1))])])
     yield 5, sheet(head=[[5, 0, 0, 3] + NULL], arms=[(0, 0, [where([0])])])
     yield 6, sheet(head=[[5, 0, 0, 3] + NULL], arms=[(0, 0, [where(deep(DEPTH + 1))])])
-    yield 7, sheet(head=[[5, 0, 0, 3] + NULL], arms=[(0, 0, [where(deep(DEPTH))])])
-    yield 7, sheet(arms=[(0, 0, []), (0, 0, [[5, 0, 0, 3] + NULL])])
+    yield 0, sheet(head=[[5, 0, 0, 3] + NULL], arms=[(0, 0, [where(deep(DEPTH))])])
+    yield 0, sheet(arms=[(0, 0, []), (0, 0, [[5, 0, 0, 3] + NULL])])
     yield 5, sheet(arms=[(1, 0, [])])
     yield 5, sheet(arms=[(0, 0, [])], counts={3: 2})
     yield 5, sheet(arms=[(0, 0, [])], counts={3: 0})
