@@ -19,6 +19,16 @@ use std::io::Write;
 // A word of the marker record, which is no finding's code.
 const MARK: u32 = 7;
 
+const MARKER: Finding = Finding {
+    code: MARK,
+    start: MARK,
+    end: MARK,
+    name: MARK,
+    one: MARK,
+    two: MARK,
+    mark: MARK,
+};
+
 // The check call with a list of records in place of the flat findings, which stay as they are.
 fn check_into(s: &[u8], lists: &mut Lists<u32>, records: &mut [Finding]) -> Result<Counts, Refusal>
     ensures still { IsStill lists.old lists.new }
@@ -40,7 +50,7 @@ fn check_into(s: &[u8], lists: &mut Lists<u32>, records: &mut [Finding]) -> Resu
 // The check call with the first n entries of a list of 2,048 records f; then all 2,048 of them, as flat findings.
 fn run(s: &[u8], n: usize, f: Finding, lists: &mut Lists<u32>) -> Result<Counts, Refusal>
     requires few { n ≤ 2048 }
-    requires room { 12288 ≤ length lists.old.findings.now }
+    requires room { 14336 ≤ length lists.old.findings.now }
     ensures still { IsStill lists.old lists.new }
     ensures ran { Ran s.now (marked (lent lists.old) n f) n f result lists.old.findings.now lists.new.findings.now }
 {
@@ -52,11 +62,11 @@ fn run(s: &[u8], n: usize, f: Finding, lists: &mut Lists<u32>) -> Result<Counts,
 
 // How many of the entries from a place on are the marker.
 fn markers(flat: &[u32], from: usize) -> usize {
-    let (entries, _) = flat.as_chunks::<6>();
+    let (entries, _) = flat.as_chunks::<7>();
     entries
         .iter()
         .skip(from)
-        .filter(|entry| **entry == [MARK; 6])
+        .filter(|entry| **entry == [MARK; 7])
         .count()
 }
 
@@ -66,10 +76,10 @@ fn report<W: Write>(out: &mut W, s: &[u8], n: usize) -> io::Result<()>
     requires { n ≤ 2048 }
 {
     let mut scopes = [0u32; 8192];
-    let mut bindings = [0u32; 12288];
-    let mut carried = [0u32; 6144];
+    let mut bindings = [0u32; 14336];
+    let mut carried = [0u32; 8192];
     let mut recorded = [0u32; 10240];
-    let mut findings = [0u32; 12288];
+    let mut findings = [0u32; 14336];
     let mut lists = Lists {
         scopes: &mut scopes,
         bindings: &mut bindings,
@@ -77,7 +87,7 @@ fn report<W: Write>(out: &mut W, s: &[u8], n: usize) -> io::Result<()>
         recorded: &mut recorded,
         findings: &mut findings,
     };
-    let answer = run(s, n, Finding::from([MARK; 6]), &mut lists);
+    let answer = run(s, n, MARKER, &mut lists);
     match answer {
         Ok(counts) => show_records(out, &findings, counts.findings)?,
         Err(refusal) => writeln!(out, "{refusal}")?,

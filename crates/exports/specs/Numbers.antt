@@ -12,12 +12,12 @@ use Rattle.checker.specs.declared.Counts.{Counts}
 abbrev pub flat : (scopes bindings carried recorded findings : List ℕ) → Lent ℕ
 flat a b c d e = record { scopes = a; bindings = b; carried = c; recorded = d; findings = e }
 
--- what is answered, and what is left, where any warning number but 0 stands for on, and a finding has six words
+-- what is answered, and what is left, where any warning number but 0 stands for on, and a finding has seven words
 abbrev pub answer_by : ℕ → List ℕ → Lent ℕ → Sheet Counts
-answer_by warnings s l = answer_in (not (eqb warnings 0)) s l (length l.findings / 6)
+answer_by warnings s l = answer_in (not (eqb warnings 0)) s l (length l.findings / 7)
 
 abbrev pub left_by : ℕ → List ℕ → Lent ℕ → Lent ℕ
-left_by warnings s l = left_in (not (eqb warnings 0)) s l (length l.findings / 6)
+left_by warnings s l = left_in (not (eqb warnings 0)) s l (length l.findings / 7)
 
 -- 256 where the lists are filled
 abbrev pub checked_number : Sheet Counts → ℕ

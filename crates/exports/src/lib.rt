@@ -2,12 +2,13 @@
 #![tactic(auto)]
 
 ghost use Rattle.std.specs.Prelude.{◌≡◌};
+ghost use Rattle.scope.specs.Graph as graph;
 ghost use Rattle.scope.specs.Lookup.{lookup};
 ghost use Rattle.scope.specs.Offset.{offset};
 ghost use Rattle.exports.specs.Numbers.{flat, answer_by, left_by, checked_number, with_counts, looked_number, with_found, offset_number};
 
 use checker::{Lists, check_words};
-use scope::{lookup, scope_at_offset};
+use scope::{Name, lookup, scope_at_offset};
 
 // The lists of a sheet and their five counts: 256, or the refusal's number. Eight parameters: a list each, as C has them.
 #[unsafe(no_mangle)]
@@ -25,7 +26,7 @@ pub extern "C" fn cenguatu_check(
     ensures lists { flat scopes.new bindings.new carried.new recorded.new findings.new ≡ left_by warnings sheet.now (flat scopes.old bindings.old carried.old recorded.old findings.old) }
     ensures counts { counts.new ≡ with_counts (answer_by warnings sheet.now (flat scopes.old bindings.old carried.old recorded.old findings.old)) counts.old }
 {
-    let room = findings.len() / 6;
+    let room = findings.len() / 7;
     let mut lists = Lists {
         scopes,
         bindings,
@@ -42,8 +43,8 @@ pub extern "C" fn cenguatu_check(
     }
 }
 
-// 256 where a name is found, whose variable and the scope that binds it go into `found`; 0 for nothing, or the refusal's number. Nine
-// parameters: C gives each list with its count.
+// 256 where a name is found, whose variable and the scope that binds it go into `found`; 0 for nothing, or the refusal's number. Ten
+// parameters: C gives each list with its count, and a name's word and mark each for itself.
 #[unsafe(no_mangle)]
 pub extern "C" fn cenguatu_lookup(
     scopes: &[u32],
@@ -54,11 +55,13 @@ pub extern "C" fn cenguatu_lookup(
     c: usize,
     scope: u32,
     name: u32,
+    mark: u32,
     found: &mut [u32; 2],
 ) -> u32
-    ensures number { result ≡ looked_number (lookup a scopes.now b bindings.now c carried.now scope name) }
-    ensures found { found.new ≡ with_found (lookup a scopes.now b bindings.now c carried.now scope name) found.old }
+    ensures number { result ≡ looked_number (lookup a scopes.now b bindings.now c carried.now scope (graph.name mark name)) }
+    ensures found { found.new ≡ with_found (lookup a scopes.now b bindings.now c carried.now scope (graph.name mark name)) found.old }
 {
+    let name = Name { mark, word: name };
     match lookup(scopes, a, bindings, b, carried, c, scope, name) {
         Ok(Some(looked)) => {
             *found = [looked.variable, looked.scope];

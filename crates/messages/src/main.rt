@@ -1,4 +1,4 @@
-// A sheet on standard input: the message or the refusal of every code, name and detail in a range, a line each. After a message stand the
+// A sheet on standard input: the message or the refusal of every mark, code, name and detail in a range, a line each. After a message stand the
 // answers for a page that it fills and for one a byte shorter: 0, or the refusal's number. No heap: what is read and written goes through
 // arrays of the largest size.
 #![tactic(auto)]
@@ -16,7 +16,7 @@ fn cause(s: &[u8], a: Question, page: &mut [u8]) -> u32 {
 
 fn line<W: Write>(out: &mut W, s: &[u8], a: Question) -> io::Result<()> {
     let mut page = [0u8; 512];
-    write!(out, "{} {} {} {} ", a.code, a.name, a.one, a.two)?;
+    write!(out, "{} {} {} {} {} ", a.code, a.name, a.one, a.two, a.mark)?;
     match message(s, a, &mut page) {
         Ok(n) => {
             let text = &mut page[..n];
@@ -37,17 +37,20 @@ fn main(rt: HostRuntime) -> io::Result<()> {
     let mut room = [0u8; 8193];
     let n = streams::read_full(&mut rt.stdin(), &mut room)?;
     let mut out = rt.stdout();
-    for code in CODES {
-        for name in 0..4 {
-            for one in 0..5 {
-                for two in 0..12 {
-                    let a = Question {
-                        code,
-                        name,
-                        one,
-                        two,
-                    };
-                    line(&mut out, &room[..n], a)?;
+    for mark in 0..3 {
+        for code in CODES {
+            for name in 0..4 {
+                for one in 0..5 {
+                    for two in 0..12 {
+                        let a = Question {
+                            code,
+                            name,
+                            one,
+                            two,
+                            mark,
+                        };
+                        line(&mut out, &room[..n], a)?;
+                    }
                 }
             }
         }

@@ -23,17 +23,17 @@ fn scope_line<W: Write>(out: &mut W, entry: &[u32; 4]) -> io::Result<()> {
     writeln!(out, "{kind} {parent} {start} {end}")
 }
 
-// Scope, name, variable, kind, the variable replaced or `-`.
-fn binding_line<W: Write>(out: &mut W, entry: &[u32; 6]) -> io::Result<()> {
-    let [scope, name, variable, kind, replaces, replaced] = *entry;
+// Scope, name, variable, kind, the variable replaced or `-`, the name's mark.
+fn binding_line<W: Write>(out: &mut W, entry: &[u32; 7]) -> io::Result<()> {
+    let [scope, name, variable, kind, replaces, replaced, mark] = *entry;
     let replaced = Shown((replaces != 0).then_some(replaced));
-    writeln!(out, "{scope} {name} {variable} {kind} {replaced}")
+    writeln!(out, "{scope} {name} {variable} {kind} {replaced} {mark}")
 }
 
-// Barrier, name, variable.
-fn carried_line<W: Write>(out: &mut W, entry: &[u32; 3]) -> io::Result<()> {
-    let [barrier, name, variable] = *entry;
-    writeln!(out, "{barrier} {name} {variable}")
+// Barrier, name, variable, the name's mark.
+fn carried_line<W: Write>(out: &mut W, entry: &[u32; 4]) -> io::Result<()> {
+    let [barrier, name, variable, mark] = *entry;
+    writeln!(out, "{barrier} {name} {variable} {mark}")
 }
 
 // Use id, and variable, kind and via_projection if there is an answer.
@@ -45,10 +45,10 @@ fn recorded_line<W: Write>(out: &mut W, entry: &[u32; 5]) -> io::Result<()> {
     writeln!(out, "{id} resolved {variable} {kind} {via}")
 }
 
-// Code, start, end, name + 1 or 0, two details.
-fn record_line<W: Write>(out: &mut W, entry: &[u32; 6]) -> io::Result<()> {
-    let [code, start, end, name, one, two] = *entry;
-    writeln!(out, "{code} {start} {end} {name} {one} {two}")
+// Code, start, end, name + 1 or 0, two details, the name's mark; with the mark 1 the name is an id.
+fn record_line<W: Write>(out: &mut W, entry: &[u32; 7]) -> io::Result<()> {
+    let [code, start, end, name, one, two, mark] = *entry;
+    writeln!(out, "{code} {start} {end} {name} {one} {two} {mark}")
 }
 
 // The first n entries of a list.
@@ -73,7 +73,7 @@ pub fn show_records<W: Write>(out: &mut W, words: &[u32], n: usize) -> io::Resul
     list(
         out,
         "records",
-        words.as_chunks::<6>().0,
+        words.as_chunks::<7>().0,
         n,
         record_line::<W>,
     )
@@ -83,10 +83,10 @@ pub fn show_records<W: Write>(out: &mut W, words: &[u32], n: usize) -> io::Resul
 // them would lend them by a method, and what a method's result borrows from a field isn't known afterwards.)
 pub fn show_lists<W: Write>(out: &mut W, s: &[u8]) -> io::Result<()> {
     let mut scopes = [0u32; 8192];
-    let mut bindings = [0u32; 12288];
-    let mut carried = [0u32; 6144];
+    let mut bindings = [0u32; 14336];
+    let mut carried = [0u32; 8192];
     let mut recorded = [0u32; 10240];
-    let mut findings = [0u32; 12288];
+    let mut findings = [0u32; 14336];
     let mut lists = Lists {
         scopes: &mut scopes,
         bindings: &mut bindings,
@@ -105,14 +105,14 @@ pub fn show_lists<W: Write>(out: &mut W, s: &[u8]) -> io::Result<()> {
         list(
             out,
             "bindings",
-            bindings.as_chunks::<6>().0,
+            bindings.as_chunks::<7>().0,
             counts.bindings,
             binding_line::<W>,
         )?;
         list(
             out,
             "carried",
-            carried.as_chunks::<3>().0,
+            carried.as_chunks::<4>().0,
             counts.carried,
             carried_line::<W>,
         )?;
