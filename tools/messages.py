@@ -39,20 +39,28 @@ PUSHES = {
 }
 
 
-def message(code, name, one, two):
-    """The text, or None for refusal 9. name is an index + 1, or 0."""
-    push = PUSHES.get((code, one))
-    if push is None or name >= len(NAMES) or (code == 1001 and NAMES[name] == "*"):
+def name_text(name, mark):
+    """The text of a name, "" for none, or None where there is none such: an index + 1 or 0, with the mark 1 an id."""
+    if mark == 1:
+        return "__var%d" % name
+    return NAMES[name] if mark == 0 and name < len(NAMES) else None
+
+
+def message(code, name, one, two, mark):
+    """The text, or None for refusal 9."""
+    push, cited = PUSHES.get((code, one)), name_text(name, mark)
+    if push is None or cited is None or (code == 1001 and cited == "*") or (mark == 1 and code != 1002):
         return None
     text, named, details = push
-    if named != (name > 0) or two not in details:
+    if named != (cited != "") or two not in details:
         return None
-    return text.format(name=NAMES[name], kind=(KINDS + [""] * 9)[two], type=(TYPES + [""] * 9)[two])
+    return text.format(name=cited, kind=(KINDS + [""] * 9)[two], type=(TYPES + [""] * 9)[two])
 
 
-for code in [1000, 1001, 1002, 2007, 2008, 2011, 5010, 5011, 5012]:
-    for name in range(4):
-        for one in range(5):
-            for two in range(12):
-                text = message(code, name, one, two)
-                print(code, name, one, two, "refused 9" if text is None else text + " 0 10")
+for mark in range(3):
+    for code in [1000, 1001, 1002, 2007, 2008, 2011, 5010, 5011, 5012]:
+        for name in range(4):
+            for one in range(5):
+                for two in range(12):
+                    text = message(code, name, one, two, mark)
+                    print(code, name, one, two, mark, "refused 9" if text is None else text + " 0 10")

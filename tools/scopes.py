@@ -99,6 +99,13 @@ def use_id(name):
 
 # ---- the tree
 
+# A name is its index, or for a generated one, which has the mark 1, -1 - the id of its variable.
+
+def name_of(word, mark):
+    return word if mark == 0 else -1 - word
+
+
+
 # A line of the tree is a row of pieces: a text, a Name, a Mark or the number of a scope. A line of text has a comma before a mark.
 
 class Name:
@@ -143,8 +150,14 @@ class Tree:
         lists = lists_of(printed_lists)
         self.names = names_of(sheet, printed_names)
         self.scopes = [fields(line, 4) for line in lists["scopes"]]
-        self.bindings = [fields(line, 5) for line in lists["bindings"]]
-        self.carried = [fields(line, 3) for line in lists["carried"]]
+        self.bindings = []
+        for line in lists["bindings"]:
+            scope, name, variable, kind, replaced, mark = fields(line, 6)
+            self.bindings.append((scope, name_of(name, mark), variable, kind, replaced))
+        self.carried = []
+        for line in lists["carried"]:
+            barrier, name, variable, mark = fields(line, 4)
+            self.carried.append((barrier, name_of(name, mark), variable))
         self.uses = [Use(line) for line in lists["recorded"]]
         self.bound_in = [[] for _ in self.scopes]
         for scope, name, variable, kind, replaced in self.bindings:
@@ -155,8 +168,8 @@ class Tree:
         self.carries()
         self.ends = self.place_uses(variables_of(sheet))
 
-    def name(self, index):
-        return Name(self.names[index])
+    def name(self, name):
+        return Name(self.names[name] if name >= 0 else b"__var%d" % (-1 - name))
 
     def barrier(self, scope):
         """The WITH over which all names of a scope came, or none."""
@@ -201,7 +214,8 @@ class Tree:
         for name, i in enumerate(ids):
             names.setdefault(i, []).append(name)
         for scope, name, variable, kind, replaced in self.bindings:
-            by_name.setdefault((ids[name], variable), {})[scope] = True
+            if name >= 0:
+                by_name.setdefault((ids[name], variable), {})[scope] = True
             by_variable.setdefault(variable, {})[scope] = True
         several, nowhere, missing = [], [], []
         for use in self.uses:

@@ -54,9 +54,21 @@ def match(pattern, line):
     return found.groups()
 
 
+class Index(dict):
+    """The index of each name, and of the text of a generated one -1 - the id."""
+
+    def __init__(self, names):
+        super().__init__((name, i) for i, name in enumerate(names))
+
+    def __missing__(self, text):
+        found = re.fullmatch(rb"__var(0|[1-9][0-9]*)", text)
+        must(found, "no name", text)
+        return -1 - int(found[1])
+
+
 def read_back(text, names):
     """The lists of a tree: scopes, bindings and carried by scope, and each use with the scopes that it is said to have."""
-    index = {name: i for i, name in enumerate(names)}
+    index = Index(names)
     made, bindings, carried, uses, above, end = {}, {}, {}, [], [], None
     must(text.endswith("\n"), "no line feed at the end")
     for row in text[:-1].split("\n"):
@@ -78,7 +90,7 @@ def read_back(text, names):
             bindings.setdefault(above[-1], []).append((index[unescaped(name)], int(variable), scopes.KINDS.index(kind) + 1, numbers([replaced])[0]))
         elif line.startswith("carries "):
             variable, name, before = match(CARRIES, line)
-            must(before is None or unescaped(before) in index, "no name", row)
+            must(before is None or index[unescaped(before)] is not None, "no name", row)
             carried.setdefault(above[-1], []).append((index[unescaped(name)], int(variable)))
         else:
             what, variable, kind, via, several = match(USE, line)
@@ -106,8 +118,8 @@ def check_text(text, printed, names):
             entries.append([None if w == "-" else int(w) if w.isdigit() else w for w in line.split(" ")])
     made, bindings, carried, uses = read_back(text, names)
     must(made == [tuple(s) for s in lists["scopes"]], "other scopes")
-    must(bindings == by_scope(lists["bindings"]), "other bindings")
-    must(carried == by_scope(lists["carried"]), "other carried names")
+    must(bindings == by_scope([s, scopes.name_of(n, m), *rest] for s, n, *rest, m in lists["bindings"]), "other bindings")
+    must(carried == by_scope([s, scopes.name_of(n, m), *rest] for s, n, *rest, m in lists["carried"]), "other carried names")
     told = {}
     for end, found, var, variable, kind, via, where in uses:
         ids = {scopes.use_id(names[i]) for i in found} | ({var} if var is not None else set())
@@ -202,8 +214,8 @@ def large():
         parent = "-" if i == 0 else "0" if i % 600 == 0 else str(i - 1)
         lines.append("%d %s %d %d" % (kinds[i % 4], parent, i, i + 1))
     bound = [i for i in range(2000) if i % 4 in (1, 3)]
-    lines += ["bindings 1000"] + ["%d 0 %d 1 -" % (i, i // 2) for i in bound]
-    lines += ["carried 500"] + ["%d 0 %d" % (i, i // 2) for i in range(2, 2000, 4)]
+    lines += ["bindings 1000"] + ["%d 0 %d 1 - 0" % (i, i // 2) for i in bound]
+    lines += ["carried 500"] + ["%d 0 %d 0" % (i, i // 2) for i in range(2, 2000, 4)]
     lines += ["recorded 2", "1 resolved 1 1 0", "%d resolved 1 1 1" % scopes.use_id(b"a"), "records 0", ""]
     return given, "\n".join(lines).encode(), b"a\nrefused 5\n"
 
