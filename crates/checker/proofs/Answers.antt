@@ -16,7 +16,7 @@ use lib.ListN.{length, take}
 use lib.Seq.{take_at}
 use Rattle.words.specs.Words.{words}
 use Rattle.scope.specs.Graph.{Carried}
-use Rattle.scope.specs.Flat.{carrieds_of}
+use Rattle.scope.specs.Flat.{carried_width, carrieds_of}
 use Rattle.sheet.specs.Trailer.{max_bytes}
 use Rattle.sheet.specs.Statement.{Statement}
 use Rattle.sheet.specs.Read.{accepted, refused, read_sheet}
@@ -63,13 +63,13 @@ pub same-fits : (warns : Bool) (s : List ℕ) (old : Lent ℕ) (room : ℕ) {a b
 same-fits warns s old room {a} {b} p q f = let e : a ≡ b = cc in subst (λ (st : Statement). fits (length (words s)) (counts_of warns st) old room ≡ true) e f
 
 module _ {warns : Bool} {s was has : List ℕ} {x : Index} {a : Scratch} (h : Heard warns s a was has x) where
-  pub copied : {old new : List ℕ} → a.walk.taken * 3 ≤ length was → a.walk.taken * 3 ≤ length old → new ≡ filled old (take (a.walk.taken * 3) has) → Holds carried_words old new a.walk.taken (carried_list warns h.statement)
+  pub copied : {old new : List ℕ} → a.walk.taken * carried_width ≤ length was → a.walk.taken * carried_width ≤ length old → new ≡ filled old (take (a.walk.taken * carried_width) has) → Holds carried_words old new a.walk.taken (carried_list warns h.statement)
   unfolding filled
   copied {old} {new} p q e =
       let cs = carried_list warns h.statement in
       let ws = flat_map carried_words cs in
-      let n : length ws ≡ a.walk.taken * 3 = length-flat carried_words 3 sized-carried cs ∙ ap (λ (n : ℕ). n * 3) (sym h.taken) in
-      let same : take (a.walk.taken * 3) has ≡ ws = ap (take (a.walk.taken * 3)) (h.carries p).wrote ∙ take_at ws _ (a.walk.taken * 3) n in
+      let n : length ws ≡ a.walk.taken * carried_width = length-flat carried_words carried_width sized-carried cs ∙ ap (λ (n : ℕ). n * carried_width) (sym h.taken) in
+      let same : take (a.walk.taken * carried_width) has ≡ ws = ap (take (a.walk.taken * carried_width)) (h.carries p).wrote ∙ take_at ws _ (a.walk.taken * carried_width) n in
       let wrote : new ≡ filled old ws = e ∙ ap (filled old) same in
       record { count = h.taken; wrote = wrote; kept = ap length wrote ∙ length-filled old ws (omega arith) }
 
@@ -80,7 +80,7 @@ module _ {warns : Bool} {s was has : List ℕ} {x : Index} {a : Scratch} (h : He
     pub lengths : Long (length (words s)) (counts_of warns h.statement) old
     lengths = long (length (words s)) (counts_of warns h.statement) old room f
 
-    pub carried-fits : a.walk.taken * 3 ≤ length old.carried
+    pub carried-fits : a.walk.taken * carried_width ≤ length old.carried
     unfolding counts_of
     carried-fits = omega (arith, lengths.carried, h.taken)
 

@@ -14,6 +14,7 @@ use Rattle.theorems.specs.Compare.{blank_scope, blank_finding, number_scope, num
 use Rattle.theorems.specs.Site.{Site, part_log, key_scopes}
 use Rattle.theorems.specs.InLists.{kinds_after}
 use Rattle.finding.specs.Flat.{findings_of}
+use Rattle.entries.specs.Filled.{recorded_width}
 use Rattle.checker.specs.Checked.{Lent, answer_in, left_in}
 use Rattle.checker.specs.declared.Counts.{Counts}
 
@@ -41,7 +42,7 @@ entries_in n l =
       scopes = scopes_of n.scopes l.scopes;
       bindings = bindings_of n.bindings l.bindings;
       carried = carrieds_of n.carried l.carried;
-      recorded = entries_of 5 write_of n.recorded l.recorded;
+      recorded = entries_of recorded_width write_of n.recorded l.recorded;
       findings = findings_of n.findings l.findings;
     }
 

@@ -6,7 +6,9 @@ use Rattle.words.specs.Words.{words}
 use Rattle.sheet.specs.Statement.{Statement}
 use Rattle.sheet.specs.Read.{Sheet, accepted, refused, read_sheet}
 use Rattle.semantics.specs.Lists.{scopes, bindings, carried_list, recorded, findings}
-use Rattle.entries.specs.Filled.{with_scopes, with_bindings, with_carried, with_recorded, with_findings}
+use Rattle.scope.specs.Flat.{scope_width, binding_width, carried_width}
+use Rattle.finding.specs.Flat.{finding_width}
+use Rattle.entries.specs.Filled.{recorded_width, with_scopes, with_bindings, with_carried, with_recorded, with_findings}
 use Rattle.checker.specs.Room.{enough}
 use Rattle.checker.specs.declared.Counts.{Counts}
 use Rattle.checker.specs.declared.Lists.{Lists}
@@ -33,9 +35,9 @@ pub record IsStill {F : Type 0} (old new : Lists F) : Type 0 where
 -- room in each list for so many entries
 unfoldable pub roomy : Counts → Lent ℕ → Bool
 roomy n l =
-    enough n.scopes (length l.scopes) 4
-    && (enough n.bindings (length l.bindings) 6
-    && (enough n.carried (length l.carried) 3 && (enough n.recorded (length l.recorded) 5 && enough n.findings (length l.findings) 6)))
+    enough n.scopes (length l.scopes) scope_width
+    && (enough n.bindings (length l.bindings) binding_width
+    && (enough n.carried (length l.carried) carried_width && (enough n.recorded (length l.recorded) recorded_width && enough n.findings (length l.findings) finding_width)))
 
 -- an entry for each of n words
 unfoldable pub each : ℕ → Counts

@@ -4,6 +4,7 @@ use Rattle.words.specs.Words.{words}
 use Rattle.sheet.specs.Trailer.{places_of}
 use Rattle.sheet.specs.Statement.{Statement}
 use Rattle.sheet.specs.Read.{accepted, read_sheet}
+use Rattle.scope.specs.Flat.{scope_width, binding_width, carried_width}
 use Rattle.scope.specs.Graph.{Entry}
 use Rattle.semantics.specs.Log.{Event, scopes_in, answers_in, finds_in}
 use Rattle.semantics.specs.World.{kind_of, world_of}
@@ -16,8 +17,8 @@ use Rattle.rows.specs.declared.Rows.{Rows}
 use Rattle.rows.specs.declared.Index.{Index}
 use Rattle.steps.specs.declared.log.Log.{Log}
 use Rattle.sheet_walk.specs.declared.Scratch.{Scratch}
-use Rattle.finding.specs.Flat.{finding_words}
-use Rattle.entries.specs.Filled.{scope_words, binding_words, carried_words, recorded_words}
+use Rattle.finding.specs.Flat.{finding_width, finding_words}
+use Rattle.entries.specs.Filled.{scope_words, binding_words, carried_words, recorded_width, recorded_words}
 use Rattle.entries.specs.Adding.{Holds}
 use Rattle.lists_fill.specs.Said.{id_in, all_in, all_told}
 use Rattle.lists_fill.specs.Weaving.{kind_in, woven_in}
@@ -27,7 +28,7 @@ use Rattle.checker.specs.declared.Counts.{Counts}
 
 -- what is looked at of `fits`: the rest follows (the law `fits_by`)
 abbrev pub fitting : (n made taken : ℕ) → Lent ℕ → ℕ → Bool
-fitting n made taken l room = (roomy (each n) l && leb n room) && (enough made (length l.bindings) 6 && enough taken (length l.carried) 3)
+fitting n made taken l room = (roomy (each n) l && leb n room) && (enough made (length l.bindings) binding_width && enough taken (length l.carried) carried_width)
 
 -- the use ids of a sheet's names, of words that begin with them
 abbrev pub uses_in : (ws ids : List ℕ) → List ℕ
@@ -44,7 +45,7 @@ pub record Heard (warns : Bool) (s : List ℕ) (a : Scratch) (was has : List ℕ
   pub kinds : all_told a.walk.log ≡ kinds (world_of warns statement) statement.head
   pub made : a.walk.made ≡ length (bindings warns statement)
   pub taken : a.walk.taken ≡ length (carried_list warns statement)
-  pub carries : a.walk.taken * 3 ≤ length was → Holds carried_words was has a.walk.taken (carried_list warns statement)
+  pub carries : a.walk.taken * carried_width ≤ length was → Holds carried_words was has a.walk.taken (carried_list warns statement)
   pub stands : Stands x (words s) a.chains.now
   pub kinded : kind_in x (words s) ≡ kind_of (world_of warns statement)
   pub few : a.walk.log.said + a.walk.log.told ≤ length (words s)
@@ -53,26 +54,26 @@ pub record Heard (warns : Bool) (s : List ℕ) (a : Scratch) (was has : List ℕ
 -- what the bindings of a run ask, and that a list has them, if it has room
 pub record Bindable (r : Rows) (list : List ℕ) (taken : ℕ) (l : Log) (stamps : List ℕ) : Type 0 where
   pub standing : Standing r
-  pub lent : taken * 3 ≤ length list
+  pub lent : taken * carried_width ≤ length list
   pub told : l.said * 6 ≤ length l.words.now
   pub stamped : 1 ≤ length stamps
 
 abbrev pub Bound : (r : Rows) (list : List ℕ) (taken : ℕ) (l : Log) (old new : List ℕ) (k : ℕ) → Type 0
 Bound r list taken l old new k =
     let all = woven_in r.index (words r.bytes.now) l taken list in
-    (id : ℕ → ℕ) → length (all id) * 6 ≤ length old → Holds binding_words old new k (all id)
+    (id : ℕ → ℕ) → length (all id) * binding_width ≤ length old → Holds binding_words old new k (all id)
 
 -- so much stands in the log and in the carried list, and the lists that are filled as it comes have room for it
 pub record Fitting (ws : List ℕ) (x : Index) (a : Scratch) (l : Lent ℕ) : Type 0 where
   pub trailed : 10 ≤ length ws
   pub named : (places_of ws).names ≤ length a.ids.now
   pub stands : Stands x ws a.chains.now
-  pub lent : a.walk.taken * 3 ≤ length l.carried
+  pub lent : a.walk.taken * carried_width ≤ length l.carried
   pub stamped : 1 ≤ length a.held.now
   pub wide : (a.walk.log.said + a.walk.log.told) * 6 ≤ length a.walk.log.words.now
-  pub scopes : a.walk.log.said * 4 ≤ length l.scopes
-  pub recorded : a.walk.log.said * 5 ≤ length l.recorded
-  pub findings : (a.walk.log.said + a.walk.log.told) * 6 ≤ length l.findings
+  pub scopes : a.walk.log.said * scope_width ≤ length l.scopes
+  pub recorded : a.walk.log.said * recorded_width ≤ length l.recorded
+  pub findings : (a.walk.log.said + a.walk.log.told) * finding_width ≤ length l.findings
 
 -- the lists have what the events, the carried list and the kind walk's findings give
 abbrev pub all_events : List ℕ → Scratch → List Event
@@ -84,7 +85,7 @@ module _ (ws : List ℕ) (x : Index) (a : Scratch) where
 
   pub record Filling (old : Lent ℕ) (n : Counts) (new : Lent ℕ) : Type 0 where
     pub scopes : Holds scope_words old.scopes new.scopes n.scopes (scopes_in (all_events ws a))
-    pub bindings : length (all_bound old.carried) * 6 ≤ length old.bindings → Holds binding_words old.bindings new.bindings n.bindings (all_bound old.carried)
+    pub bindings : length (all_bound old.carried) * binding_width ≤ length old.bindings → Holds binding_words old.bindings new.bindings n.bindings (all_bound old.carried)
     pub carried : n.carried ≡ a.walk.taken
     pub kept : new.carried ≡ old.carried
     pub recorded : Holds recorded_words old.recorded new.recorded n.recorded (notes (answers_in (all_events ws a)) [])

@@ -1,7 +1,8 @@
 // The check call: a sheet's scopes, bindings, carried names, recorded uses and findings, into lists that are lent; or a refusal, 1 to 8,
-// which alters none of them. Lists are flat words, an entry each: scopes 4 (kind, parent + 1 or 0, start, end), bindings 6 (scope, name,
-// variable, kind, 1 if it replaced one, the variable replaced or 0), carried 3 (barrier, name, variable), recorded 5 (use id, 1 found or 0
-// unresolved, variable, kind, via_projection), findings 6 (code, start, end, name + 1 or 0, two details).
+// which alters none of them. Lists are flat words, an entry each: scopes 4 (kind, parent + 1 or 0, start, end), bindings 7 (scope, name,
+// variable, kind, 1 if it replaced one, the variable replaced or 0, the name's mark), carried 4 (barrier, name, variable, mark), recorded 5 (use id, 1
+// found or 0 unresolved, variable, kind, via_projection), findings 7 (code, start, end, name + 1 or 0, two details, mark). A name is an index of the
+// sheet with the mark 0, or the id of a variable with the mark 1.
 #![tactic(auto)]
 
 ghost use Rattle.std.specs.Prelude.{◌≡◌, true, ◌+◌, ◌*◌, ◌≤◌, length, take, IfOk, IfErr};
@@ -14,6 +15,7 @@ ghost use Rattle.checker.specs.Room.{enough};
 ghost use Rattle.checker.specs.Filling.{fitting, Heard, Bindable, Bound, Fitting, Filling, Again};
 ghost use Rattle.checker.specs.Checked.{lent, IsStill, roomy, each, Answers, answered, answer_in, left_in, findings_in};
 
+use entries::{BINDING_WIDTH, CARRIED_WIDTH, FINDING_WIDTH, RECORDED_WIDTH, SCOPE_WIDTH};
 use lists_fill::{Carried, fill_all_findings, fill_bindings, fill_recorded, fill_scopes};
 use refusal::Refusal;
 use rows::{Index, Rows};
@@ -84,11 +86,11 @@ impl Lists<'_, u32> {
     fn have_room(&self, n: usize) -> bool
         ensures { result ≡ roomy (each n) (lent self.now) }
     {
-        let a = has_room(n, self.scopes.len(), 4);
-        let b = has_room(n, self.bindings.len(), 6);
-        let c = has_room(n, self.carried.len(), 3);
-        let d = has_room(n, self.recorded.len(), 5);
-        let e = has_room(n, self.findings.len(), 6);
+        let a = has_room(n, self.scopes.len(), SCOPE_WIDTH);
+        let b = has_room(n, self.bindings.len(), BINDING_WIDTH);
+        let c = has_room(n, self.carried.len(), CARRIED_WIDTH);
+        let d = has_room(n, self.recorded.len(), RECORDED_WIDTH);
+        let e = has_room(n, self.findings.len(), FINDING_WIDTH);
         a & (b & (c & (d & e)))
     }
 
@@ -98,8 +100,8 @@ impl Lists<'_, u32> {
     {
         let a = self.have_room(n);
         let b = n <= room;
-        let c = has_room(made as usize, self.bindings.len(), 6);
-        let d = has_room(taken as usize, self.carried.len(), 3);
+        let c = has_room(made as usize, self.bindings.len(), BINDING_WIDTH);
+        let d = has_room(taken as usize, self.carried.len(), CARRIED_WIDTH);
         (a & b) & (c & d)
     }
 
@@ -195,7 +197,7 @@ fn check_in(
     if !lists.fit(count(s), scratch.walk.made, scratch.walk.taken, room) {
         return Err(Refusal::Entries);
     }
-    let n = scratch.walk.taken as usize * 3;
+    let n = scratch.walk.taken as usize * CARRIED_WIDTH;
     if kept.len() < n {
         return check_again(s, warns, scratch, lists, room);
     }

@@ -10,7 +10,8 @@ use lib.ListN.{length}
 use Rattle.semantics.specs.Log.{Event, Finding, Write, answer_of, answers_in}
 use Rattle.semantics.specs.Lists.{note, notes}
 use Rattle.theorems.proofs.Views.{pick-append}
-use Rattle.steps.specs.Said.{events, event_at, findings, finding_at}
+use Rattle.finding.specs.Logged.{logged_at}
+use Rattle.steps.specs.Said.{events, event_at, findings}
 use Rattle.entries.specs.Adding.{Holds, Becomes}
 use Rattle.lists_fill.specs.Said.{events_in, told_in}
 
@@ -46,9 +47,9 @@ pub next-event : (id : ℕ → ℕ) (l : List ℕ) (i : ℕ) → events_in id (i
 unfolding events_in events
 next-event id l i = rw (add-one i) (reverse-cons (event_at id l (i * 6)) (events id i l))
 
-pub next-told : (l : List ℕ) (i : ℕ) → told_in (i + 1) l ≡ told_in i l ++ (finding_at l (length l - suc i * 6) ∷ [])
+pub next-told : (l : List ℕ) (i : ℕ) → told_in (i + 1) l ≡ told_in i l ++ (logged_at l (length l - suc i * 6) ∷ [])
 unfolding told_in findings
-next-told l i = rw (add-one i) (reverse-cons (finding_at l (length l - suc i * 6)) (findings i l))
+next-told l i = rw (add-one i) (reverse-cons (logged_at l (length l - suc i * 6)) (findings i l))
 
 -- what they give comes last
 pub next-after : {A : Type 0} (pick : Event → List A) (l : List ℕ) (i : ℕ) (id : ℕ → ℕ) (es : List A) → es ++ flat_map pick (events_in id (i + 1) l) ≡ (es ++ flat_map pick (events_in id i l)) ++ pick (event_at id l (i * 6))
@@ -57,8 +58,8 @@ next-after pick l i id es =
     let e : flat_map pick (events_in id (i + 1) l) ≡ flat_map pick (events_in id i l) ++ pick (event_at id l (i * 6)) = rw (next-event id l i) (pick-append pick (events_in id i l) (event_at id l (i * 6) ∷ []) ∙ rw append-nil) in
     rw e (sym (append_assoc es (flat_map pick (events_in id i l)) (pick (event_at id l (i * 6)))))
 
-pub told-after : (l : List ℕ) (i : ℕ) (es : List Finding) → es ++ told_in (i + 1) l ≡ (es ++ told_in i l) ++ (finding_at l (length l - suc i * 6) ∷ [])
-told-after l i es = rw (next-told l i) (sym (append_assoc es (told_in i l) (finding_at l (length l - suc i * 6) ∷ [])))
+pub told-after : (l : List ℕ) (i : ℕ) (es : List Finding) → es ++ told_in (i + 1) l ≡ (es ++ told_in i l) ++ (logged_at l (length l - suc i * 6) ∷ [])
+told-after l i es = rw (next-told l i) (sym (append_assoc es (told_in i l) (logged_at l (length l - suc i * 6) ∷ [])))
 
 -- or is put into the list, one by one
 module _ {A B : Type 0} (put : B → List A → List A) (puts : List B → List A → List A) (none : (es : List A) → puts [] es ≡ es) (more : (b : B) (bs : List B) (es : List A) → puts (b ∷ bs) es ≡ puts bs (put b es)) where

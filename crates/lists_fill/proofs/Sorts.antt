@@ -2,22 +2,24 @@
 use Rattle.std.specs.Prelude.{◌≢◌, Option, None, Some}
 use Prim.Native.Nat.{ℕ, zero, suc, ◌+◌, ◌*◌, ◌≤◌}
 use native.Mathlib.Omega.{arith}
-use mathlib.Core.Path.{◌≡◌, refl, sym}
+use mathlib.Core.Path.{◌≡◌, refl, sym, ap, subst, ◌∙◌}
 use mathlib.Core.Bool.{Bool, false}
 use lib.Dec.{eqb}
 use mathlib.Core.List.{List, [], ◌∷◌}
 use borrow.Author.Tests.{ne_eqb}
 use lib.ListN.{length}
 use lib.Seq.{sets}
-use Rattle.scope.specs.Flat.{parent_of}
+use Rattle.scope.specs.Flat.{scope_width, parent_of}
 use Rattle.scope.specs.Graph.{scope}
-use Rattle.semantics.specs.Log.{find, finding, scope_of, bind_of, answer_of, find_of}
+use Rattle.semantics.specs.Log as log
+use Rattle.semantics.specs.Log.{find, scope_of, bind_of, answer_of, find_of}
 use Rattle.theorems.specs.Woven.{barrier_of}
-use Rattle.steps.specs.Said.{finding_at, sort_number, event_of}
+use Rattle.steps.specs.Said.{sort_number, event_of}
 use Rattle.steps.specs.declared.log.Sort.{Sort}
 use Rattle.steps.specs.declared.log.Sort.TheVariants as sorts
-use Rattle.finding.specs.Flat.{finding_words}
-use Rattle.finding.specs.Records.{six_at, words_of}
+use Rattle.finding.specs.Flat.{finding_width, finding_words}
+use Rattle.finding.specs.Records.{words_of, finding_by}
+use Rattle.finding.specs.Logged.{logged}
 use Rattle.finding.specs.declared.Finding as records
 use Rattle.entries.specs.Filled.{parent_word, scope_words}
 use Rattle.entries.specs.Adding.{Becomes, after}
@@ -32,7 +34,7 @@ use Rattle.entries.proofs.Filling.{sized-scope, sized-finding}
 use Rattle.entries.proofs.Adding.{one-added}
 
 module _ (id : ℕ → ℕ) where
-  pub no-sort : {sort : ℕ} (a b c d e : ℕ) → ((s : Sort) → sort_number s ≢ sort) → event_of id sort a b c d e ≡ find (finding sort a b c d e)
+  pub no-sort : {sort : ℕ} (a b c d e : ℕ) → ((s : Sort) → sort_number s ≢ sort) → event_of id sort a b c d e ≡ find (logged sort a b c d e)
   no-sort {sort} a b c d e h =
       let other : (s : Sort) → eqb sort (sort_number s) ≡ false = λ s. ne_eqb sort (sort_number s) (λ q. h s (sym q)) in
       rw (other sorts.Scope, other sorts.Binding, other sorts.Rebinding, other sorts.Variable, other sorts.Name)
@@ -82,18 +84,28 @@ parent-word : (b : ℕ) → parent_word (parent_of b) ≡ b
 parent-word zero = refl
 parent-word (suc b) = refl
 
+-- and those of a record are its finding's
+finding-words : (f : records.Finding) → finding_words (finding_by f) ≡ words_of f
+finding-words f = go f.code f.start f.end f.mark f.name f.one f.two
+  where
+    go : (c a b m x o t : ℕ) → finding_words (finding_by (record { code = c; start = a; end = b; name = x; one = o; two = t; mark = m })) ≡ c ∷ a ∷ b ∷ x ∷ o ∷ t ∷ m ∷ []
+    go c a b zero zero o t = refl
+    go c a b zero (suc x) o t = refl
+    go c a b (suc m) x o t = refl
+
 module _ (out : List ℕ) (m : ℕ) where
-  pub one-scope : (k p a b : ℕ) → (m + 1) * 4 ≤ length out → Becomes 1 scope_words (after (scope k (parent_of p) a b ∷ [])) out (sets out (m * 4) (k ∷ p ∷ a ∷ b ∷ [])) m (m + 1)
+  pub one-scope : (k p a b : ℕ) → (m + 1) * scope_width ≤ length out → Becomes 1 scope_words (after (scope k (parent_of p) a b ∷ [])) out (sets out (m * scope_width) (k ∷ p ∷ a ∷ b ∷ [])) m (m + 1)
   unfolding scope_words
-  one-scope k p a b h = rw parent-word at (one-added scope_words 4 sized-scope out m (scope k (parent_of p) a b) (omega arith))
+  one-scope k p a b h = rw parent-word at (one-added scope_words scope_width sized-scope out m (scope k (parent_of p) a b) (omega arith))
 
-  -- a finding of the kind walk
-  pub one_told : (l : List ℕ) (p : ℕ) → (m + 1) * 6 ≤ length out → Becomes 1 finding_words (after (finding_at l p ∷ [])) out (sets out (m * 6) (six_at l p)) m (m + 1)
-  one_told l p h = one-added finding_words 6 sized-finding out m (finding_at l p) (omega arith)
+  pub one_told : (f : records.Finding) {g : log.Finding} → finding_by f ≡ g → (m + 1) * finding_width ≤ length out → Becomes 1 finding_words (after (g ∷ [])) out (sets out (m * finding_width) (words_of f)) m (m + 1)
+  one_told f {g} e h =
+      let stored : List ℕ → Type 0 = λ ws. Becomes 1 finding_words (after (g ∷ [])) out (sets out (m * finding_width) ws) m (m + 1) in
+      subst stored (ap finding_words (sym e) ∙ finding-words f) (one-added finding_words finding_width sized-finding out m g (omega arith))
 
-  pub one-finding : (id : ℕ → ℕ) (f : records.Finding) → (m + 1) * 6 ≤ length out → Becomes 1 finding_words (after (find_of (said id (Finding f)))) out (sets out (m * 6) (words_of f)) m (m + 1)
+  pub one-finding : (id : ℕ → ℕ) (f : records.Finding) → (m + 1) * finding_width ≤ length out → Becomes 1 finding_words (after (find_of (said id (Finding f)))) out (sets out (m * finding_width) (words_of f)) m (m + 1)
   unfolding find_of
-  one-finding id f h = one-added finding_words 6 sized-finding out m _ (omega arith)
+  one-finding id f h = one_told f refl h
 
 -- the barrier above a scope, where it is a Root
 module _ (id : ℕ → ℕ) (k p a b : ℕ) where

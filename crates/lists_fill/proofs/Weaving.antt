@@ -10,8 +10,8 @@ use mathlib.Core.List.{List, [], ◌∷◌, ◌++◌, flat_map, append-nil, appe
 use borrow.Author.Tests.{eq-eqb, ne_eqb}
 use lib.ListN.{length, get_or, drop}
 use lib.Seq.{get_or-drop}
-use Rattle.scope.specs.Flat.{carried_of, carrieds_of}
-use Rattle.scope.specs.Graph.{carried}
+use Rattle.scope.specs.Flat.{binding_width, carried_width, carried_of, carrieds_of}
+use Rattle.scope.specs.Graph.{Name, name, carried}
 use Rattle.scope.specs.Graph as graph
 use Rattle.scope.proofs.Entries.{first, next, last}
 use Rattle.scope.proofs.Climbing.{parent-of}
@@ -30,30 +30,33 @@ use Rattle.lists_fill.specs.Weaving.{carried_from, barrier_in, kinds, rest, wove
 use Rattle.lists_fill.specs.declared.Carried.{Carried}
 use Rattle.lists_fill.proofs.Adding.{next-event}
 
--- the entry numbered p of a carried list
-carried-at : (p : ℕ) (l : List ℕ) → carried_of (drop p l) ≡ carried (get_or l p 0) (get_or l (p + 1) 0) (get_or l (p + 2) 0)
+-- the name of the entry numbered p of a carried list, and the entry
+abbrev name_at : List ℕ → ℕ → Name
+name_at l p = name (get_or l (p * carried_width + 3) 0) (get_or l (p * carried_width + 1) 0)
+
+carried-at : (p : ℕ) (l : List ℕ) → carried_of (drop p l) ≡ carried (get_or l p 0) (name (get_or l (p + 3) 0) (get_or l (p + 1) 0)) (get_or l (p + 2) 0)
 carried-at p l = simp (get_or-drop, add-zero)
 
 module _ (kind : ℕ → ℕ) (taken : ℕ) (l : List ℕ) where
-  next-carried : (p : ℕ) → p < taken → carried_from taken l p ≡ carried (get_or l (p * 3) 0) (get_or l (p * 3 + 1) 0) (get_or l (p * 3 + 2) 0) ∷ carried_from taken l (p + 1)
-  next-carried p h = next 3 carried_of taken l p h ∙ ap (λ e. e ∷ carried_from taken l (p + 1)) (carried-at (p * 3) l)
+  next-carried : (p : ℕ) → p < taken → carried_from taken l p ≡ carried (get_or l (p * carried_width) 0) (name_at l p) (get_or l (p * carried_width + 2) 0) ∷ carried_from taken l (p + 1)
+  next-carried p h = next carried_width carried_of taken l p h ∙ ap (λ e. e ∷ carried_from taken l (p + 1)) (carried-at (p * carried_width) l)
 
   -- what barrier b carries, from the number p on
-  more-adopted : (b p : ℕ) → p < taken → get_or l (p * 3) 0 ≡ b → adopted kind b (carried_from taken l p) ≡ bound (suc b) (get_or l (p * 3 + 1) 0) (get_or l (p * 3 + 2) 0) (kind (get_or l (p * 3 + 2) 0)) ∷ adopted kind b (carried_from taken l (p + 1))
+  more-adopted : (b p : ℕ) → p < taken → get_or l (p * carried_width) 0 ≡ b → adopted kind b (carried_from taken l p) ≡ bound (suc b) (name_at l p) (get_or l (p * carried_width + 2) 0) (kind (get_or l (p * carried_width + 2) 0)) ∷ adopted kind b (carried_from taken l (p + 1))
   unfolding adopted
-  more-adopted b p h e = rw (next-carried p h, eq-eqb b (get_or l (p * 3) 0) (sym e))
+  more-adopted b p h e = rw (next-carried p h, eq-eqb b (get_or l (p * carried_width) 0) (sym e))
 
-  more-beyond : (b p : ℕ) → p < taken → get_or l (p * 3) 0 ≡ b → beyond kind b (carried_from taken l p) ≡ beyond kind b (carried_from taken l (p + 1))
+  more-beyond : (b p : ℕ) → p < taken → get_or l (p * carried_width) 0 ≡ b → beyond kind b (carried_from taken l p) ≡ beyond kind b (carried_from taken l (p + 1))
   unfolding beyond
-  more-beyond b p h e = rw (next-carried p h, eq-eqb b (get_or l (p * 3) 0) (sym e))
+  more-beyond b p h e = rw (next-carried p h, eq-eqb b (get_or l (p * carried_width) 0) (sym e))
 
-  none-adopted : (b p : ℕ) → p < taken → (get_or l (p * 3) 0 ≡ b → ⊥) → adopted kind b (carried_from taken l p) ≡ []
+  none-adopted : (b p : ℕ) → p < taken → (get_or l (p * carried_width) 0 ≡ b → ⊥) → adopted kind b (carried_from taken l p) ≡ []
   unfolding adopted
-  none-adopted b p h e = rw (next-carried p h, ne_eqb b (get_or l (p * 3) 0) (λ q. e (sym q)))
+  none-adopted b p h e = rw (next-carried p h, ne_eqb b (get_or l (p * carried_width) 0) (λ q. e (sym q)))
 
-  none-beyond : (b p : ℕ) → p < taken → (get_or l (p * 3) 0 ≡ b → ⊥) → beyond kind b (carried_from taken l p) ≡ carried_from taken l p
+  none-beyond : (b p : ℕ) → p < taken → (get_or l (p * carried_width) 0 ≡ b → ⊥) → beyond kind b (carried_from taken l p) ≡ carried_from taken l p
   unfolding beyond
-  none-beyond b p h e = rw (next-carried p h, ne_eqb b (get_or l (p * 3) 0) (λ q. e (sym q)))
+  none-beyond b p h e = rw (next-carried p h, ne_eqb b (get_or l (p * carried_width) 0) (λ q. e (sym q)))
 
   -- The loop: of the entries from c on, those up to p are bound.
   pub record Adopting (b c : ℕ) (a k : Kept) (p : ℕ) : Type 0 where
@@ -66,7 +69,7 @@ module _ (kind : ℕ → ℕ) (taken : ℕ) (l : List ℕ) where
   pub adopt-begin : {a : Kept} {c : ℕ} (b : ℕ) → c ≤ taken → Fits a → Adopting b c a a c
   adopt-begin b h f = record { done = []; within = h; same = refl; over = refl; makes = none_made f }
 
-  pub adopt-turn : {a k m : Kept} {c w p : ℕ} {b : Binding} → Adopting (w - 1) c a k p → 1 ≤ w → p < taken → get_or l (p * 3) 0 ≡ w - 1 → bound_of b ≡ bound w (get_or l (p * 3 + 1) 0) (get_or l (p * 3 + 2) 0) (kind (get_or l (p * 3 + 2) 0)) → Makes (bound_of b ∷ []) k m → Adopting (w - 1) c a m (p + 1)
+  pub adopt-turn : {a k m : Kept} {c w p : ℕ} {b : Binding} → Adopting (w - 1) c a k p → 1 ≤ w → p < taken → get_or l (p * carried_width) 0 ≡ w - 1 → bound_of b ≡ bound w (name_at l p) (get_or l (p * carried_width + 2) 0) (kind (get_or l (p * carried_width + 2) 0)) → Makes (bound_of b ∷ []) k m → Adopting (w - 1) c a m (p + 1)
   adopt-turn {c = c} {w = w} {p = p} {b = b} a some' h e same f =
       let root : suc (w - 1) ≡ w = omega arith in
       let one : adopted kind (w - 1) (carried_from taken l p) ≡ bound_of b ∷ adopted kind (w - 1) (carried_from taken l (p + 1)) = more-adopted (w - 1) p h e ∙ rw (root, same) in
@@ -90,13 +93,13 @@ module _ (w : Carried) where
         rw (parent-of root (λ e. omega arith), all)
         (record { makes = k.makes; met = k.within; next = sym (k.over ∙ over) })
 
-    pub adopt-stop : p < w.taken → (get_or w.list.now (p * 3) 0 ≡ root - 1 → ⊥) → Adopts w c root a b p
+    pub adopt-stop : p < w.taken → (get_or w.list.now (p * carried_width) 0 ≡ root - 1 → ⊥) → Adopts w c root a b p
     adopt-stop h e = ended (none-adopted (kinds w) w.taken w.list.now (root - 1) p h e) (none-beyond (kinds w) w.taken w.list.now (root - 1) p h e)
 
     pub adopt-done : w.taken ≤ p → Adopts w c root a b w.taken
     unfolding adopted beyond
     adopt-done h =
-        let nothing = last 3 carried_of w.taken w.list.now p h in
+        let nothing = last carried_width carried_of w.taken w.list.now p h in
         let all : p ≡ w.taken = omega (arith, k.within) in
         rw all at (ended (rw nothing) (rw nothing))
 
@@ -135,7 +138,7 @@ module _ (kind : ℕ → ℕ) where
   left-more (d ∷ l) e cs = left-more l e (beyond_by kind (barrier_in d) cs)
 
 -- bindings put into a list that had none
-pub made-of-none : {bs : List Bound} {a b : Kept} → a.made ≡ 0 → Makes bs a b → length (puts bs []) * 6 ≤ length a.list → Holds binding_words a.list b.list b.made (puts bs [])
+pub made-of-none : {bs : List Bound} {a b : Kept} → a.made ≡ 0 → Makes bs a b → length (puts bs []) * binding_width ≤ length a.list → Holds binding_words a.list b.list b.made (puts bs [])
 unfolding flat_map Stamped
 made-of-none {a = a} e h room = (h.holds a.list [] (record { list = record { count = e; wrote = sym (filled-nil a.list); kept = refl }; stamped = tt }) room).list
 
@@ -153,7 +156,7 @@ module _ {w : Carried} {found : List ℕ} {n : ℕ} {a : Kept} where
       record {
         met = omega arith;
         fits = f;
-        next = λ id. first 3 carried_of w.taken w.list.now;
+        next = λ id. first carried_width carried_of w.taken w.list.now;
         makes = λ id. none_made f;
       }
 

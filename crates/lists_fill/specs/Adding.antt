@@ -2,7 +2,8 @@
 use Rattle.std.specs.Prelude.{ℕ, false}
 use Rattle.scope.specs.Graph.{scope}
 use Rattle.scope.specs.Flat.{parent_of}
-use Rattle.semantics.specs.Log.{Event, open', bind, answer, find, write, found, finding}
+use Rattle.semantics.specs.Log.{Event, open', bind, answer, find, write, found}
+use Rattle.finding.specs.Records.{finding_by}
 use Rattle.entries.specs.Adding as entries
 use Rattle.entries.specs.Stamps.{bound_of}
 use Rattle.lists_fill.specs.declared.Logged.{Logged}
@@ -14,4 +15,4 @@ said id (Scope k p a b) = open' (scope k (parent_of p) a b)
 said id (Binding again b) = bind false again (bound_of b)
 said id (Variable f) = answer (write f.variable (found f.variable f.kind f.via))
 said id (Name x f) = answer (write (id x) (entries.answer f))
-said id (Finding f) = find (finding f.code f.start f.end f.name f.one f.two)
+said id (Finding f) = find (finding_by f)

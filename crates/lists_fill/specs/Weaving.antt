@@ -1,6 +1,6 @@
 -- The bindings, woven out of the events and the carried list: what the code asks and leaves, an event at a time.
 use Rattle.std.specs.Prelude.{ℕ, ◌-◌, ◌*◌, ◌≤◌, ◌≡◌, List, [], ◌++◌, length, drop, Option, None}
-use Rattle.scope.specs.Flat.{parent_of, carrieds_of}
+use Rattle.scope.specs.Flat.{binding_width, carried_width, parent_of, carrieds_of}
 use Rattle.scope.specs.Graph.{Entry}
 use Rattle.scope.specs.Graph as graph
 use Rattle.semantics.specs.Log.{Bound, Event, open', bind, carry, answer, find, bind_of}
@@ -25,7 +25,7 @@ kind_in x ws v = row_kind (row_by x ws v)
 
 -- of `taken` entries of a carried list, those from the number c on
 abbrev pub carried_from : ℕ → List ℕ → ℕ → List graph.Carried
-carried_from taken l c = carrieds_of (taken - c) (drop (c * 3) l)
+carried_from taken l c = carrieds_of (taken - c) (drop (c * carried_width) l)
 
 -- the barrier above a Root that an event opens
 unfoldable pub barrier_in : Event → Option ℕ
@@ -38,7 +38,7 @@ barrier_in (find f) = None
 -- what is asked of a carried list and its sheet's rows
 pub record Fine (w : Carried) : Type 0 where
   pub standing : Standing w.rows
-  pub lent : w.taken * 3 ≤ length w.list.now
+  pub lent : w.taken * carried_width ≤ length w.list.now
 
 -- what is asked before an event, where c carried entries are met
 pub record Ready (w : Carried) (c : ℕ) (a : Kept) : Type 0 where
@@ -88,4 +88,4 @@ woven_in x ws l taken carried id = puts (woven (kind_in x ws) (all_in id l) (car
 abbrev pub Makings : (w : Carried) (l : Log) (old out : List ℕ) (r : ℕ) → Type 0
 Makings w l old out r =
     let all = woven_in w.rows.index (words w.rows.bytes.now) l w.taken w.list.now in
-    (id : ℕ → ℕ) → length (all id) * 6 ≤ length old → Holds binding_words old out r (all id)
+    (id : ℕ → ℕ) → length (all id) * binding_width ≤ length old → Holds binding_words old out r (all id)

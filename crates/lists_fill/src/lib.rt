@@ -6,22 +6,22 @@
 #![tactic(auto)]
 
 ghost use Rattle.std.specs.Prelude.{◌≡◌, [], ◌++◌, ℕ, ◌+◌, ◌*◌, ◌≤◌, length};
-ghost use Rattle.scope.specs.Flat.{parent_of};
+ghost use Rattle.scope.specs.Flat.{scope_width, parent_of};
 ghost use Rattle.semantics.specs.Log.{scope_of, bind_of, answer_of, find_of, scopes_in, answers_in, finds_in};
 ghost use Rattle.semantics.specs.Lists.{notes};
 ghost use Rattle.steps.specs.Said.{answered, event_at};
-ghost use Rattle.finding.specs.Flat.{finding_words};
-ghost use Rattle.entries.specs.Filled.{scope_words, recorded_words};
+ghost use Rattle.finding.specs.Flat.{finding_width, finding_words};
+ghost use Rattle.entries.specs.Filled.{scope_words, recorded_width, recorded_words};
 ghost use Rattle.entries.specs.Adding.{Holds, Becomes, after, answer};
 ghost use Rattle.entries.specs.Stamps.{Makes, Fits, IsStill, kept};
 ghost use Rattle.lists_fill.specs.Said.{id_in, events_in, told_in, all_in, all_told};
 ghost use Rattle.lists_fill.specs.Adding.{said};
 ghost use Rattle.lists_fill.specs.Weaving.{barrier_in, Ready, Adopts, Weaves, bound_in, Weavable, Makings};
 
-use entries::{Binding, Bindings, Found, put_answer, set_entry};
+use entries::{Binding, Bindings, CARRIED_WIDTH, Found, put_answer, set_entry};
 use finding::{Finding, six_at, words_at};
 use rows::Rows;
-use scope::ScopeKind;
+use scope::{Name, ScopeKind};
 use steps::{Log, Sort};
 
 // The use id of no bytes.
@@ -59,7 +59,7 @@ impl From<[u32; 6]> for Logged {
         let [sort, a, b, c, d, e] = words;
         let binding = Binding {
             scope: a,
-            name: b,
+            name: Name { mark: e, word: b },
             variable: c,
             kind: d,
         };
@@ -88,7 +88,7 @@ fn logged_at(found: &[u32], i: usize) -> Logged
 
 // The scope that an event opens, after m others; how many there are then.
 fn add_scope(out: &mut [u32], m: usize, e: Logged) -> usize
-    requires { (m + 1) * 4 ≤ length out.old }
+    requires { (m + 1) * scope_width ≤ length out.old }
     ensures { (id : ℕ → ℕ) → Becomes 1 scope_words (after (scope_of (said id e))) out.old out.new m result }
 {
     match e {
@@ -102,7 +102,7 @@ fn add_scope(out: &mut [u32], m: usize, e: Logged) -> usize
 
 // The scopes of all events; how many there are.
 pub fn fill_scopes(log: &Log, out: &mut [u32]) -> usize
-    requires { (log.now.said * 6 ≤ length log.now.words.now) × (log.now.said * 4 ≤ length out.old) }
+    requires { (log.now.said * 6 ≤ length log.now.words.now) × (log.now.said * scope_width ≤ length out.old) }
     ensures { (id : ℕ → ℕ) → Holds scope_words out.old out.new result (scopes_in (all_in id log.now)) }
 {
     let mut m = 0;
@@ -114,7 +114,7 @@ pub fn fill_scopes(log: &Log, out: &mut [u32]) -> usize
 
 // The finding that an event is, where it is of none of the other sorts, after m others.
 fn add_finding(out: &mut [u32], m: usize, e: Logged) -> usize
-    requires { (m + 1) * 6 ≤ length out.old }
+    requires { (m + 1) * finding_width ≤ length out.old }
     ensures { (id : ℕ → ℕ) → Becomes 1 finding_words (after (find_of (said id e))) out.old out.new m result }
 {
     match e {
@@ -128,7 +128,7 @@ fn add_finding(out: &mut [u32], m: usize, e: Logged) -> usize
 
 // The findings of n events.
 fn fill_findings(found: &[u32], n: usize, out: &mut [u32]) -> usize
-    requires { (n * 6 ≤ length found.now) × (n * 6 ≤ length out.old) }
+    requires { (n * 6 ≤ length found.now) × (n * finding_width ≤ length out.old) }
     ensures { (result ≤ n) × ((id : ℕ → ℕ) → Holds finding_words out.old out.new result (finds_in (events_in id n found.now))) }
 {
     let mut m = 0;
@@ -174,14 +174,17 @@ impl Carried<'_> {
             return c;
         }
         for p in c..self.taken {
-            let q = p * 3;
+            let q = p * CARRIED_WIDTH;
             if self.list[q] != root - 1 {
                 return p;
             }
             let variable = self.list[q + 2];
             bindings.put(Binding {
                 scope: root,
-                name: self.list[q + 1],
+                name: Name {
+                    mark: self.list[q + 3],
+                    word: self.list[q + 1],
+                },
                 variable,
                 kind: self.rows.kind(variable),
             });
@@ -250,7 +253,7 @@ fn use_of(uses: &[u32], name: u32) -> u32
 
 // The answer that an event records, where a name's use id is known.
 fn add_answer(out: &mut [u32], m: usize, uses: &[u32], e: Logged) -> usize
-    requires { (m + 1) * 5 ≤ length out.old }
+    requires { (m + 1) * recorded_width ≤ length out.old }
     ensures { Becomes 1 recorded_words (notes (answer_of (said (id_in uses.now) e))) out.old out.new m result }
 {
     match e {
@@ -262,7 +265,7 @@ fn add_answer(out: &mut [u32], m: usize, uses: &[u32], e: Logged) -> usize
 
 // The recorded uses of all events.
 pub fn fill_recorded(log: &Log, uses: &[u32], out: &mut [u32]) -> usize
-    requires { (log.now.said * 6 ≤ length log.now.words.now) × (log.now.said * 5 ≤ length out.old) }
+    requires { (log.now.said * 6 ≤ length log.now.words.now) × (log.now.said * recorded_width ≤ length out.old) }
     ensures { Holds recorded_words out.old out.new result (notes (answers_in (all_in (id_in uses.now) log.now)) []) }
 {
     let mut m = 0;
@@ -275,18 +278,19 @@ pub fn fill_recorded(log: &Log, uses: &[u32], out: &mut [u32]) -> usize
 // k findings of the kind walk, which stand at the back, after m that there are; how many there are then. From
 // the back as in lines::Found, which stands above the log and counts both ends as one row.
 fn append_findings(found: &[u32], k: usize, out: &mut [u32], m: usize) -> usize
-    requires { (k * 6 ≤ length found.now) × ((m + k) * 6 ≤ length out.old) }
+    requires { (k * 6 ≤ length found.now) × ((m + k) * finding_width ≤ length out.old) }
     ensures { Becomes k finding_words (after (told_in k found.now)) out.old out.new m result }
 {
     for i in 0..k {
-        set_entry(out, m + i, six_at(found, found.len() - (i + 1) * 6));
+        let told = Finding::from(six_at(found, found.len() - (i + 1) * 6));
+        words_at(out, m + i, told);
     }
     m + k
 }
 
 // The findings of all events, and after them those of the kind walk.
 pub fn fill_all_findings(log: &Log, out: &mut [u32]) -> usize
-    requires { ((log.now.said + log.now.told) * 6 ≤ length log.now.words.now) × ((log.now.said + log.now.told) * 6 ≤ length out.old) }
+    requires { ((log.now.said + log.now.told) * 6 ≤ length log.now.words.now) × ((log.now.said + log.now.told) * finding_width ≤ length out.old) }
     ensures { (id : ℕ → ℕ) → Holds finding_words out.old out.new result (finds_in (all_in id log.now) ++ all_told log.now) }
 {
     let m = fill_findings(log.words, log.said as usize, out);

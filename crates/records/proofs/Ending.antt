@@ -1,4 +1,4 @@
--- What `check_words` answers and leaves with a flat list of 12,288 words is what `check` is to: no accepted sheet has more than 2,048 words,
+-- What `check_words` answers and leaves with a flat list of 14,336 words is what `check` is to: no accepted sheet has more than 2,048 words,
 -- so that the flat list always has room, and its first words are those of the findings.
 use Rattle.refusal.specs.declared.Refusal.{Refusal}
 use Prim.Native.Nat.{ℕ, ◌*◌, ◌≤◌, zero-le}
@@ -13,7 +13,8 @@ use Rattle.words.specs.Words.{words}
 use Rattle.words.proofs.Words.{length-words}
 use Rattle.semantics.specs.Lists.{findings}
 use Rattle.theorems.proofs.Sizes as sizes
-use Rattle.finding.specs.Flat.{finding_words}
+use Rattle.scope.specs.Flat.{scope_width, binding_width, carried_width}
+use Rattle.finding.specs.Flat.{finding_width, finding_words}
 use Rattle.sheet.specs.Statement.{Statement}
 use Rattle.sheet.specs.Read.{Sheet, accepted, refused, read_sheet}
 use Rattle.sheet.proofs.Placing.{both}
@@ -21,7 +22,7 @@ use Rattle.sheet.proofs.Accepted.{accepted-words}
 use Rattle.finding.specs.declared.Finding.{Finding}
 use Rattle.finding.specs.Records.{into}
 use Rattle.finding.proofs.Storing.{into-records}
-use Rattle.entries.specs.Filled.{filled, with_findings}
+use Rattle.entries.specs.Filled.{recorded_width, filled, with_findings}
 use Rattle.checker.specs.Room.{enough}
 use Rattle.checker.specs.Checked as core
 use Rattle.checker.specs.Checked.{Lent, each, answered, counts_of, answer, answer_in, left_in, findings_in}
@@ -29,7 +30,7 @@ use Rattle.checker.specs.declared.Counts.{Counts}
 use Rattle.std.specs.Prelude.{Result}
 use Rattle.records.specs.Checked.{roomy, fits, filled_by, left, answer_for, left_for}
 
-module _ (warns : Bool) (s : List ℕ) (l : Lent Finding) (flat : List ℕ) (wide : length flat ≡ 12288) where
+module _ (warns : Bool) (s : List ℕ) (l : Lent Finding) (flat : List ℕ) (wide : length flat ≡ 14336) where
   abbrev n : ℕ
   n = length (words s)
 
@@ -54,7 +55,7 @@ module _ (warns : Bool) (s : List ℕ) (l : Lent Finding) (flat : List ℕ) (wid
   -- the flat list has room for 2,048 findings
   same-room : (c : Counts) → c.findings ≤ 2048 → (core.roomy c flatly && leb c.findings (length l.findings)) ≡ roomy c l
   unfolding core.roomy roomy enough
-  same-room c few = last (enough c.scopes (length l.scopes) 4) (enough c.bindings (length l.bindings) 6) (enough c.carried (length l.carried) 3) (enough c.recorded (length l.recorded) 5) (leb c.findings (length l.findings)) (rw wide (le-leb c.findings 2048 few))
+  same-room c few = last (enough c.scopes (length l.scopes) scope_width) (enough c.bindings (length l.bindings) binding_width) (enough c.carried (length l.carried) carried_width) (enough c.recorded (length l.recorded) recorded_width) (leb c.findings (length l.findings)) (rw wide (le-leb c.findings 2048 few))
     where
       last : (a b c d f : Bool) {e : Bool} → e ≡ true → ((a && (b && (c && (d && e)))) && f) ≡ (a && (b && (c && (d && f))))
       last true true true true f h = rw h
@@ -77,12 +78,12 @@ module _ (warns : Bool) (s : List ℕ) (l : Lent Finding) (flat : List ℕ) (wid
   abbrev Ends : Sheet Statement → (Counts → Bool) → (Counts → Bool) → Type 0
   Ends x t u =
       (answer warns x t ≡ answer warns x u)
-      × ((findings_in (answer warns x t) ≤ length l.findings) × (findings_in (answer warns x t) * 6 ≤ 12288))
+      × ((findings_in (answer warns x t) ≤ length l.findings) × (findings_in (answer warns x t) * finding_width ≤ 14336))
       × (stored (core.left warns x t flatly) (findings_in (answer warns x t)) ≡ left warns x u l)
 
   accepts : (st : Statement) → read_sheet s ≡ accepted st → (a b : Bool) → tests (counts_of warns st) ≡ a → a ≡ b →
       (cond a (accepted (counts_of warns st)) (refused 8) ≡ cond b (accepted (counts_of warns st)) (refused 8))
-      × ((findings_in (cond a (accepted (counts_of warns st)) (refused 8)) ≤ length l.findings) × (findings_in (cond a (accepted (counts_of warns st)) (refused 8)) * 6 ≤ 12288))
+      × ((findings_in (cond a (accepted (counts_of warns st)) (refused 8)) ≤ length l.findings) × (findings_in (cond a (accepted (counts_of warns st)) (refused 8)) * finding_width ≤ 14336))
       × (stored (cond a (core.filled_by warns st flatly) flatly) (findings_in (cond a (accepted (counts_of warns st)) (refused 8))) ≡ cond b (filled_by warns st l) l)
   unfolding counts_of core.fits core.filled_by with_findings filled filled_by into
   accepts st e false b h q = rw (← q) (refl, (zero-le, zero-le), refl)
@@ -100,7 +101,7 @@ module _ (warns : Bool) (s : List ℕ) (l : Lent Finding) (flat : List ℕ) (wid
   ends (refused c) e = (refl, (zero-le, zero-le), refl)
 
   module _ (r : Result Counts Refusal) (k : ℕ) (e : answered r ≡ answer_in warns s flatly (length l.findings)) (f : k ≡ findings_in (answered r)) where
-    pub within : (k ≤ length l.findings) × (k * 6 ≤ 12288)
+    pub within : (k ≤ length l.findings) × (k * finding_width ≤ 14336)
     unfolding answer_in
     within = rw (f, e) (ends (read_sheet s) refl).1
 

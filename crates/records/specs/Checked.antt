@@ -6,7 +6,8 @@ use Rattle.sheet.specs.Read.{Sheet, accepted, refused, read_sheet}
 use Rattle.semantics.specs.Lists.{scopes, bindings, carried_list, recorded, findings}
 use Rattle.finding.specs.declared.Finding.{Finding}
 use Rattle.finding.specs.Records.{with_records}
-use Rattle.entries.specs.Filled.{with_scopes, with_bindings, with_carried, with_recorded}
+use Rattle.scope.specs.Flat.{scope_width, binding_width, carried_width}
+use Rattle.entries.specs.Filled.{recorded_width, with_scopes, with_bindings, with_carried, with_recorded}
 use Rattle.checker.specs.Room.{enough}
 use Rattle.checker.specs.Checked.{Lent, each, counts_of, answer}
 use Rattle.checker.specs.declared.Counts.{Counts}
@@ -14,9 +15,9 @@ use Rattle.checker.specs.declared.Counts.{Counts}
 -- room in each list for so many entries
 unfoldable pub roomy : Counts → Lent Finding → Bool
 roomy n l =
-    enough n.scopes (length l.scopes) 4
-    && (enough n.bindings (length l.bindings) 6
-    && (enough n.carried (length l.carried) 3 && (enough n.recorded (length l.recorded) 5 && leb n.findings (length l.findings))))
+    enough n.scopes (length l.scopes) scope_width
+    && (enough n.bindings (length l.bindings) binding_width
+    && (enough n.carried (length l.carried) carried_width && (enough n.recorded (length l.recorded) recorded_width && leb n.findings (length l.findings))))
 
 -- where 8 is not given: every list has as many entries as the sheet has words, and as many as the answer needs
 unfoldable pub fits : ℕ → Counts → Lent Finding → Bool

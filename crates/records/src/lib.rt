@@ -7,8 +7,12 @@ ghost use Rattle.checker.specs.Checked.{lent, IsStill, answered};
 ghost use Rattle.records.specs.Checked.{answer_for, left_for};
 
 use checker::{Counts, Lists, check_words, findings_in};
+use entries::FINDING_WIDTH;
 use finding::{Finding, store_all};
 use refusal::Refusal;
+
+// Flat words for as many findings as the largest sheet has words.
+const FLAT: usize = 2048 * FINDING_WIDTH;
 
 // The check call, warnings on or off: the lists' counts, or a refusal, 1 to 8, which alters none of them.
 pub fn check(s: &[u8], warns: bool, lists: &mut Lists<Finding>) -> Result<Counts, Refusal>
@@ -16,7 +20,7 @@ pub fn check(s: &[u8], warns: bool, lists: &mut Lists<Finding>) -> Result<Counts
     ensures answers { answered result ≡ answer_for warns s.now (lent lists.old) }
     ensures leaves { lent lists.new ≡ left_for warns s.now (lent lists.old) }
 {
-    let mut flat = [0u32; 12288];
+    let mut flat = [0u32; FLAT];
     // Field by field: what a method's result borrows from a field isn't known afterwards.
     let mut core = Lists {
         scopes: lists.scopes,

@@ -68,7 +68,7 @@ module _ (names : List (List ℕ)) where
   Known arithmetic = Unit {0}
   Known property = Unit {0}
   Known boolean = Unit {0}
-  Known (listed c o) = (t : ℕ) → IsType t → Pushed names (finding c 0 0 0 o t)
+  Known (listed c o) = (t : ℕ) → IsType t → Pushed names (finding c 0 0 None o t)
 
   abbrev Both : Pair → Type 0
   Both (both c d) = Known c × Known d

@@ -10,7 +10,10 @@ use borrow.Author.Tests.{eqb-true, eqb-false, leb-true, ltb-true, lt-ltb, not-tr
 use Rattle.expr.proofs.Inverse.{never}
 use Rattle.sheet.specs.Statement.{Statement}
 use Rattle.sheet.specs.Read.{Sheet, accepted, refused, then', unless, read_sheet}
-use Rattle.semantics.specs.Log.{finding}
+use Rattle.scope.specs.Graph.{Name, generated}
+use Rattle.tables.specs.VarName.{var_name}
+use Rattle.semantics.specs.Log.{finding, cited}
+use Rattle.finding.specs.Flat.{cited_by}
 use Rattle.texts.specs.Codes.{of2007, of2008, of5010, unused, text_for}
 use Rattle.texts.specs.Texts.{text_of}
 use Rattle.texts.specs.declared.Text.{Text}
@@ -95,18 +98,18 @@ data Cited (names : List (List ℕ)) : ℕ → List ℕ → Type 0 where
   named' : {i : ℕ} → i < length names → Cited names (suc i) (get_or names i [])
 
 module _ (s : List ℕ) (st : Statement) (e : read_sheet s ≡ accepted st) where
-  cited : (name : ℕ) (x : List ℕ) → name_text s name ≡ accepted x → Cited st.names name x
+  table-text : (name : ℕ) (x : List ℕ) → name_text s name ≡ accepted x → Cited st.names name x
   unfolding name_text
-  cited zero x h = let q : [] ≡ x = cc (nameless-text s st e) in rw (← q) nameless'
-  cited (suc i) x h = go (ltb i (length st.names)) (ltb-true i (length st.names)) (rw (text-read s st e i) at h)
+  table-text zero x h = let q : [] ≡ x = cc (nameless-text s st e) in rw (← q) nameless'
+  table-text (suc i) x h = go (ltb i (length st.names)) (ltb-true i (length st.names)) (rw (text-read s st e i) at h)
     where
       go : (b : Bool) → (b ≡ true → i < length st.names) → name_or9 (unless 5 b (accepted (get_or st.names i []))) ≡ accepted x → Cited st.names (suc i) x
       go true l h = let q : get_or st.names i [] ≡ x = cc in rw (← q) (named' (l refl))
       go false l h = never (cc)
 
 -- a push with some span
-abbrev Some : List (List ℕ) → (code name one two : ℕ) → Type 0
-Some names code name one two = (start : ℕ) × (stop : ℕ) × Pushed names (finding code start stop name one two)
+abbrev Some : List (List ℕ) → (code : ℕ) → Option Name → (one two : ℕ) → Type 0
+Some names code x one two = (start : ℕ) × (stop : ℕ) × Pushed names (finding code start stop x one two)
 
 module _ {names : List (List ℕ)} where
   -- where a push has a name, and where it has none
@@ -118,7 +121,7 @@ module _ {names : List (List ℕ)} where
   without nameless' h = refl
   without (named' {i} l) h = never (cc (lt-ltb 0 (suc i) (omega arith)))
 
-  some-push : {code one name two : ℕ} {t : Text} {x : List ℕ} → Stands code one t → Cited names name x → Given (push_of t) (ltb 0 name) two → starred code x ≡ false → Some names code name one two
+  some-push : {code one name two : ℕ} {t : Text} {x : List ℕ} → Stands code one t → Cited names name x → Given (push_of t) (ltb 0 name) two → starred code x ≡ false → Some names code (cited name) one two
   unfolding push_of
   some-push {two} of-unresolved c g s =
       let n = with-name c g.same in
@@ -143,21 +146,51 @@ module _ {names : List (List ℕ)} where
   some-push of-iterable c g s = (0, 0, rw (without c g.same) (pushed.iterable (g.low, g.high)))
 
   -- the tests of `text_if`, and of the name before it
-  some-text : {y : List ℕ} (code name one two : ℕ) (x : List ℕ) (o : Option Text) → text_for code one ≡ o → Cited names name x → text_if o (ltb 0 name) code x two ≡ accepted y → Some names code name one two
+  some-text : {y : List ℕ} (code name one two : ℕ) (x : List ℕ) (o : Option Text) → text_for code one ≡ o → Cited names name x → text_if o (ltb 0 name) code x two ≡ accepted y → Some names code (cited name) one two
   unfolding text_if
   some-text code name one two x option.None t c h = never (cc)
   some-text {y} code name one two x (option.Some t) e c h = go (gives (push_of t) (ltb 0 name) two && not (starred code x)) refl h
     where
-      go : (b : Bool) → (gives (push_of t) (ltb 0 name) two && not (starred code x)) ≡ b → unless 9 b (accepted (text_of t x two)) ≡ accepted y → Some names code name one two
+      go : (b : Bool) → (gives (push_of t) (ltb 0 name) two && not (starred code x)) ≡ b → unless 9 b (accepted (text_of t x two)) ≡ accepted y → Some names code (cited name) one two
       go true q h =
           let p = both_true (gives (push_of t) (ltb 0 name) two) _ q in
           some-push (stands code one t e) c (given (push_of t) (ltb 0 name) two p.0) (not-true (starred code x) p.1)
       go false q h = never (cc)
 
-  some-name : {y : List ℕ} (code name one two : ℕ) (n : Sheet (List ℕ)) → ((x : List ℕ) → n ≡ accepted x → Cited names name x) → then' n (λ x. text_if (text_for code one) (ltb 0 name) code x two) ≡ accepted y → Some names code name one two
+  some-name : {y : List ℕ} (code name one two : ℕ) (n : Sheet (List ℕ)) → ((x : List ℕ) → n ≡ accepted x → Cited names name x) → then' n (λ x. text_if (text_for code one) (ltb 0 name) code x two) ≡ accepted y → Some names code (cited name) one two
   some-name code name one two (accepted x) c h = some-text code name one two x (text_for code one) refl (c x refl) h
   some-name code name one two (refused k) c h = never (cc)
 
+-- Of a generated name the code is 1002, whose text has no details.
+module _ {names : List (List ℕ)} (v : ℕ) where
+  some-shadow : {y : List ℕ} (one two : ℕ) → text_if (text_for 1002 one) true 1002 (var_name v) two ≡ accepted y → Some names 1002 (option.Some (generated v)) one two
+  unfolding text_if text_for unused push_of
+  some-shadow {y} one two h = by-one (eqb one 0) (eqb-true one 0) h
+    where
+      by-two : (b : Bool) → (gives (push_of text.Shadows) true two && not (starred 1002 (var_name v))) ≡ b → unless 9 b (accepted (text_of text.Shadows (var_name v) two)) ≡ accepted y → two ≡ 0
+      by-two true q h = let g = given (push_of text.Shadows) true two (both_true (gives (push_of text.Shadows) true two) _ q).0 in omega (arith, g.low, g.high)
+      by-two false q h = never (cc)
+
+      by-one : (b : Bool) → (b ≡ true → one ≡ 0) → text_if (cond b (option.Some text.Shadows) option.None) true 1002 (var_name v) two ≡ accepted y → Some names 1002 (option.Some (generated v)) one two
+      by-one true e h = (0, 0, rw (e refl, by-two _ refl h) (pushed.shadows tt))
+      by-one false e h = never (cc)
+
+  some-generated : {y : List ℕ} (code one two mark : ℕ) → unless 9 (eqb mark 1 && eqb code 1002) (text_if (text_for code one) true code (var_name v) two) ≡ accepted y → Some names code (cited_by mark v) one two
+  some-generated {y} code one two mark = go (eqb mark 1 && eqb code 1002) refl
+    where
+      go : (b : Bool) → (eqb mark 1 && eqb code 1002) ≡ b → unless 9 b (text_if (text_for code one) true code (var_name v) two) ≡ accepted y → Some names code (cited_by mark v) one two
+      go true q h =
+          let p = both_true (eqb mark 1) (eqb code 1002) q in
+          let c = eqb-true code 1002 p.1 in
+          rw (eqb-true mark 1 p.0, c) (some-shadow one two (rw c at h))
+      go false q h = never (cc)
+
 pub only-pushed : OnlyPushed
 unfolding message
-only-pushed s st e code name one two y h = some-name code name one two (name_text s name) (cited s st e name) h
+only-pushed s st e code word one two mark y = go (eqb mark 0) (eqb-true mark 0)
+  where
+    go : (b : Bool) → (b ≡ true → mark ≡ 0)
+        → cond b (then' (name_text s word) (λ x. text_if (text_for code one) (ltb 0 word) code x two)) (then' (name_text s 0) (λ x. unless 9 (eqb mark 1 && eqb code 1002) (text_if (text_for code one) true code (var_name word) two))) ≡ accepted y
+        → Some st.names code (cited_by mark word) one two
+    go true z h = rw (z refl) (some-name code word one two (name_text s word) (table-text s st e word) h)
+    go false z h = some-generated word code one two mark (rw (nameless-text s st e) at h)

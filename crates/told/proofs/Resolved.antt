@@ -1,33 +1,31 @@
--- The resolve walk's findings are pushes that there are: E1001 at an Unresolved, whose name is within the table; E1002 at a path, whose
--- variable has a row, and at a yield. All else that the walk says is no finding, whichever names are hushed.
+-- The resolve walk's findings are pushes that there are: E1001 at an Unresolved, whose name is within the table; E1002 at a path, whose name may be
+-- generated, and at a yield. All else that the walk says is no finding, whichever names are hushed.
 use Rattle.std.specs.Prelude.{Option, None, Some}
 use Prim.Native.Nat.{ℕ, ◌-◌, ◌<◌}
 use mathlib.Core.Path.{◌≡◌, refl}
 use mathlib.Core.Bool.{Bool, true, false, not, ◌&&◌}
-use mathlib.Core.List.{List, [], ◌∷◌, ◌++◌, flat_map, reverse_aux}
+use mathlib.Core.List.{List, [], ◌∷◌, reverse_aux}
 use lib.ListN.{length}
 use borrow.Author.Tests.{not-true}
-use Rattle.scope.specs.Graph.{comprehension_scope, return_scope, call_scope}
+use Rattle.scope.specs.Graph.{comprehension_scope, return_scope, call_scope, Name, indexed}
 use Rattle.heads.specs.Answer.{is_in}
 use Rattle.expr.specs.Tree.{Expr, var, unresolved, node, predicate, comprehension, Exprs, done, more, mark, Steps, end, part, elem}
 use Rattle.expr.specs.Well.{WellE, Wells, WellS, WellPattern}
-use Rattle.expr.specs.Binders.{binder, binders_e, binders, binders_s}
-use Rattle.clauses.specs.Tree.{Projection, projection, Yield, yield, Clause, opening, reading, with', return, unwind, call, Arm, arm, exprs, keys_of}
+use Rattle.clauses.specs.Tree.{Yield, yield, Clause, opening, reading, with', return, unwind, call, Arm, arm, exprs, keys_of}
 use Rattle.clauses.specs.Read.{max_depth}
-use Rattle.clauses.specs.Binders.{binders_p, binders_c, binders_a}
 use Rattle.clauses.specs.Well.{Each, WellAlias, WellYield, WellMany, WellClause, WellArm}
 use Rattle.tables.specs.Row.{path_kind, value_kind, Row, row}
 use Rattle.sheet.specs.Statement.{Statement}
 use Rattle.sheet.specs.Read.{any_binder}
-use Rattle.sheet.specs.Write.{WellStatement}
+use Rattle.sheet.specs.Write.{WellRow, WellStatement}
 use Rattle.semantics.specs.Log.{Finding, Event, open', bind, carry, answer, find, finds_in, logs}
 use Rattle.semantics.specs.World as Walk
 use Rattle.semantics.specs.World.{World, row_of, row_name, variable, opens, star_name, name_of, bytes_of, yield_name, world_of}
 use Rattle.semantics.specs.Resolve.{Hit, hit, Pair, pair, State, lookup, binds, say_if, enter, bind_over, bind_name, leave, standing, use_var, use_name, visit, bind_anew, bind_new, bind_path, bind_elem, resolve, resolves, bind_pattern, carried_by, carry_all, bind_all, barrier, fresh, yields, aliases, sort_by, clause, clauses, arms, start, run, log}
 use Rattle.told.specs.Pushed as pushed
-use Rattle.told.specs.Pushed.{Pushed}
+use Rattle.told.specs.Pushed.{IsName, Pushed}
 use Rattle.told.proofs.Trees.{kind_of, reading-well, done-well, row-well, keys-well}
-use Rattle.told.proofs.Rows.{All, nil, cons, join, cut, names_in_lem}
+use Rattle.told.proofs.Rows.{All, nil, cons, is-name}
 
 -- what is said is no finding, or one of the pushes
 abbrev Fine : List (List ℕ) → Event → Type 0
@@ -51,7 +49,7 @@ all-reverse : {A : Type 0} {P : A → Type 0} {xs ys : List A} → All P xs → 
 all-reverse nil g = g
 all-reverse (cons p h) g = all-reverse h (cons p g)
 
-module _ (warns : Bool) (st : Statement) where
+module _ (warns : Bool) (st : Statement) (rows : Each (WellRow (length st.names)) st.bindings) where
   abbrev w : World
   w = world_of warns st
 
@@ -61,10 +59,6 @@ module _ (warns : Bool) (st : Statement) where
   abbrev Says : State → Type 0
   Says s = All (Fine st.names) s.log
 
-  -- the names of binders are within the table
-  abbrev Named : List ℕ → Type 0
-  Named = All (λ v. row_name (row_of v st.bindings) < length st.names)
-
   fine-if : (b : Bool) (f : Finding) (s : State) → (b ≡ true → Pushed st.names f) → Says s → Says (say_if b (find f) s)
   unfolding say_if
   fine-if true f s p k = cons (p refl) k
@@ -73,7 +67,7 @@ module _ (warns : Bool) (st : Statement) where
   -- the statement's World, but for the names that are hushed
   module _ (hushed : ℕ → Bool) where
     abbrev w' : World
-    w' = record { id = w.id; is_star = w.is_star; is_id = w.is_id; hushed = hushed; row = w.row; warns = w.warns }
+    w' = record { id = w.id; is_star = w.is_star; is_id = w.is_id; hushed = hushed; row = w.row; named = w.named; warns = w.warns }
 
     fine-name : (x : ℕ) (o : Option Hit) (s : State) → x < size → Says s → Says (use_name w' x o s)
     unfolding use_name world_of bytes_of
@@ -90,16 +84,16 @@ module _ (warns : Bool) (st : Statement) where
     fine-var v None s k = k
     fine-var v (Some (row i x j a b)) s k = cons tt k
 
-    fine-anew : (a b x v j : ℕ) (s : State) → x < size → Says s → Says (bind_anew w' a b x v j s)
+    fine-anew : (a b : ℕ) (x : Name) (v j : ℕ) (s : State) → IsName st.names x → Says s → Says (bind_anew w' a b x v j s)
     unfolding bind_anew
     fine-anew a b x v j s h k = fine-if (w'.warns && binds s.cur x s.visible) _ (bind_name x v j s) (λ e. pushed.shadows h) (cons tt k)
 
-    fine-path : (p : Option ℕ) (s : State) → Named (binder p) → Says s → Says (bind_path w' (variable p) s)
-    unfolding bind_path variable binder name_of world_of
-    fine-path (Some v) s (cons h g) k = fine-anew 0 0 (name_of w' v) v path_kind s h k
-    fine-path None s g k = k
+    fine-path : (p : Option ℕ) (s : State) → Says s → Says (bind_path w' (variable p) s)
+    unfolding bind_path variable name_of world_of
+    fine-path (Some v) s k = fine-anew 0 0 (name_of w' v) v path_kind s (is-name st.names v st.bindings rows) k
+    fine-path None s k = k
 
-    fine-new : (o : Option Hit) (x v j : ℕ) (s : State) → Says s → Says (bind_new w' o x v j s)
+    fine-new : (o : Option Hit) (x : Name) (v j : ℕ) (s : State) → Says s → Says (bind_new w' o x v j s)
     unfolding bind_new
     fine-new None x v j s k = cons tt k
     fine-new (Some u) x v j s k = k
@@ -110,34 +104,28 @@ module _ (warns : Bool) (st : Statement) where
     fine-elem j None s k = k
 
     mutual
-      unfolding resolve WellE binders_e
+      unfolding resolve WellE
 
-      fine-E : (t : Expr) (room : ℕ) (s : State) → WellE (any_binder size) t room → Named (binders_e t) → Says s → Says (resolve w' t s)
-      fine-E (var v) room s h g k = fine-var v (w'.row v) s k
-      fine-E (unresolved x) room s h g k = fine-visit (hushed x) x (lookup x s.visible) s h.1 k
-      fine-E (node f es) room s h g k = fine-Es es 0 (room - 1) s h.5 g k
-      fine-E (predicate p) room s h g k = k
-      fine-E (comprehension a b p es) room s h g k =
-          let i = cut (binders_s p) g in
+      fine-E : (t : Expr) (room : ℕ) (s : State) → WellE (any_binder size) t room → Says s → Says (resolve w' t s)
+      fine-E (var v) room s h k = fine-var v (w'.row v) s k
+      fine-E (unresolved x) room s h k = fine-visit (hushed x) x (lookup (indexed x) s.visible) s h.1 k
+      fine-E (node f es) room s h k = fine-Es es 0 (room - 1) s h.5 k
+      fine-E (predicate p) room s h k = k
+      fine-E (comprehension a b p es) room s h k =
           let t = enter comprehension_scope a b s in
-          fine-Es es 0 (room - 1) (bind_pattern w' p t) h.6 i.1 (fine-S p (room - 1) t h.3 i.0 (cons tt k))
+          fine-Es es 0 (room - 1) (bind_pattern w' p t) h.6 (fine-S p (room - 1) t h.3 (cons tt k))
 
-      fine-Es : (t : Exprs) (kind room : ℕ) (s : State) → Wells (any_binder size) kind t room → Named (binders t) → Says s → Says (resolves w' t s)
-      fine-Es done kind room s h g k = k
-      fine-Es (more e es) kind room s h g k =
-          let i = cut (binders_e e) g in
-          fine-Es es kind room (resolve w' e s) h.1 i.1 (fine-E e room s h.0 i.0 k)
-      fine-Es (mark m es) kind room s h g k = fine-Es es kind room s h.2 g k
+      fine-Es : (t : Exprs) (kind room : ℕ) (s : State) → Wells (any_binder size) kind t room → Says s → Says (resolves w' t s)
+      fine-Es done kind room s h k = k
+      fine-Es (more e es) kind room s h k = fine-Es es kind room (resolve w' e s) h.1 (fine-E e room s h.0 k)
+      fine-Es (mark m es) kind room s h k = fine-Es es kind room s h.2 k
 
-      fine-S : (t : Steps) (room : ℕ) (s : State) → WellS (any_binder size) t room → Named (binders_s t) → Says s → Says (bind_pattern w' t s)
-      fine-S end room s h g k = k
-      fine-S (part p r) room s h g k =
-          let i = cut (binder p) g in
-          fine-S r room (bind_path w' (variable p) s) h.2 i.1 (fine-path p s i.0 k)
-      fine-S (elem j a b v es r) room s h g k =
-          let i = cut (binders es) (cut (binder v) g).1 in
+      fine-S : (t : Steps) (room : ℕ) (s : State) → WellS (any_binder size) t room → Says s → Says (bind_pattern w' t s)
+      fine-S end room s h k = k
+      fine-S (part p r) room s h k = fine-S r room (bind_path w' (variable p) s) h.2 (fine-path p s k)
+      fine-S (elem j a b v es r) room s h k =
           let t = bind_elem w' j (variable v) s in
-          fine-S r room (resolves w' es t) h.6 i.1 (fine-Es es 0 room t h.5 i.0 (fine-elem j v s k))
+          fine-S r room (resolves w' es t) h.6 (fine-Es es 0 room t h.5 (fine-elem j v s k))
 
   yield-name : (x : ℕ) (o : Option ℕ) → x < size → WellAlias (any_binder size) o → yield_name x o < size
   unfolding yield_name WellAlias
@@ -148,7 +136,7 @@ module _ (warns : Bool) (st : Statement) where
   unfolding yields Each WellYield
   fine-yields a b [] s h k = k
   fine-yields a b (yield x y v ∷ ys) s h k =
-      fine-yields a b ys (bind_anew w a b (yield_name x y) v value_kind s) h.1 (fine-anew w.hushed a b (yield_name x y) v value_kind s (yield-name x y h.0.0 h.0.1) k)
+      fine-yields a b ys (bind_anew w a b (indexed (yield_name x y)) v value_kind s) h.1 (fine-anew w.hushed a b (indexed (yield_name x y)) v value_kind s (yield-name x y h.0.0 h.0.1) k)
 
   fine-carries : (ps : List Pair) (s : State) → Says s → Says (carry_all w ps s)
   unfolding carry_all
@@ -160,45 +148,33 @@ module _ (warns : Bool) (st : Statement) where
   fine-binds [] s k = k
   fine-binds (pair x v ∷ ps) s k = fine-binds ps (bind_over true x v (Walk.kind_of w v) s) (cons tt k)
 
-  -- projections, and then others
-  row_named : (ps : List Projection) (f : Exprs) → Named (flat_map binders_p ps) → Named (binders f) → Named (binders (exprs ps f))
-  unfolding exprs flat_map binders_p binders_e
-  row_named [] f g i = i
-  row_named (projection a e ∷ ps) f g i = let j = cut (binders_e e) g in join j.0 (row_named ps f j.1 i)
-
-  fine-C : (t : Clause) (s : State) → WellClause (any_binder size) t → Named (binders_c t) → Says s → Says (clause w t s)
-  unfolding clause WellClause WellMany WellPattern binders_c binders barrier fresh sort_by
-  fine-C (opening o a b p) s h g k = fine-S w.hushed p max_depth (enter (opens o) a b s) h.2.1 g (cons tt k)
-  fine-C (reading r a b es) s h g k = fine-Es w.hushed es (kind_of r) max_depth s (reading-well (any_binder size) r es h.1) g k
-  fine-C (with' a b ps f ks) s h g k =
-      let i = cut (flat_map binders_p ps ++ binders f) g in
-      let j = cut (flat_map binders_p ps) i.0 in
+  fine-C : (t : Clause) (s : State) → WellClause (any_binder size) t → Says s → Says (clause w t s)
+  unfolding clause WellClause WellMany WellPattern barrier fresh sort_by
+  fine-C (opening o a b p) s h k = fine-S w.hushed p max_depth (enter (opens o) a b s) h.2.1 (cons tt k)
+  fine-C (reading r a b es) s h k = fine-Es w.hushed es (kind_of r) max_depth s (reading-well (any_binder size) r es h.1) k
+  fine-C (with' a b ps f ks) s h k =
       let c = carried_by w ps s.visible in
-      let r = fine-Es w.hushed (exprs ps f) 0 max_depth s (row-well (any_binder size) ps f h.1.1 h.4) (row_named ps f j.0 j.1) k in
-      fine-Es w.hushed (keys_of ks) 0 max_depth _ (keys-well (any_binder size) ks h.5) i.1 (fine-binds c _ (cons tt (fine-carries c _ (cons tt r))))
-  fine-C (return a b ps ks) s h g k =
-      let i = cut (flat_map binders_p ps) g in
+      let r = fine-Es w.hushed (exprs ps f) 0 max_depth s (row-well (any_binder size) ps f h.1.1 h.4) k in
+      fine-Es w.hushed (keys_of ks) 0 max_depth _ (keys-well (any_binder size) ks h.5) (fine-binds c _ (cons tt (fine-carries c _ (cons tt r))))
+  fine-C (return a b ps ks) s h k =
       let t = leave s (enter return_scope a b s) in
-      let r = fine-Es w.hushed (exprs ps done) 0 max_depth t (row-well (any_binder size) ps done h.1.1 (done-well (any_binder size))) (row_named ps done i.0 nil) (cons tt k) in
-      fine-Es (λ x. is_in x (aliases ps)) (keys_of ks) 0 max_depth _ (keys-well (any_binder size) ks h.2) i.1 r
-  fine-C (unwind a b v e) s h g k = cons tt (cons tt k)
-  fine-C (call a b es ys) s h g k = fine-yields a b ys (enter call_scope a b s) h.2.1 (cons tt k)
+      let r = fine-Es w.hushed (exprs ps done) 0 max_depth t (row-well (any_binder size) ps done h.1.1 (done-well (any_binder size))) (cons tt k) in
+      fine-Es (λ x. is_in x (aliases ps)) (keys_of ks) 0 max_depth _ (keys-well (any_binder size) ks h.2) r
+  fine-C (unwind a b v e) s h k = cons tt (cons tt k)
+  fine-C (call a b es ys) s h k = fine-yields a b ys (enter call_scope a b s) h.2.1 (cons tt k)
 
-  fine-Cs : (ts : List Clause) (s : State) → Each (WellClause (any_binder size)) ts → Named (flat_map binders_c ts) → Says s → Says (clauses w ts s)
-  unfolding clauses Each flat_map
-  fine-Cs [] s h g k = k
-  fine-Cs (t ∷ ts) s h g k = let i = cut (binders_c t) g in fine-Cs ts (clause w t s) h.1 i.1 (fine-C t s h.0 i.0 k)
+  fine-Cs : (ts : List Clause) (s : State) → Each (WellClause (any_binder size)) ts → Says s → Says (clauses w ts s)
+  unfolding clauses Each
+  fine-Cs [] s h k = k
+  fine-Cs (t ∷ ts) s h k = fine-Cs ts (clause w t s) h.1 (fine-C t s h.0 k)
 
-  fine-As : (ts : List Arm) (s : State) → Each (WellArm (any_binder size)) ts → Named (flat_map binders_a ts) → Says s → Says (arms w ts s)
-  unfolding arms Each WellArm WellMany flat_map binders_a
-  fine-As [] s h g k = k
-  fine-As (arm a b cs ∷ ts) s h g k =
-      let i = cut (flat_map binders_c cs) g in
-      fine-As ts (clauses w cs (standing [] 0 s)) h.1 i.1 (fine-Cs cs (standing [] 0 s) h.0.1.1 i.0 k)
+  fine-As : (ts : List Arm) (s : State) → Each (WellArm (any_binder size)) ts → Says s → Says (arms w ts s)
+  unfolding arms Each WellArm WellMany
+  fine-As [] s h k = k
+  fine-As (arm a b cs ∷ ts) s h k = fine-As ts (clauses w cs (standing [] 0 s)) h.1 (fine-Cs cs (standing [] 0 s) h.0.1.1 k)
 
 pub resolved : (warns : Bool) (st : Statement) → WellStatement st → All (Pushed st.names) (finds_in (log warns st))
 unfolding log run start
 resolved warns st h =
-    let i = cut (flat_map binders_c st.head) (names_in_lem (length st.names) st.bindings h.bindings _ h.bound) in
     let s = clauses (world_of warns st) st.head (start st) in
-    fine-finds (all-reverse (fine-As warns st st.arms s h.arms i.1 (fine-Cs warns st st.head (start st) h.head i.0 (cons tt nil))) nil)
+    fine-finds (all-reverse (fine-As warns st h.bindings st.arms s h.arms (fine-Cs warns st h.bindings st.head (start st) h.head (cons tt nil))) nil)

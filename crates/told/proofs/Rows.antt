@@ -1,18 +1,22 @@
--- Rows of an accepted sheet: a row that a variable has is within the tables, and a variable that is bound has one. And what holds of every
--- one of a list: of pieces, of members.
+-- Rows of an accepted sheet: a row that a variable has is within the tables, and so is its name, or it is generated. And what holds of every one of
+-- a list: of pieces, of members.
 use Rattle.std.specs.Prelude.{Option, None, Some}
-use Prim.Native.Nat.{ℕ, ◌≤◌, ◌<◌}
+use Prim.Native.Nat.{ℕ, zero, suc, ◌≤◌, ◌<◌}
+use native.Mathlib.Omega.{arith}
 use mathlib.Core.Path.{◌≡◌, refl}
 use mathlib.Core.Bool.{Bool, true, false, cond, ◌&&◌}
-use mathlib.Core.List.{List, [], ◌∷◌, ◌++◌, map, Memᴰ}
+use mathlib.Core.List.{List, [], ◌∷◌, ◌++◌, Memᴰ}
 use lib.Dec.{eqb}
-use Rattle.heads.specs.Answer.{is_in}
-use Rattle.expr.specs.Binders.{all_known}
+use lib.ListN.{length}
 use Rattle.expr.proofs.Inverse.{never}
 use Rattle.clauses.specs.Well.{Each}
-use Rattle.tables.specs.Row.{Row, row, row_id}
+use Rattle.tables.specs.Distinct.{same_bytes}
+use Rattle.tables.specs.Index.{later, index_of}
+use Rattle.tables.specs.Row.{Row, row}
+use Rattle.tables.specs.VarName.{var_name}
 use Rattle.sheet.specs.Write.{WellRow}
-use Rattle.semantics.specs.World.{row_of, row_name}
+use Rattle.semantics.specs.World.{listed_name, row_of, row_name}
+use Rattle.told.specs.Pushed.{IsName}
 
 pub data All {A : Type 0} (P : A → Type 0) : List A → Type 0 where
   nil : All P []
@@ -22,10 +26,6 @@ module _ {A : Type 0} {P : A → Type 0} where
   pub join : {xs ys : List A} → All P xs → All P ys → All P (xs ++ ys)
   join nil g = g
   join (cons p h) g = cons p (join h g)
-
-  pub cut : (xs : List A) {ys : List A} → All P (xs ++ ys) → All P xs × All P ys
-  cut [] h = (nil, h)
-  cut (x ∷ xs) (cons p h) = let g = cut xs h in (cons p g.0, g.1)
 
   pub member : {a : A} {xs : List A} → All P xs → Memᴰ a xs → P a
   member {a = a} nil x3 = elim x3 [ ]
@@ -51,23 +51,31 @@ row_in names v (row i x k a b ∷ t) h = go (eqb v i) (row_in names v t h.1)
     go true g = (h.0.1, h.0.2.0, h.0.2.1)
     go false g = g
 
--- the name of a variable that is bound is within the table
-pub name_in_lem : (names v : ℕ) (t : List Row) → Each (WellRow names) t → is_in v (map row_id t) ≡ true → row_name (row_of v t) < names
-unfolding row_of Each WellRow is_in row_id row_name
-name_in_lem names v [] h e = never (cc)
-name_in_lem names v (row i x k a b ∷ t) h e = go (eqb v i) (name_in_lem names v t h.1) e
-  where
-    go : (q : Bool) → (is_in v (map row_id t) ≡ true → row_name (row_of v t) < names) → cond q true (is_in v (map row_id t)) ≡ true → row_name (cond q (Some (row i x k a b)) (row_of v t)) < names
-    go true g e = h.0.1
-    go false g e = g e
+-- the index of a name that is found is within the table
+later-le : (n m : ℕ) → n ≤ m → later n ≤ suc m
+later-le zero m h = omega arith
+later-le (suc n) m h = omega arith
 
--- so are those of all that are known
-pub names_in_lem : (names : ℕ) (t : List Row) → Each (WellRow names) t → (vs : List ℕ) → all_known (λ v. is_in v (map row_id t)) vs ≡ true → All (λ v. row_name (row_of v t) < names) vs
-unfolding all_known
-names_in_lem names t h [] e = nil
-names_in_lem names t h (v ∷ vs) e = go (is_in v (map row_id t)) refl (names_in_lem names t h vs) e
+index-within : (x : List ℕ) (names : List (List ℕ)) → index_of x names ≤ length names
+unfolding index_of
+index-within x [] = omega arith
+index-within x (y ∷ ys) = go (same_bytes x y) (index-within x ys)
   where
-    go : (q : Bool) → is_in v (map row_id t) ≡ q → (all_known (λ v. is_in v (map row_id t)) vs ≡ true → All (λ v. row_name (row_of v t) < names) vs)
-        → (q && all_known (λ v. is_in v (map row_id t)) vs) ≡ true → All (λ v. row_name (row_of v t) < names) (v ∷ vs)
-    go true q g e = cons (name_in_lem names v t h q) (g e)
-    go false q g e = never (cc)
+    go : (b : Bool) → index_of x ys ≤ length ys → cond b 1 (later (index_of x ys)) ≤ suc (length ys)
+    go true h = omega arith
+    go false h = later-le (index_of x ys) (length ys) h
+
+-- so a variable's name is one of the table, or generated
+module _ (names : List (List ℕ)) (v : ℕ) where
+  listed-name : (i : ℕ) → i ≤ length names → IsName names (listed_name v i)
+  unfolding listed_name
+  listed-name zero h = tt
+  listed-name (suc i) h = omega arith
+
+  named : (r : Option Row) → RowIn (length names) r → IsName names (row_name v (index_of (var_name v) names) r)
+  unfolding row_name
+  named None h = listed-name (index_of (var_name v) names) (index-within (var_name v) names)
+  named (Some (row i x k a b)) h = h.0
+
+  pub is-name : (t : List Row) → Each (WellRow (length names)) t → IsName names (row_name v (index_of (var_name v) names) (row_of v t))
+  is-name t h = named (row_of v t) (row_in (length names) v t h)

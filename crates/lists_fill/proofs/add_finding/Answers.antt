@@ -1,4 +1,4 @@
--- A finding's six words are stored; an event of another sort adds nothing.
+-- A finding's words are stored; an event of another sort adds nothing.
 use Rattle.entries.proofs.Adding.{none_after}
 use Rattle.lists_fill.proofs.Sorts.{no-finding, one-finding}
 use Rattle.lists_fill.proofs.add_finding.Goals as goal

@@ -1,6 +1,9 @@
 -- The oldest finding stands at the end, and each later one before it.
-use Rattle.std.proofs.Common.{◌≡◌, suc, ◌+◌, ◌-◌, ◌*◌, ◌≤◌, [], ◌∷◌, length, append-nil, add-zero, add-one, arith}
-use Rattle.steps.specs.Said.{findings, finding_at}
+use Rattle.std.proofs.Common.{◌≡◌, ◌∙◌, suc, ◌+◌, ◌-◌, ◌*◌, ◌≤◌, [], ◌∷◌, length, append-nil, add-zero, add-one, arith}
+use Rattle.finding.specs.Flat.{finding_width}
+use Rattle.finding.specs.Records.{finding_by}
+use Rattle.finding.specs.Logged.{logged_at}
+use Rattle.steps.specs.Said.{findings}
 use Rattle.entries.specs.Adding.{after}
 use Rattle.lists_fill.specs.Said.{told_in}
 use Rattle.lists_fill.proofs.Adding.{begin, turn, finish, told-after}
@@ -18,10 +21,11 @@ loop-i-preserved c =
     let i = c.loop-i.i in
     let p = length l - suc i * 6 in
     let next : c.args.m + (i + 1) ≡ c.args.m + i + 1 = omega arith in
-    let room : (c.args.m + i + 1) * 6 ≤ length c.loop-i.out = omega (arith, c.loop-i.invariant.kept) in
+    let room : (c.args.m + i + 1) * finding_width ≤ length c.loop-i.out = omega (arith, c.loop-i.invariant.kept) in
+    let told : finding_by c.from-told.result ≡ logged_at l p = c.from-told.ensures ∙ rw (c.six_at.ensures, add-one i) in
     rw next
-    (turn {g = λ id. after (finding_at l p ∷ [])} c.loop-i.invariant c.loop-i-test.true
-    (λ id. rw (c.set_entry.ensures, c.six_at.ensures, add-one i) (one_told _ _ l p room)) (λ id es. told-after _ _ es))
+    (turn {g = λ id. after (logged_at l p ∷ [])} c.loop-i.invariant c.loop-i-test.true
+    (λ id. rw c.words_at.ensures (one_told _ _ c.from-told.result told room)) (λ id es. told-after _ _ es))
 
 pub returns : goal.returns
 returns c =

@@ -8,13 +8,13 @@ use Rattle.records.proofs.check.Goals as goal
 pub store_all-requires : goal.store_all-requires
 store_all-requires c =
     let a = c.check_words-answer in
-    let w = within c.args.warns c.args.s.now (lent c.args.lists.now) (replicate 12288 0) refl a.result c.findings_in.result a.ensures.answers c.findings_in.ensures in
+    let w = within c.args.warns c.args.s.now (lent c.args.lists.now) (replicate 14336 0) refl a.result c.findings_in.result a.ensures.answers c.findings_in.ensures in
     (w.0, omega (arith, w.1, c.flat-2-1.given.1.0))
 
 pub returns-clause-answers : goal.returns-clause-answers
 returns-clause-answers c =
     let a = c.check_words-answer in
-    same-answer c.args.warns c.args.s.now (lent c.args.lists.now) (replicate 12288 0) refl a.result c.findings_in.result a.ensures.answers c.findings_in.ensures
+    same-answer c.args.warns c.args.s.now (lent c.args.lists.now) (replicate 14336 0) refl a.result c.findings_in.result a.ensures.answers c.findings_in.ensures
 
 pub returns-clause-leaves : goal.returns-clause-leaves
 returns-clause-leaves c =
@@ -28,4 +28,4 @@ returns-clause-leaves c =
       c.lists-2-1.given.1 (sym s.carried),
       c.lists-1.given.1 (sym s.recorded),
     )
-    (same_lists c.args.warns c.args.s.now (lent c.args.lists.now) (replicate 12288 0) refl a.result c.findings_in.result a.ensures.answers c.findings_in.ensures a.ensures.leaves)
+    (same_lists c.args.warns c.args.s.now (lent c.args.lists.now) (replicate 14336 0) refl a.result c.findings_in.result a.ensures.answers c.findings_in.ensures a.ensures.leaves)
