@@ -1,5 +1,5 @@
 -- What filling the five lists from what was said and carried asks and leaves.
-use Rattle.std.specs.Prelude.{ℕ, ◌+◌, ◌*◌, ◌≤◌, ◌≡◌, Bool, true, ◌&&◌, List, [], ◌++◌, leb, length, get_or, take}
+use Rattle.std.specs.Prelude.{ℕ, ◌+◌, ◌*◌, ◌^◌, ◌<◌, ◌≤◌, ◌≡◌, Bool, true, ◌&&◌, List, [], ◌++◌, leb, length, get_or, take}
 use Rattle.words.specs.Words.{words}
 use Rattle.sheet.specs.Trailer.{places_of}
 use Rattle.sheet.specs.Statement.{Statement}
@@ -12,6 +12,7 @@ use Rattle.semantics.specs.Resolve.{log}
 use Rattle.semantics.specs.Kinds.{kinds}
 use Rattle.semantics.specs.Lists.{notes, bindings, carried_list}
 use Rattle.theorems.specs.Woven.{written}
+use Rattle.rowless.specs.Rowless.{most}
 use Rattle.rows.specs.Table.{Stands, Standing}
 use Rattle.rows.specs.declared.Rows.{Rows}
 use Rattle.rows.specs.declared.Index.{Index}
@@ -102,5 +103,8 @@ pub record Again (warns : Bool) (s : List ℕ) (a : Scratch) (l : Lent ℕ) (roo
   pub marked : length (words s) ≤ length a.marks.now
   pub unmarked : (i : ℕ) → get_or a.marks.now i 0 ≡ 0
   pub pairs : 2 * length (words s) ≤ length a.held.now
-  pub names : 4 * (length (words s) + 2) ≤ length a.walk.visible.words.now
+  pub names : most a.walk.rowless + 4 * (length (words s) + 2) ≤ length a.walk.visible.words.now
+  pub binders : length (words s) < 3 * most a.walk.rowless
+  pub listed : most a.walk.rowless * 2 ≤ length a.walk.rowless.entries.now
+  pub small : most a.walk.rowless < 2 ^ 31
   pub wide : length (words s) * 6 ≤ length a.walk.log.words.now

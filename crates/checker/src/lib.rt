@@ -174,6 +174,7 @@ fn check_again(
 {
     scratch.chains.fill(0);
     scratch.walk.visible.words.fill(0);
+    scratch.walk.rowless.chains.fill(0);
     let index = listen(s, warns, scratch, lists.carried)?;
     Ok(lists.fill(s, index, scratch))
 }
@@ -205,19 +206,26 @@ fn check_in(
     Ok(lists.fill(s, index, scratch))
 }
 
-// With scratch for sheets of up to N words: V, F and H are the lengths that follow from N, which the language doesn't compute of it. No
+// With scratch for sheets of up to N words: V, F, H and B are the lengths that follow from N, which the language doesn't compute of it. No
 // heap: scratch is arrays. One array, cut
 // as crate listing cuts its own, would need one length, but laws of the zeros in each part, which are those of listing once more.
-fn check_sized<const N: usize, const V: usize, const F: usize, const H: usize>(
+fn check_sized<
+    const N: usize,
+    const V: usize,
+    const F: usize,
+    const H: usize,
+    const B: usize,
+>(
     s: &[u8],
     warns: bool,
     lists: &mut Lists<u32>,
     room: usize,
 ) -> Result<Counts, Refusal>
     requires few { (length (words s.now) ≤ N) × (N ≤ 2048) }
-    requires vis { V ≡ 4 * (N + 2) }
+    requires vis { V ≡ 4 * (N + 2) + B / 2 }
     requires found { F ≡ N * 6 }
     requires held { H ≡ 2 * N }
+    requires binders { (N < 3 * (B / 2)) × (B ≤ 4096) }
     ensures still { IsStill lists.old lists.new }
     ensures answers { Answers warns s.now (lent lists.old) room result (lent lists.new) }
 {
@@ -228,6 +236,8 @@ fn check_sized<const N: usize, const V: usize, const F: usize, const H: usize>(
     let mut held = [0u32; H];
     let mut visible = [0u32; V];
     let mut said = [0u32; F];
+    let mut slots = [0u32; B];
+    let mut entries = [0u32; B];
     let mut kept = [0u32; N];
     let mut scratch = Scratch {
         places: &mut places,
@@ -235,7 +245,7 @@ fn check_sized<const N: usize, const V: usize, const F: usize, const H: usize>(
         chains: &mut chains,
         marks: &mut marks,
         held: &mut held,
-        walk: Walk::new(&mut visible, &mut said),
+        walk: Walk::new(&mut visible, &mut said, &mut slots, &mut entries),
     };
     check_in(s, warns, &mut scratch, &mut kept, lists, room)
 }
@@ -252,8 +262,8 @@ fn check_large(
     ensures answers { Answers warns s.now (lent lists.old) room result (lent lists.new) }
 {
     match s.len() {
-        0..=4096 => check_sized::<1024, 4104, 6144, 2048>(s, warns, lists, room),
-        4097..=8192 => check_sized::<2048, 8200, 12288, 4096>(s, warns, lists, room),
+        0..=4096 => check_sized::<1024, 4446, 6144, 2048, 684>(s, warns, lists, room),
+        4097..=8192 => check_sized::<2048, 8883, 12288, 4096, 1366>(s, warns, lists, room),
         _ => Err(Refusal::Size),
     }
 }
@@ -271,8 +281,8 @@ pub fn check_words(
     ensures leaves { lent lists.new ≡ left_in warns s.now (lent lists.old) room }
 {
     match s.len() {
-        0..=256 => check_sized::<64, 264, 384, 128>(s, warns, lists, room),
-        257..=1024 => check_sized::<256, 1032, 1536, 512>(s, warns, lists, room),
+        0..=256 => check_sized::<64, 286, 384, 128, 44>(s, warns, lists, room),
+        257..=1024 => check_sized::<256, 1118, 1536, 512, 172>(s, warns, lists, room),
         _ => check_large(s, warns, lists, room),
     }
 }
