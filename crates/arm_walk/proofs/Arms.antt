@@ -8,6 +8,7 @@ use Rattle.semantics.specs.Resolve.{standing}
 use Rattle.fused.specs.Fused.{Both}
 use Rattle.fused.specs.Clauses.{arm_go}
 use Rattle.visible.specs.Visible.{seens}
+use Rattle.steps.specs.Named.{as_named}
 use Rattle.steps.specs.Hold.{Holds, Left, on_names}
 use Rattle.steps.specs.declared.Walk.{Walk}
 use Rattle.steps.specs.declared.context.Context.{Context}
@@ -29,7 +30,7 @@ moved n = rw n.now (record { got = n.got.same; holds = λ h. placed-holds h })
 
 pub arm-takes : {c : Context} {w w1 w2 w3 w4 : Walk} {out new : List ℕ} {a b n : ℕ} → Next c 0 4294967296 w w1 (Ok a) → Next c a 4294967296 w1 w2 (Ok b) → Next c 0 4294967296 w2 w3 (Ok n) →
     Left w3 w4 0 0 → Takes c w4 out new (clauses_at c names_alone n) → Takes c w out new (arm_at c both_walks)
-unfolding arm_go seens
+unfolding arm_go seens as_named
 arm-takes n1 n2 n3 l x =
     let p1 = moved n1 in
     let p2 = moved n2 in

@@ -7,7 +7,7 @@ use mathlib.Core.Path.{◌≡◌, refl, sym, ◌∙◌, ap}
 use mathlib.Core.Bool.{Bool, true, false, not, ◌&&◌}
 use mathlib.Core.List.{List, [], ◌∷◌, ◌++◌, reverse, reverse_aux, append_assoc, append-nil}
 use lib.ListN.{length, length-append}
-use Rattle.scope.specs.Graph.{root_scope, with_barrier, comprehension_scope, return_scope, call_scope, Carried, carried}
+use Rattle.scope.specs.Graph.{root_scope, with_barrier, comprehension_scope, return_scope, call_scope, Name, indexed, Carried, carried}
 use Rattle.expr.specs.Tree.{Expr, var, unresolved, node, predicate, comprehension, Exprs, done, more, mark, Steps, end, part, elem}
 use Rattle.clauses.specs.Tree.{Yield, yield, Clause, opening, reading, with', return, unwind, call, exprs, keys_of}
 use Rattle.tables.specs.Row.{Row, row, path_kind, value_kind}
@@ -63,18 +63,18 @@ module _ (w : World) where
   unfolding visit use_name oldest
   visit-none true x o s = refl
   visit-none false x (Some (hit v u)) s = refl
-  visit-none false x None s = find_none (not (w.is_star x)) (finding e1001 0 0 (suc x) 0 0) _
+  visit-none false x None s = find_none (not (w.is_star x)) (finding e1001 0 0 (Some (indexed x)) 0 0) _
 
-  anew-none : (a b x v k : ℕ) (s : State) → oldest (bind_anew w a b x v k s).log ≡ oldest s.log
+  anew-none : (a b : ℕ) (x : Name) (v k : ℕ) (s : State) → oldest (bind_anew w a b x v k s).log ≡ oldest s.log
   unfolding bind_anew oldest
-  anew-none a b x v k s = find_none (w.warns && binds s.cur x s.visible) (finding e1002 a b (suc x) 0 0) (bind_name x v k s)
+  anew-none a b x v k s = find_none (w.warns && binds s.cur x s.visible) (finding e1002 a b (Some x) 0 0) (bind_name x v k s)
 
   path-none : (o : Option ℕ) (s : State) → oldest (bind_path w o s).log ≡ oldest s.log
   unfolding bind_path
   path-none None s = refl
   path-none (Some v) s = anew-none 0 0 (name_of w v) v path_kind s
 
-  new_none : (o : Option Hit) (x v k : ℕ) (s : State) → oldest (bind_new w o x v k s).log ≡ oldest s.log
+  new_none : (o : Option Hit) (x : Name) (v k : ℕ) (s : State) → oldest (bind_new w o x v k s).log ≡ oldest s.log
   unfolding bind_new oldest
   new_none None x v k s = refl
   new_none (Some u) x v k s = refl
@@ -89,7 +89,7 @@ module _ (w : World) where
 
     resolve-none : (t : Expr) (s : State) → oldest (resolve w t s).log ≡ oldest s.log
     resolve-none (var v) s = var-none v (w.row v) s
-    resolve-none (unresolved x) s = visit-none (w.hushed x) x (lookup x s.visible) s
+    resolve-none (unresolved x) s = visit-none (w.hushed x) x (lookup (indexed x) s.visible) s
     resolve-none (node f es) s = resolves-none es s
     resolve-none (predicate p) s = refl
     resolve-none (comprehension a b p es) s = resolves-none es _ ∙ pattern-none p (enter comprehension_scope a b s)
@@ -107,7 +107,7 @@ module _ (w : World) where
   yields_none : (a b : ℕ) (ys : List Yield) (s : State) → oldest (yields w a b ys s).log ≡ oldest s.log
   unfolding yields
   yields_none a b [] s = refl
-  yields_none a b (yield x y v ∷ ys) s = yields_none a b ys _ ∙ anew-none a b (yield_name x y) v value_kind s
+  yields_none a b (yield x y v ∷ ys) s = yields_none a b ys _ ∙ anew-none a b (indexed (yield_name x y)) v value_kind s
 
 -- ---- a WITH
 module _ (w : World) where

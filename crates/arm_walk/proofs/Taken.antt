@@ -20,6 +20,7 @@ use Rattle.theorems.specs.Needs.{carried_in}
 use Rattle.fused.specs.Fused.{Both, Mode, Go, rounds}
 use Rattle.visible.specs.Stack as stack
 use Rattle.visible.proofs.Places.{length-seens}
+use Rattle.steps.specs.Named.{as_named}
 use Rattle.steps.specs.Hold.{Holds}
 use Rattle.steps.specs.declared.Walk.{Walk}
 use Rattle.steps.specs.declared.context.Context.{Context}
@@ -29,6 +30,7 @@ use Rattle.clause_walk.specs.Clauses.{clause_at}
 use Rattle.entries.specs.Filled.{carried_words}
 use Rattle.entries.specs.Adding as entries
 use Rattle.arm_walk.specs.Taking.{carried_as, Carries, Stores, Takes}
+use Rattle.arm_walk.proofs.Storing.{length-named}
 use Rattle.arm_walk.proofs.Carrying.{Carrying, nothing, all}
 use Rattle.arm_walk.proofs.Walked.{walked-carries}
 
@@ -47,17 +49,17 @@ unfolding carried_as
 none_seen b = refl
 
 -- the names that are seen are carried, if there are any
-store-seen : {w : Walk} {out new : List ℕ} {from : ℕ} (old : List ℕ) (es : List Carried) (n c : ℕ) (seen : List Seen) → w.taken ≡ n → w.cur ≡ c → stack.entries w.visible ≡ seen →
-    n ≡ from + length seen → 0 < c → n * 3 ≤ length out → Stores w out new from → entries.Holds carried_words old out from es → entries.Holds carried_words old new n (es ++ carried_as (c - 1) seen)
+store-seen : {w : Walk} {out new : List ℕ} {from : ℕ} (old : List ℕ) (es : List Carried) (n c : ℕ) (seen : List Seen) → w.taken ≡ n → w.cur ≡ c → as_named w.rowless (stack.entries w.visible) ≡ seen →
+    n ≡ from + length seen → 0 < c → n * 4 ≤ length out → Stores w out new from → entries.Holds carried_words old out from es → entries.Holds carried_words old new n (es ++ carried_as (c - 1) seen)
 store-seen {out = out} {new} {from} old es n c [] t q v l p r st h =
     let same : new ≡ out = st.nothing (omega arith) in
     let z : n ≡ from = omega arith in
     rw (same, z, none_seen (c - 1), append-nil es) h
 store-seen {w} old es n c (x ∷ seen) t q v l p r st h =
-    let top : w.visible.top ≡ length (x ∷ seen) = sym (length-seens w.visible.names w.visible.top w.visible.words.now) ∙ ap length v in
+    let top : w.visible.top ≡ length (x ∷ seen) = sym (length-named w.rowless (stack.entries w.visible) ∙ length-seens w.visible.names w.visible.top w.visible.words.now) ∙ ap length v in
     rw (← t, ← q, ← v) (st.stores old es (omega arith) (omega arith) (omega arith) (omega arith) h)
 
-store-all : {w : Walk} {out new old : List ℕ} {from : ℕ} (l l' : List Event) (c : ℕ) (seen : List Seen) → from ≡ carried_in l → w.taken ≡ carried_in l' → w.cur ≡ c → stack.entries w.visible ≡ seen →
+store-all : {w : Walk} {out new old : List ℕ} {from : ℕ} (l l' : List Event) (c : ℕ) (seen : List Seen) → from ≡ carried_in l → w.taken ≡ carried_in l' → w.cur ≡ c → as_named w.rowless (stack.entries w.visible) ≡ seen →
     0 < c → carried_in l' ≡ carried_in l + length seen → carries_in (reverse l') ≡ carries_in (reverse l) ++ carried_as (c - 1) seen → Stores w out new from → Carries old out l → Carries old new l'
 store-all {old = old} l l' c seen f t q v p n e st y =
     record {

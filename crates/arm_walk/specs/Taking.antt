@@ -42,4 +42,4 @@ pub record Storing (w : Walk) : Type 0 where
 -- a walk stores what it carries
 pub record Takes (c : Context) (w : Walk) (out new : List ℕ) (G : Goer) : Type 0 where
   pub kept : length new ≡ length out
-  pub takes : (id : ℕ → ℕ) (s t : Both) (rest old : List ℕ) → Holds id c w s → G id s (rest_in c w) ≡ ok t rest → Carries old out s.names.log → Carries old new t.log
+  pub takes : (id : ℕ → ℕ) (s t : Both) (rest old : List ℕ) → Holds id c w s → G id s (rest_in c w) ≡ ok t rest → Carries old out s.names.log → Carries old new t.names.log

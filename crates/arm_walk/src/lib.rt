@@ -14,7 +14,7 @@ ghost use Rattle.arm_walk.specs.Taking.{Storing, Stores, Takes};
 
 use clause_parts::{next_any, next_word};
 use clause_walk::walk_clause;
-use entries::put_carried;
+use entries::{CARRIED_WIDTH, put_carried};
 use refusal::Refusal;
 use steps::{Context, Mode, Walk};
 
@@ -27,7 +27,7 @@ fn take_carried(walk: &Walk, carried: &mut [u32], from: u32)
     if taken <= from {
         return;
     }
-    if carried.len() < taken as usize * 4 {
+    if carried.len() < taken as usize * CARRIED_WIDTH {
         return;
     }
     // Neither of these ever ends it: a clause that carries opens two scopes, and what it carried is all that is visible.

@@ -3,7 +3,7 @@
 -- `clear-in`).
 -- What the walk over the section's words says of the section: it is refused (`walks-fell`, at a `?`), or reaches the end or not
 -- (`walks-to`). From one section to the next: `stands_on`.
-use Prim.Native.Nat.{ℕ, ◌*◌, ◌<◌, ◌≤◌}
+use Prim.Native.Nat.{ℕ, ◌*◌, ◌/◌, ◌<◌, ◌≤◌}
 use native.Mathlib.Omega.{arith}
 use mathlib.Core.Path.{◌≡◌, refl, ap, sym, ◌∙◌}
 use mathlib.Core.Bool.{Bool, true, false, not}
@@ -36,7 +36,7 @@ use Rattle.walk.specs.Goes.{Goer, rest_in}
 use Rattle.clause_parts.specs.Passes.{Passes, Held, Clear}
 use Rattle.arm_walk.specs.Clauses.{both_walks, clauses_at, arms_at}
 use Rattle.arm_walk.specs.Taking.{Takes}
-use Rattle.sheet_walk.specs.Parts.{CutTo, Set, Lent, Beginning, FitTo, Standing, Walker, DoneAs, TakesAll, Walks, head_in, arms_in}
+use Rattle.sheet_walk.specs.Parts.{CutTo, Set, Lent, Beginning, FitTo, Standing, Lasting, Walker, DoneAs, TakesAll, Walks, head_in, arms_in}
 
 -- ---- a context that is cut
 abbrev pub cut_to : ℕ → Context → Context
@@ -48,6 +48,7 @@ is-cut to c =
       words = words-front to c.section.bytes.now;
       names = refl;
       rows = refl;
+      texts = refl;
       uses = refl;
       hushed = refl;
       star = refl;
@@ -67,10 +68,11 @@ module _ {to : ℕ} {c c' : Context} (k : CutTo to c c') where
         standing = rw k.rows f.standing;
         named = λ v x n e. rw k.names (f.named v x n (rw k.rows at e));
         used = rw (k.names, k.uses) f.used;
+        texts = rw (k.names, k.texts) f.texts;
       }
 
   cut-world : (id : ℕ → ℕ) → world_at c' id ≡ world_at c id
-  cut-world id = world_same (world_at c' id) (world_at c id) (λ x. refl) (λ x. rw k.star refl) (λ x. rw k.ident refl) (λ x. rw k.hushed refl) (λ v. rw k.rows refl) k.warns
+  cut-world id = world_same (world_at c' id) (world_at c id) (λ x. refl) (λ x. rw k.star refl) (λ x. rw k.ident refl) (λ x. rw k.hushed refl) (λ v. rw k.rows refl) (λ v. rw k.texts refl) k.warns
 
   cut-holds : {id : ℕ → ℕ} {w : Walk} {u : Both} → Holds id c w u → Holds id c' w u
   cut-holds h =
@@ -98,27 +100,32 @@ module _ {to : ℕ} {c c' : Context} (k : CutTo to c c') where
         uses = rw (k.names, k.uses) at h.uses;
       }
 
--- what fits goes by how many names and words there are
-fit-alike : {c c' : Context} {w : Walk} → memory.names_in c' ≡ memory.names_in c → words_in c' ≡ words_in c → Fit 0 c w → Fit 0 c' w
-fit-alike a b f =
+-- what fits goes by the names and by how many words there are
+fit-alike : {c c' : Context} {w : Walk} → memory.names_in c' ≡ memory.names_in c → c'.texts ≡ c.texts → words_in c' ≡ words_in c → Fit 0 c w → Fit 0 c' w
+fit-alike a t b f =
     record {
-      some = f.some;
-      places = rw a f.places;
+      listed = rw a f.listed;
+      heads = f.heads;
+      numbered = f.numbered;
+      right = rw t f.right;
+      below = f.below;
       sound = f.sound;
       descends = f.descends;
       cur = f.cur;
       last = f.last;
       count = f.count;
       stack = f.stack;
+      rowless = f.rowless;
       olds = f.olds;
       needs = f.needs;
       within = rw b f.within;
       names = rw b f.names;
+      binders = rw b f.binders;
       room = rw b f.room;
     }
 
 fits-to : {to : ℕ} {c c' : Context} {w : Walk} → CutTo to c c' → Fit 0 c' w → FitTo to c w
-fits-to k f c'' j = fit-alike (j.names ∙ sym k.names) (j.words ∙ sym k.words) f
+fits-to k f c'' j = fit-alike (j.names ∙ sym k.names) (j.texts ∙ sym k.texts) (j.words ∙ sym k.words) f
 
 -- ---- what is walked
 -- what is used up leaves nothing
@@ -214,28 +221,34 @@ module _ {p : Places} {c : Context} (h : Set p c) where
     clear-in x = record { room = rw k.names x.clear.room; clear = x.clear.clear }
 
 -- the end of a section is the beginning of the next
-pub stands_on : {p : Places} {c : Context} {w₀ w : Walk} → Beginning p c w₀ → length w.visible.words.now ≡ length w₀.visible.words.now → length w.log.words.now ≡ length w₀.log.words.now → Standing p.tail p.tail c w → Standing p.tail p.trailer c w
-stands_on {p} {c} {w = w} b seen wrote st =
+pub stands_on : {p : Places} {c : Context} {w₀ w : Walk} → Beginning p c w₀ → Lasting w₀ w → Standing p.tail p.tail c w → Standing p.tail p.trailer c w
+stands_on {p} {c} {w = w} b y st =
     let f = st.fit (cut_to p.tail c) (is-cut p.tail c) in
     let h = b.set in
+    let same = ap (λ (n : ℕ). n / 2) y.rowless.slots in
     record {
       at = st.at;
       fit = λ c' k.
           let l = cut-long k (trailer-long h) in
           let t = trailer-long h in
           record {
-            some = f.some;
-            places = omega (arith, k.names, f.places);
+            listed = f.listed ∙ sym k.names;
+            heads = f.heads;
+            numbered = f.numbered;
+            right = rw k.texts f.right;
+            below = f.below;
             sound = f.sound;
             descends = f.descends;
             cur = f.cur;
             last = f.last;
             count = f.count;
             stack = f.stack;
+            rowless = f.rowless;
             olds = f.olds;
             needs = f.needs;
             within = omega (arith, st.at, l, h.places.tail);
-            names = omega (arith, b.names, seen, l, t);
-            room = omega (arith, b.room, wrote, l, h.places.trailer, length-words c.section.bytes.now);
+            names = omega (arith, b.names, y.seen, same, l, t);
+            binders = omega (arith, b.binders, same, l, t);
+            room = omega (arith, b.room, y.wrote, l, h.places.trailer, length-words c.section.bytes.now);
           };
     }

@@ -8,7 +8,7 @@ use Prim.Native.Nat.{ℕ, zero, suc, ◌+◌, ◌*◌, ◌<◌, ◌≤◌}
 use native.Mathlib.Omega.{arith}
 use mathlib.Core.Path.{◌≡◌, refl, ap, sym, subst, ◌∙◌}
 use mathlib.Core.Bool.{Bool, true, false, ◌&&◌, and-true, and-false}
-use mathlib.Core.List.{List, [], ◌∷◌, map}
+use mathlib.Core.List.{List, [], ◌∷◌, flat_map, append-nil}
 use lib.Dec.{eqb, eqb-suc-suc}
 use lib.ListN.{length, take, drop, get_or, length-take, length-drop, length-map}
 use lib.Seq.{get_or-take, length-take-le}
@@ -19,6 +19,8 @@ use Rattle.words.proofs.Words.{length-words}
 use Rattle.heads.specs.Got.{ok, many}
 use Rattle.heads.specs.Answer.{row_ids, is_in}
 use Rattle.tables.specs.Distinct.{same_bytes, name_in, distinct}
+use Rattle.tables.specs.Name.{name_words}
+use Rattle.tables.specs.VarName.{var_name}
 use Rattle.tables.specs.Row.{Row, read_row}
 use Rattle.tables.proofs.Fresh.{same-comm}
 use Rattle.tables.proofs.Front.{get_d_map}
@@ -30,6 +32,7 @@ use Rattle.sheet.specs.declared.trailer.Places.{Places}
 use Rattle.sheet.proofs.Placing.{in-places}
 use Rattle.sheet.proofs.Cutting.{ids-take}
 use Rattle.sheet.proofs.Reading.{rows-read}
+use Rattle.sheet.proofs.NameBytes.{names-words, names-give}
 use Rattle.sheet.proofs.Accepted.{names-hold, rows-hold}
 use Rattle.semantics.specs.World.{star_name, id_name, bytes_of, world_of}
 use Rattle.fused.proofs.ApartStatement.{world_by, world_same}
@@ -38,7 +41,7 @@ use Rattle.rows.specs.Table.{row_by}
 use Rattle.rows.specs.declared.Index.{Index}
 use Rattle.rows.proofs.Chains.{seek-le}
 use Rattle.rows.proofs.Found.{row-found}
-use Rattle.steps.specs.Memory.{is_the, world_at}
+use Rattle.steps.specs.Memory.{is_the, texts_in, world_at}
 use Rattle.steps.specs.Hold.{Fine}
 use Rattle.steps.specs.declared.context.Context.{Context}
 use Rattle.tables.specs.Index as index
@@ -143,6 +146,22 @@ module _ {s : List ℕ} {p : Places} {choice : Choice} {x : Index} {places ids c
   apart : distinct name_in (names_by s p places) ≡ true
   apart = ((names-hold p.names (take (p.rows * 4) s)).held (names_by s p places) t.has.names).1
 
+  counted : length (names_by s p places) ≡ p.names
+  counted =
+      let ns = names_by s p places in
+      sym (length-map ns use_id) ∙ ap length (sym (t.tabled.uses refl)) ∙ length-take-le p.names ids enough
+
+  -- the names stand before the bindings
+  before : length (flat_map name_words (names_by s p places)) ≤ p.rows
+  before =
+      let e = take (p.rows * 4) s in
+      let h = (names-give p.names e).given (names_by s p places) [] ((names-hold p.names e).held (names_by s p places) t.has.names).0 in
+      let y : words e ≡ flat_map name_words (names_by s p places) = ap words (h.0 ∙ append-nil _) ∙ names-words (names_by s p places) in
+      omega (arith, ap length y, length-words e, length-take (p.rows * 4) s)
+
+  texts : texts_in c ≡ names_by s p places
+  texts = rw (q.texts, q.placed) refl
+
   fine : Fine c
   fine =
       record {
@@ -150,6 +169,7 @@ module _ {s : List ℕ} {p : Places} {choice : Choice} {x : Index} {places ids c
         standing = rw (q.indexed, q.rows, q.hung) t.stands;
         named = λ v y k e. rw q.names (row-named s p inside t.rows t.has.rows x t.first t.count v y k (rw (q.indexed, q.rows) at e));
         used = rw (q.names, q.uses) enough;
+        texts = ap (λ (l : List (List ℕ)). length l) texts ∙ counted ∙ sym q.names;
       }
 
   pub set : Set p c
@@ -159,6 +179,8 @@ module _ {s : List ℕ} {p : Places} {choice : Choice} {x : Index} {places ids c
         fine = fine;
         names = q.names;
         few = omega (arith, few, inside.rows);
+        apart = rw texts apart;
+        before = rw texts (omega (arith, before, inside.rows));
         unhushed = λ x. rw q.hushed refl;
       }
 
@@ -175,11 +197,11 @@ module _ {s : List ℕ} {p : Places} {choice : Choice} {x : Index} {places ids c
       (λ x. numbered-is x _ c.ident q.ident ∙ index_is (105 ∷ 100 ∷ []) ns apart 105 (100 ∷ []) refl x ∙ id-is (get_or ns x []))
       (λ x. rw q.hushed refl)
       (λ v. rw (q.indexed, q.rows) (t.named v))
+      (λ v. ap (λ (l : List (List ℕ)). index.index_of (var_name v) l) texts)
       q.warns
 
   pub uses : Uses c id_by
   uses y l =
       let k : y < p.names = omega (arith, l, q.names) in
       let ns = names_by s p places in
-      let long : length (map use_id ns) ≡ p.names = ap length (sym (t.tabled.uses refl)) ∙ length-take-le p.names ids enough in
-      ap (λ (a : List ℕ). get_or a y 0) q.uses ∙ sym (get_or-take p.names ids y 0 k) ∙ ap (λ (a : List ℕ). get_or a y 0) (t.tabled.uses refl) ∙ get_d_map use_id ns y [] 0 (omega (arith, long, length-map ns use_id))
+      ap (λ (a : List ℕ). get_or a y 0) q.uses ∙ sym (get_or-take p.names ids y 0 k) ∙ ap (λ (a : List ℕ). get_or a y 0) (t.tabled.uses refl) ∙ get_d_map use_id ns y [] 0 (omega (arith, counted))

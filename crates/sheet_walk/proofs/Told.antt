@@ -64,7 +64,7 @@ module _ {s : List ℕ} {p : Places} {choice : Choice} {x : Index} {a : Scratch}
       let st = b.statement in
       let ns = names_by s p a.places.now in
       let h = names-kept s a.places.now a.ids.now p t.has.places t.tabled (accepted st) b.read in
-      let same : ns ≡ st = ap (λ (o : Places). names_by s o a.places.now) (places-of s p t.has.places) ∙ h.places in
+      let same : ns ≡ st.names = ap (λ (o : Places). names_by s o a.places.now) (places-of s p t.has.places) ∙ h.places in
       let ids-same : id_of st ≡ id = fun_ext (λ i. ap (λ (l : List (List ℕ)). use_id (get_or l i [])) (sym same)) in
       let few : a.walk.log.said + a.walk.log.told ≤ length (words s) = rw q.bytes at y.walks.walked.few in
       record {

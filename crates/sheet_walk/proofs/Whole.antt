@@ -1,14 +1,12 @@
--- Head and arms one after the other are the whole walk over a sheet: the cause of the first that is refused, at its `?` (`head-fell`,
--- `arms-fell`), then cause 7 (`rows-lacking`), and else both walks are done, and what they carry is in the list (`both-done`).
+-- Head and arms one after the other are the whole walk over a sheet: the cause of the head, at its `?` (`head-fell`), or of the arms (`arms-fell`),
+-- and else both walks are done, and what they carry is in the list (`both-done`; `arms-told` for either answer of the arms).
 use Prim.Native.Nat.{ℕ}
 use native.Mathlib.Omega.{arith}
-use mathlib.Core.Path.{◌≡◌, refl, sym, subst, ◌∙◌}
-use mathlib.Core.Bool.{true, false}
+use mathlib.Core.Path.{◌≡◌, refl, subst, ◌∙◌}
 use mathlib.Core.List.{List, flat_map}
 use Rattle.std.specs.Prelude.{Result, Ok, Err}
 use Rattle.std.specs.Result.{IsErr, IsErrAnd}
 use Rattle.refusal.specs.declared.Refusal.{Refusal}
-use Rattle.refusal.specs.declared.Refusal.TheVariants.{Unbound}
 use Rattle.refusal.proofs.Handed.{handed}
 use Rattle.words.proofs.Words.{length-words}
 use Rattle.sheet.specs.Read.{accepted}
@@ -20,6 +18,7 @@ use Rattle.fused.specs.Sheet.{begun, sheet_go}
 use Rattle.entries.specs.Filled.{filled}
 use Rattle.steps.specs.Memory.{words_in, world_at}
 use Rattle.steps.specs.Hold.{Still}
+use Rattle.steps.proofs.Named.{unmoved-then}
 use Rattle.steps.specs.declared.Walk.{Walk}
 use Rattle.steps.specs.declared.context.Context.{Context}
 use Rattle.arm_walk.specs.Taking.{Carries}
@@ -32,7 +31,14 @@ unfolding carried_in carries_in carry_of flat_map filled
 carries-none p old = record { kept = refl; has = λ l. record { count = refl; wrote = refl; kept = refl } }
 
 pub lasts : {w w1 w2 : Walk} → Lasting w w1 → Still w1 w2 → Lasting w w2
-lasts x y = record { visible = y.visible.lent ∙ x.visible; seen = y.visible.size ∙ x.seen; log = y.log.lent ∙ x.log; wrote = y.log.size ∙ x.wrote }
+lasts x y =
+    record {
+      visible = y.visible.lent ∙ x.visible;
+      seen = y.visible.size ∙ x.seen;
+      rowless = unmoved-then x.rowless y.rowless;
+      log = y.log.lent ∙ x.log;
+      wrote = y.log.size ∙ x.wrote;
+    }
 
 module _ {p : Places} {c : Context} {w w1 : Walk} {carried : List ℕ} (b : Begins p c w w1) {w2 : Walk} {carried2 : List ℕ} where
   pub head-fell : {e : Refusal} (r : Result (Unit {0}) Refusal) → Walks c p.tail w1 carried w2 carried2 (head_in p c) (Err e) → IsErr r × IsErrAnd r (λ y. y ≡ e) → WalksAll p c w carried w2 carried2 r
@@ -44,31 +50,21 @@ module _ {p : Places} {c : Context} {w w1 : Walk} {carried : List ℕ} (b : Begi
     headed id us = x.done.goes id (begun p) (b.holds id us)
 
     module _ {w3 : Walk} {carried3 : List ℕ} where
-      pub arms-fell : {e : Refusal} (r : Result (Unit {0}) Refusal) → Walks c p.trailer w2 carried2 w3 carried3 (arms_in p c) (Err e) → IsErr r × IsErrAnd r (λ y. y ≡ e) → WalksAll p c w carried w3 carried3 r
-      arms-fell r y q =
-          rw (handed _ r q)
-          (record {
+      arms-fell : {e : Refusal} → Walks c p.trailer w2 carried2 w3 carried3 (arms_in p c) (Err e) → WalksAll p c w carried w3 carried3 (Err e)
+      arms-fell y =
+          record {
             lasting = lasts (lasts b.lasting x.still) y.still;
             lent = y.lent ∙ x.lent;
             walked = λ id us. let e = headed id us in unfold sheet_go in rw (e.same, y.done id e.state e.holds);
-          })
+          }
 
       module _ {a : Unit {0}} (y : Walks c p.trailer w2 carried2 w3 carried3 (arms_in p c) (Ok a)) where
         -- the arms are accepted
         armed : (id : ℕ → ℕ) (us : Uses c id) → Ends id c w3 (arms_in p c id (headed id us).state)
         armed id us = y.done.goes id (headed id us).state (headed id us).holds
 
-        pub rows-lacking : w3.known ≡ false → WalksAll p c w carried w3 carried3 (Err Unbound)
-        rows-lacking none =
-            record {
-              lasting = lasts (lasts b.lasting x.still) y.still;
-              lent = y.lent ∙ x.lent;
-              walked = λ id us. let f = armed id us in unfold sheet_go in rw ((headed id us).same, f.same, sym f.holds.known ∙ none);
-            }
-
-        -- every binder had a row
-        whole : w3.known ≡ true → (id : ℕ → ℕ) (us : Uses c id) → sheet_go (world_at c id) p (words_in c) ≡ accepted (armed id us).state
-        whole known id us = let f = armed id us in unfold sheet_go in rw ((headed id us).same, f.same, sym f.holds.known ∙ known)
+        whole : (id : ℕ → ℕ) (us : Uses c id) → sheet_go (world_at c id) p (words_in c) ≡ accepted (armed id us).state
+        whole id us = unfold sheet_go in rw ((headed id us).same, (armed id us).same)
 
         carries-both : (id : ℕ → ℕ) (us : Uses c id) → Carries carried carried3 (armed id us).state.names.log
         carries-both id us =
@@ -76,17 +72,21 @@ module _ {p : Places} {c : Context} {w w1 : Walk} {carried : List ℕ} (b : Begi
             let f = armed id us in
             y.takes id e.state f.state carried e.holds f.same (x.takes id (begun p) e.state carried (b.holds id us) e.same (carries-none p carried))
 
-        pub both-done : {d : Unit {0}} → Set p c → w3.known ≡ true → WalksAll p c w carried w3 carried3 (Ok d)
-        both-done h known =
+        both-done : Set p c → WalksAll p c w carried w3 carried3 (Ok a)
+        both-done h =
             record {
               lasting = lasts (lasts b.lasting x.still) y.still;
               lent = y.lent ∙ x.lent;
               walked = record {
                 few = omega (arith, y.done.stands.at, (y.done.stands.fit (cut_to p.trailer c) (is-cut p.trailer c)).count, h.places.trailer, length-words c.section.bytes.now);
-                goes = λ id us. record { state = (armed id us).state; holds = (armed id us).holds; same = whole known id us };
+                goes = λ id us. record { state = (armed id us).state; holds = (armed id us).holds; same = whole id us };
                 takes = λ id us u e.
-                    let g = whole known id us in
+                    let g = whole id us in
                     let z : (armed id us).state ≡ u = cc in
                     subst (λ (v : Both). Carries carried carried3 v.names.log) z (carries-both id us);
               };
             }
+
+      pub arms-told : (r : Result (Unit {0}) Refusal) → Set p c → Walks c p.trailer w2 carried2 w3 carried3 (arms_in p c) r → WalksAll p c w carried w3 carried3 r
+      arms-told (Ok a) h y = both-done y h
+      arms-told (Err e) h y = arms-fell y

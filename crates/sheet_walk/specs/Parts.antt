@@ -1,6 +1,6 @@
 -- What the parts of a run ask and leave: the tables of names and bindings, the sections of head and arms, and the walks over a whole sheet. Only
 -- contracts need these.
-use Rattle.std.specs.Prelude.{ℕ, ◌+◌, ◌*◌, ◌<◌, ◌≤◌, ◌≡◌, true, false, List, [], ◌∷◌, map, length, get_or, take, drop, Option, None, Some, Result, Ok, Err}
+use Rattle.std.specs.Prelude.{ℕ, ◌+◌, ◌*◌, ◌^◌, ◌<◌, ◌≤◌, ◌≡◌, true, false, List, [], ◌∷◌, map, length, get_or, take, drop, Option, None, Some, Result, Ok, Err}
 use Rattle.words.specs.Words.{words}
 use Rattle.words.specs.Fnv.{use_id}
 use Rattle.refusal.specs.Number.{number_of}
@@ -247,7 +247,11 @@ pub record Walking (s : List ℕ) (p : Places) (x : Index) (places ids chains he
   pub marked : length (words s) ≤ length marks
   pub unmarked : (i : ℕ) → get_or marks i 0 ≡ 0
   pub pairs : 2 * length (words s) ≤ length held
-  pub names : 4 * (length (words s) + 2) ≤ length w.visible.words.now
+  pub names : most w.rowless + 4 * (length (words s) + 2) ≤ length w.visible.words.now
+  pub binders : length (words s) < 3 * most w.rowless
+  pub listed : most w.rowless * 2 ≤ length w.rowless.entries.now
+  pub small : most w.rowless < 2 ^ 31
+  pub unlisted : (i : ℕ) → get_or w.rowless.chains.now i 0 ≡ 0
   pub unseen : (i : ℕ) → get_or w.visible.words.now i 0 ≡ 0
   pub room : length (words s) * 6 ≤ length w.log.words.now
 

@@ -32,8 +32,8 @@ id_of st x = use_id (bytes_of st x)
 pub record RanTo (choice : Choice) (s : List ℕ) (a : Scratch) (old carried : List ℕ) (x : Index) : Type 0 where
   pub statement : Statement
   pub read : read_sheet s ≡ accepted statement
-  pub names : names_in (take ((places_of (words s)).rows * 4) s) (places_of (words s)).names a.places.now ≡ statement
-  pub uses : take (places_of (words s)).names a.ids.now ≡ map use_id statement
+  pub names : names_in (take ((places_of (words s)).rows * 4) s) (places_of (words s)).names a.places.now ≡ statement.names
+  pub uses : take (places_of (words s)).names a.ids.now ≡ map use_id statement.names
   pub log : events_in (id_of statement) a.walk.log ≡ kept choice.wants (run choice.warns statement).log
   pub kinds : findings_in a.walk.log ≡ reverse (kinds (world_of choice.warns statement) statement.head)
   pub olds : a.walk.olds ≡ old_exists statement

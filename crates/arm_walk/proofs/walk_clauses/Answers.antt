@@ -3,6 +3,7 @@ use native.Mathlib.Omega.{arith}
 use Rattle.steps.specs.Modes.{mode_of}
 use Rattle.clause_parts.proofs.Passing.{fall, over}
 use Rattle.arm_walk.proofs.Rounds.{asks, turned}
+use Rattle.arm_walk.proofs.Storing.{storing}
 use Rattle.arm_walk.proofs.Taken.{full, refused-takes, clause-takes}
 use Rattle.arm_walk.proofs.walk_clauses.Goals as goal
 
@@ -21,7 +22,7 @@ returns-in_err-walk_clause-clause-passes c =
 
 pub take_carried-requires : goal.take_carried-requires
 take_carried-requires c =
-    (c.in_ok-walk_clause.ensures.passes.passes.fit 0 (asks c.loop.invariant c.requires).1.fit).sound
+    storing (c.in_ok-walk_clause.ensures.passes.passes.fit 0 (asks c.loop.invariant c.requires).1.fit)
 
 pub loop-preserved : goal.loop-preserved
 loop-preserved c =

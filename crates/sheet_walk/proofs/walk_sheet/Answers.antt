@@ -3,6 +3,7 @@ use Rattle.std.proofs.Common.{ℕ, List, length, ap, refl, arith}
 use Rattle.words.specs.Words.{words}
 use Rattle.words.proofs.Words.{length-words}
 use Rattle.sheet.proofs.Placing.{in-places}
+use Rattle.sheet_walk.proofs.Section.{tail-long}
 use Rattle.sheet_walk.proofs.Tables.{names-few, set}
 use Rattle.sheet_walk.proofs.walk_sheet.Goals as goal
 
@@ -24,7 +25,20 @@ walk_all-requires c =
     let i = in-places a.s.now a.p q.tables.has.places in
     let l = ap (λ (b : List ℕ). length (words b)) x.bytes in (
       record { set = h; pairs = omega (arith, q.pairs, l); clear = record { room = omega (arith, q.marked, few, i, x.names, length-words a.s.now); clear = q.unmarked } },
-      record { set = h; names = omega (arith, q.names, l); unseen = q.unseen; room = omega (arith, q.room, l) },
+      record {
+        set = h;
+        names = omega (arith, q.names, l);
+        binders = omega (arith, q.binders, l);
+        fresh = record {
+          apart = h.apart;
+          fit = omega (arith, h.before, h.places.head, tail-long h, q.binders, l);
+          room = q.listed;
+          small = q.small;
+          clear = λ b k. q.unlisted b;
+        };
+        unseen = q.unseen;
+        room = omega (arith, q.room, l);
+      },
     )
 
 pub returns-clause-walks : goal.returns-clause-walks

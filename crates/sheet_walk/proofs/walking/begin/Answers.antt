@@ -1,12 +1,12 @@
--- All numbers of the walk are set, and the Root is said where it is wanted (`begins`).
-use native.Mathlib.Omega.{arith}
-use Rattle.sheet_walk.proofs.Begun.{begin-roomy, begins}
+-- All numbers of the walk are set, the names are known by their texts, and the Root is said where it is wanted (`begins`).
+use Rattle.sheet_walk.proofs.Begun.{begin-roomy, begin-few, begins}
 use Rattle.sheet_walk.proofs.walking.begin.Goals as goal
 
+pub restart-requires : goal.restart-requires
+restart-requires c = (begin-few c.requires, c.requires.fresh)
+
 pub say_wanted-requires : goal.say_wanted-requires
-say_wanted-requires c = rw c.restart.ensures (begin-roomy c.requires c.max.result)
+say_wanted-requires c = rw c.restart.ensures.same (begin-roomy c.requires c.restart.new.self.rowless)
 
 pub returns : goal.returns
-returns c =
-    let m = c.max.ensures in
-    begins c.requires (omega (arith, m)) (omega (arith, m)) (omega (arith, m)) (rw c.restart.ensures at c.say_wanted.ensures)
+returns c = begins c.requires c.restart.ensures.begins (rw c.restart.ensures.same at c.say_wanted.ensures)

@@ -2,7 +2,7 @@
 -- the marks as they were.
 use native.Mathlib.Omega.{arith}
 use Rattle.sheet_walk.proofs.Section.{stands_on}
-use Rattle.sheet_walk.proofs.Whole.{lasts, head-fell, arms-fell, rows-lacking, both-done}
+use Rattle.sheet_walk.proofs.Whole.{lasts, head-fell, arms-told}
 use Rattle.sheet_walk.proofs.walking.walk_all.Goals as goal
 
 pub returns-in_err-walk_head-clause-walks : goal.returns-in_err-walk_head-clause-walks
@@ -12,14 +12,7 @@ pub walk_tail-requires : goal.walk_tail-requires
 walk_tail-requires c =
     let q = c.requires in
     let x = c.in_ok-walk_head.ensures in
-    let l = lasts c.begin.ensures.lasting x.walks.still in
-    (record { set = q.0.set; pairs = omega (arith, q.0.pairs, x.kept); clear = rw x.same q.0.clear }, stands_on q.1 l.seen l.wrote x.walks.done.stands)
-
-pub returns-in_err-walk_tail-clause-walks : goal.returns-in_err-walk_tail-clause-walks
-returns-in_err-walk_tail-clause-walks c = arms-fell c.begin.ensures c.in_ok-walk_head.ensures.walks _ c.in_err-walk_tail.ensures.walks c.from_residual-in_err-walk_tail.ensures
-
-pub returns-then-walk-clause-walks : goal.returns-then-walk-clause-walks
-returns-then-walk-clause-walks c = both-done c.begin.ensures c.in_ok-walk_head.ensures.walks c.in_ok-walk_tail.ensures.walks c.requires.0.set c.if-walk.true
+    (record { set = q.0.set; pairs = omega (arith, q.0.pairs, x.kept); clear = rw x.same q.0.clear }, stands_on q.1 (lasts c.begin.ensures.lasting x.walks.still) x.walks.done.stands)
 
 pub returns-clause-walks : goal.returns-clause-walks
-returns-clause-walks c = rows-lacking c.begin.ensures c.in_ok-walk_head.ensures.walks c.in_ok-walk_tail.ensures.walks c.if-walk.false
+returns-clause-walks c = arms-told c.begin.ensures c.in_ok-walk_head.ensures.walks _ c.requires.0.set c.walk_tail.ensures.walks
