@@ -81,8 +81,7 @@ impl Rowless {
 
     /// Some of their names, and some that are like these.
     fn names(&self, random: &mut Random) -> Vec<String> {
-        let mut names: Vec<String> =
-            self.variables.iter().filter_map(|variable| random.one_in(2).then(|| generated(*variable))).collect();
+        let mut names: Vec<String> = self.variables.iter().filter_map(|variable| random.one_in(2).then(|| generated(*variable))).collect();
         names.extend(GENERATED.iter().filter_map(|name| random.one_in(4).then(|| (*name).to_owned())));
         if random.one_in(2) {
             names.push(generated(random.below(12)));

@@ -33,6 +33,25 @@ impl Sheet {
         clauses.any(|clause| matches!(clause, Clause::With { order_by, .. } | Clause::Return { order_by, .. } if !order_by.is_empty()))
     }
 
+    /// The text of a name that lookup is asked for, by its mark; none where no entry can have these two words: an index past the names, or a
+    /// variable whose text is one of the names, which then stands by its index.
+    pub fn text(&self, (name, mark): (u32, u32)) -> Option<String> {
+        match mark {
+            0 => self.names.get(name as usize).cloned(),
+            1 => Some(generated(name)).filter(|text| !self.names.contains(text)),
+            _ => None,
+        }
+    }
+
+    /// Names to look up, with their marks: each of the sheet's, an index past them, each variable without a row, these also as indices, and
+    /// two indices also as variables.
+    pub fn asked(&self) -> Vec<(u32, u32)> {
+        let names = self.names.len() as u32;
+        let listed = (0..=names).map(|name| (name, 0));
+        let rowless = self.rowless.iter().flat_map(|variable| [(*variable, 1), (*variable, 0)]);
+        listed.chain(rowless).chain([(0, 1), (names, 1)]).collect()
+    }
+
     /// Takes the sort keys of a WITH out, and if `all` those of a RETURN too.
     pub fn without_keys(mut self, all: bool) -> Self {
         let clauses = self.statement.clauses.iter_mut().chain(self.statement.unions.iter_mut().flat_map(|arm| &mut arm.clauses));

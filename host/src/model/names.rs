@@ -303,8 +303,8 @@ impl<'a> Names<'a> {
                     kind: self.kind_of(VarId(variable)),
                     via_projection: self.graph.is_over_with(scope),
                 });
-                let found = |found: Resolved| row(self.statement, VarId(found.variable)).is_none() && *name == *name_for(VarId(found.variable));
-                self.counted.count(Said::Used, answer.is_some_and(found));
+                let is_rowless = |variable| row(self.statement, variable).is_none() && *name == *name_for(variable);
+                self.counted.count(Said::Used, answer.is_some_and(|answer| is_rowless(VarId(answer.variable))));
                 self.recorded.put(use_id(name), answer);
                 if answer.is_none() && name != "*" {
                     self.findings.push(Finding::of_name(1001, NOWHERE, name));
