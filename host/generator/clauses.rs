@@ -17,6 +17,9 @@ use Plan::{Down, Words};
 const KINDS: [u32; 15] = [1, 1, 2, 3, 3, 3, 4, 5, 6, 7, 8, 9, 10, 11, 11];
 const SORTED: [u32; 20] = [1, 1, 1, 2, 3, 4, 5, 6, 7, 8, 9, 10, 11, 11, 12, 12, 12, 12, 13, 13];
 
+/// Those that bind, of which a sheet with variables without a row has more.
+const BINDING: [u32; 6] = [1, 1, 5, 5, 6, 7];
+
 /// Expressions of one word.
 const ALONE: [u32; 7] = [1, 2, 3, 4, 5, 6, 25];
 
@@ -35,8 +38,10 @@ pub struct Writer<'a> {
     pub aliases: Vec<u32>,
     /// How deep an expression of the next clause goes at least, if it should.
     pub down_to: Option<u32>,
-    /// Whether a variable without a binding may be bound.
-    pub unbound: bool,
+    /// Variables without a row, each with the index of its name if that is one of the sheet's; one binder in so many is such a variable, or
+    /// none is.
+    pub rowless: Vec<(u32, Option<u32>)>,
+    pub one_in: u32,
     /// Whether a WITH and a RETURN may have sort keys.
     pub sorted: bool,
     /// The name `*`, if there should be many stars.
@@ -109,8 +114,11 @@ impl Writer<'_> {
         if self.names > 0 && self.random.one_in(one_in) { self.name() + 1 } else { 0 }
     }
 
-    /// A variable with a binding or, one time in so many, any.
+    /// A variable with a binding or, one time in so many, any; in a sheet with binders without a row sometimes one of theirs.
     fn variable(&mut self, any: u32) -> u32 {
+        if !self.rowless.is_empty() && self.random.one_in(4) {
+            return self.random.pick(&self.rowless).0;
+        }
         match self.row() {
             Some(row) if !self.random.one_in(any) => row[0],
             _ => match self.random.below(4) {
@@ -121,10 +129,21 @@ impl Writer<'_> {
         }
     }
 
-    /// A variable to be bound, often of the kind that fits; none where there are no bindings.
+    /// A variable without a row to be bound, one time in so many; the first two are used more.
+    fn without_row(&mut self) -> Option<u32> {
+        if self.rowless.is_empty() || !self.random.one_in(self.one_in) {
+            return None;
+        }
+        let most = if self.random.one_in(2) { 2 } else { self.rowless.len() };
+        let (variable, name) = self.rowless[self.random.at(most.min(self.rowless.len()))];
+        self.seen.extend(name);
+        Some(variable)
+    }
+
+    /// A variable to be bound, often of the kind that fits; none where there are no bindings and none without a row.
     fn binder(&mut self, kind: u32) -> Option<u32> {
-        if self.unbound && self.random.one_in(2) {
-            return Some(self.variable(1));
+        if let Some(variable) = self.without_row() {
+            return Some(variable);
         }
         let mut row = self.row()?;
         for _ in 0..2 {
@@ -303,6 +322,7 @@ impl Writer<'_> {
                     3
                 }
             }
+            _ if !self.rowless.is_empty() && self.random.one_in(2) => self.random.pick(&BINDING),
             _ => self.random.pick(if self.sorted { &SORTED[..] } else { &KINDS }),
         };
         self.put([kind]);
@@ -462,29 +482,14 @@ impl Writer<'_> {
         alias.checked_sub(1).or(own)
     }
 
-    /// Clauses that bind many names, by yields or as aliases, and then carry all of them by stars until the room is used up; how many
-    /// there are.
+    /// Clauses that bind many names, by yields, as aliases or as paths without a row, and then carry all of them by stars until the room is
+    /// used up; how many there are.
     pub fn wide(&mut self, star: u32, room: usize) -> u32 {
-        let computed = self.random.one_in(2);
-        let most = (room as u32).saturating_sub(5) / if computed { 2 } else { 3 };
-        let many = self.names.min(most);
-        self.put([if computed { 3 } else { 11 }]);
-        self.span();
-        if computed {
-            self.put([many]);
-            for name in 0..many {
-                let code = self.random.pick(&ALONE);
-                self.put([name + 1, code]);
-            }
-            self.put([0]);
+        if self.rowless.is_empty() {
+            self.bind_names(room);
         } else {
-            self.put([0, many]);
-            for name in 0..many {
-                let variable = self.variable(3);
-                self.put([name, 0, variable]);
-            }
+            self.bind_paths(room);
         }
-        self.seen = (0..many).collect();
         let mut made = 0;
         let mut end = 0;
         while self.words.len() <= room {
@@ -511,6 +516,42 @@ impl Writer<'_> {
         }
         self.words.truncate(end);
         made
+    }
+
+    /// A Match of paths without a row, up to half of the room, most of them different.
+    fn bind_paths(&mut self, room: usize) {
+        let many = self.random.below((room as u32).saturating_sub(5) / 6 + 1);
+        self.put([1]);
+        self.span();
+        self.put([0, many]);
+        for path in 0..many {
+            let variable = if self.random.one_in(16) { self.random.pick(&self.rowless).0 } else { path };
+            self.put([1, variable, 0]);
+        }
+    }
+
+    /// A WITH of computed aliases or a Call with yields, of as many names as have room.
+    fn bind_names(&mut self, room: usize) {
+        let computed = self.random.one_in(2);
+        let most = (room as u32).saturating_sub(5) / if computed { 2 } else { 3 };
+        let many = self.names.min(most);
+        self.put([if computed { 3 } else { 11 }]);
+        self.span();
+        if computed {
+            self.put([many]);
+            for name in 0..many {
+                let code = self.random.pick(&ALONE);
+                self.put([name + 1, code]);
+            }
+            self.put([0]);
+        } else {
+            self.put([0, many]);
+            for name in 0..many {
+                let variable = self.variable(3);
+                self.put([name, 0, variable]);
+            }
+        }
+        self.seen = (0..many).collect();
     }
 
     /// Items of a Set or a Remove: each kind with how many expressions it has.

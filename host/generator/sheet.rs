@@ -1,7 +1,7 @@
 //! A whole sheet: its size, its sections and its trailer.
 use crate::clauses::{DEPTH, Writer};
 use crate::random::Random;
-use crate::tables::{Row, STAR, name_words, names, rows, span};
+use crate::tables::{Row, Rowless, STAR, generated, name_words, names, rows, span};
 
 /// Words of the trailer, and of the longest sheet.
 pub const TRAILER: usize = 10;
@@ -46,38 +46,42 @@ pub fn sheet(random: &mut Random) -> Sheet {
     let (size, filled) = size(random);
     let room = if down_to.is_some() { size.max(700) } else { size } - TRAILER;
     let stars = random.one_in(3);
+    let rowless = random.one_in(3).then(|| Rowless::new(random));
     if stars && down_to.is_none() && room >= LEAST && random.one_in(16) {
-        return wide(random, room);
+        return wide(random, room, rowless);
     }
-    let (names, rows) = tables(random, room, stars);
+    let (names, rows) = tables(random, room, stars, rowless.as_ref());
     let mut sections = [names.iter().flat_map(|name| name_words(name)).collect(), rows.concat(), Vec::new(), Vec::new()];
     let left = room - sections[0].len() - sections[1].len();
     let star = names.iter().position(|name| stars && name == STAR).map(|at| at as u32);
-    let mut writer = writer(random, names.len(), &rows, star);
+    let mut writer = writer(random, &names, &rows, star, rowless);
     writer.down_to = down_to;
-    writer.unbound = writer.random.one_in(64);
     let arms = arms(&mut writer, left, &mut sections[3]);
     let clauses = head(&mut writer, left - sections[3].len(), filled, &mut sections[2]);
     let counts = [names.len() as u32, rows.len() as u32, clauses, arms];
     Sheet { sections, counts, span: span(random) }
 }
 
-fn writer<'a>(random: &'a mut Random, names: usize, rows: &'a [Row], star: Option<u32>) -> Writer<'a> {
+fn writer<'a>(random: &'a mut Random, names: &[String], rows: &'a [Row], star: Option<u32>, rowless: Option<Rowless>) -> Writer<'a> {
     let sorted = random.one_in(3);
     let (words, seen, aliases) = (Vec::new(), Vec::new(), Vec::new());
-    Writer { random, words, names: names as u32, rows, seen, aliases, down_to: None, unbound: false, sorted, star }
+    let one_in = rowless.as_ref().map_or(0, |rowless| rowless.one_in);
+    let index = |variable| names.iter().position(|name| *name == generated(variable)).map(|at| at as u32);
+    let variables = rowless.map_or_else(Vec::new, |rowless| rowless.variables);
+    let rowless = variables.into_iter().map(|variable| (variable, index(variable))).collect();
+    Writer { random, words, names: names.len() as u32, rows, seen, aliases, down_to: None, rowless, one_in, sorted, star }
 }
 
 /// The fewest words before the trailer of a sheet with many names and stars.
 const LEAST: usize = 40;
 
 /// A sheet of up to so many words before the trailer, whose answers often have more entries than it has words: names that are carried by
-/// many stars.
-fn wide(random: &mut Random, room: usize) -> Sheet {
-    let (names, rows) = wide_tables(random, room);
+/// many stars, those of the sheet or of variables without a row.
+fn wide(random: &mut Random, room: usize, rowless: Option<Rowless>) -> Sheet {
+    let (names, rows) = wide_tables(random, room, rowless.as_ref());
     let mut sections = [names.iter().flat_map(|name| name_words(name)).collect(), rows.concat(), Vec::new(), Vec::new()];
     let left = room - sections[0].len() - sections[1].len();
-    let mut writer = writer(random, names.len(), &rows, Some(0));
+    let mut writer = writer(random, &names, &rows, Some(0), rowless);
     let clauses = writer.wide(0, left);
     sections[2].append(&mut writer.words);
     let counts = [names.len() as u32, rows.len() as u32, clauses, 0];
@@ -86,7 +90,8 @@ fn wide(random: &mut Random, room: usize) -> Sheet {
 
 pub fn any_wide(random: &mut Random) -> Sheet {
     let room = LEAST + random.at(LIMIT - TRAILER - LEAST + 1);
-    wide(random, room)
+    let rowless = random.one_in(4).then(|| Rowless::new(random));
+    wide(random, room, rowless)
 }
 
 /// How deep an expression goes at least, in a few sheets.
@@ -100,23 +105,26 @@ fn depth(random: &mut Random) -> Option<u32> {
 }
 
 /// Mostly a few names and bindings; sometimes as many as there is room for.
-fn tables(random: &mut Random, room: usize, stars: bool) -> (Vec<String>, Vec<Row>) {
+fn tables(random: &mut Random, room: usize, stars: bool, rowless: Option<&Rowless>) -> (Vec<String>, Vec<Row>) {
     let words = if random.one_in(24) { room } else { room / 4 };
     let most = if random.one_in(6) { 1000 } else { 1 + random.at(8) };
-    let names = names(random, words, most, stars);
+    let names = names(random, words, most, stars, rowless);
     let left = room - names.iter().map(|name| name_words(name).len()).sum::<usize>();
     let words = if random.one_in(24) { left } else { left / 3 };
     let most = if random.one_in(6) { 500 } else { 1 + random.at(10) };
-    let rows = rows(random, &names, most.min(words / 5), if stars { 4 } else { 16 });
+    let rows = rows(random, &names, most.min(words / 5), if stars { 4 } else { 16 }, rowless);
     (names, rows)
 }
 
-/// Names of two words in up to two sevenths of the room, and a few bindings.
-fn wide_tables(random: &mut Random, room: usize) -> (Vec<String>, Vec<Row>) {
-    let many = random.at(room / 7 + 1);
-    let names: Vec<String> = std::iter::once(STAR.to_owned()).chain((0..many).map(|made| format!("{made:x}"))).collect();
+/// Names of two words in up to two sevenths of the room, or a few of variables that get no row; and a few bindings.
+fn wide_tables(random: &mut Random, room: usize, rowless: Option<&Rowless>) -> (Vec<String>, Vec<Row>) {
+    let made: Vec<String> = match rowless {
+        Some(_) => (0..random.below(4)).map(generated).collect(),
+        None => (0..random.at(room / 7 + 1)).map(|made| format!("{made:x}")).collect(),
+    };
+    let names: Vec<String> = std::iter::once(STAR.to_owned()).chain(made).collect();
     let most = random.at(4).min((room - 2 * names.len().min(room / 2)) / 20);
-    let rows = rows(random, &names, most, 4);
+    let rows = rows(random, &names, most, 4, rowless);
     (names, rows)
 }
 

@@ -44,21 +44,68 @@ const ODD: [&str; 20] = [
     "a\0",
 ];
 
-/// Names of up to so many words, and at most so many names, and a star if it should be there.
-pub fn names(random: &mut Random, words: usize, most: usize, star: bool) -> Vec<String> {
+/// What a variable without a row is named.
+pub fn generated(variable: u32) -> String {
+    format!("__var{variable}")
+}
+
+/// Such names, and what only looks like one.
+const GENERATED: [&str; 6] = ["__var7", "__var07", "__var0", "__var4294967295", "__var4294967296", "__var"];
+
+/// Variables that get no row, and how often a binder is one of them.
+pub struct Rowless {
+    pub variables: Vec<u32>,
+    pub one_in: u32,
+}
+
+impl Rowless {
+    /// Mostly a few variables; of a quarter of the sheets all binders are among them.
+    pub fn new(random: &mut Random) -> Self {
+        let most = if random.one_in(8) { 60 } else { 1 + random.at(6) };
+        let mut variables: Vec<u32> = Vec::new();
+        for _ in 0..most {
+            let variable = match random.below(8) {
+                0 => 0,
+                1 => u32::MAX,
+                2 => 7,
+                3 => random.word(),
+                4 => random.pick(&[1, 10, 99, 100, u32::MAX - 1, 1 << 31, use_id("a"), use_id(STAR)]),
+                _ => random.below(12),
+            };
+            if !variables.contains(&variable) {
+                variables.push(variable);
+            }
+        }
+        Self { variables, one_in: random.pick(&[1, 2, 2, 4]) }
+    }
+
+    /// Some of their names, and some that are like these.
+    fn names(&self, random: &mut Random) -> Vec<String> {
+        let mut names: Vec<String> = self.variables.iter().filter_map(|variable| random.one_in(2).then(|| generated(*variable))).collect();
+        names.extend(GENERATED.iter().filter_map(|name| random.one_in(4).then(|| (*name).to_owned())));
+        if random.one_in(2) {
+            names.push(generated(random.below(12)));
+        }
+        names
+    }
+}
+
+/// Names of up to so many words, and at most so many names, and a star if it should be there; and some for variables that get no row.
+pub fn names(random: &mut Random, words: usize, most: usize, star: bool, rowless: Option<&Rowless>) -> Vec<String> {
     let mut names: Vec<String> = Vec::new();
     let mut left = words;
     if star && left >= 2 {
         left -= 2;
         names.push(STAR.to_owned());
     }
-    for made in 0..most {
-        for name in some_names(random, made) {
-            let size = name_words(&name).len();
-            if size <= left && !names.contains(&name) {
-                left -= size;
-                names.push(name);
-            }
+    let generated = rowless.map_or_else(Vec::new, |rowless| rowless.names(random));
+    let groups = (0..most).map(|made| some_names(random, made));
+    let groups: Vec<Vec<String>> = std::iter::once(generated).chain(groups).collect();
+    for name in groups.into_iter().flatten() {
+        let size = name_words(&name).len();
+        if size <= left && !names.contains(&name) {
+            left -= size;
+            names.push(name);
         }
     }
     if star && !names.is_empty() {
@@ -102,8 +149,8 @@ pub fn name_words(name: &str) -> Vec<u32> {
     std::iter::once(name.len() as u32).chain(text).collect()
 }
 
-/// So many bindings at most, with distinct variables; of these, one in so many is the use id of a name.
-pub fn rows(random: &mut Random, names: &[String], most: usize, ids: u32) -> Vec<Row> {
+/// So many bindings at most, with distinct variables, none of those that get no row; of these, one in so many is the use id of a name.
+pub fn rows(random: &mut Random, names: &[String], most: usize, ids: u32, rowless: Option<&Rowless>) -> Vec<Row> {
     let mut rows: Vec<Row> = Vec::new();
     if names.is_empty() {
         return rows;
@@ -112,7 +159,7 @@ pub fn rows(random: &mut Random, names: &[String], most: usize, ids: u32) -> Vec
         let id = variable(random, names, made, ids);
         let [start, end] = span(random);
         let row = [id, random.below(names.len() as u32), 1 + random.below(4), start, end];
-        if rows.iter().all(|other| other[0] != id) {
+        if rows.iter().all(|other| other[0] != id) && rowless.is_none_or(|rowless| !rowless.variables.contains(&id)) {
             rows.push(row);
         }
     }

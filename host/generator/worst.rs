@@ -2,7 +2,7 @@
 //! a half or all of what its name says.
 use crate::damage::to_bytes;
 use crate::sheet::Sheet;
-use crate::tables::{name_words, use_id};
+use crate::tables::{generated, name_words, use_id};
 use std::collections::HashMap;
 
 pub struct Family {
@@ -10,7 +10,7 @@ pub struct Family {
     make: fn(Share) -> Vec<u8>,
 }
 
-pub const FAMILIES: [Family; 12] = [
+pub const FAMILIES: [Family; 17] = [
     Family { name: "203 rows, a WITH of 334 Vars", make: with_vars },
     Family { name: "203 rows, 320 Vars under `+`", make: sums },
     Family { name: "200 rows, 160 elements", make: elements },
@@ -23,6 +23,11 @@ pub const FAMILIES: [Family; 12] = [
     Family { name: "400 yields", make: yields },
     Family { name: "1,000 names", make: names },
     Family { name: "280 properties", make: properties },
+    Family { name: "677 paths without a row", make: paths_without_rows },
+    Family { name: "338 nodes without a row", make: nodes_without_rows },
+    Family { name: "407 Unwinds without a row", make: unwinds_without_rows },
+    Family { name: "338 paths without a row, each a name of the sheet", make: named_without_rows },
+    Family { name: "677 paths of one variable without a row", make: one_without_a_row },
 ];
 
 /// The same with sort keys.
@@ -37,15 +42,16 @@ pub const SORTED: [Family; 8] = [
     Family { name: "168 yields, a WITH of a star, 560 keys of the second", make: star_keys },
 ];
 
-/// The same with stars and aliases. The listing refuses the first two with 8 from 4 KB on; the second has the largest answers that we know
-/// of, at 8 KB 32,512 bindings and as many carried names.
-pub const STARRED: [Family; 6] = [
+/// The same with stars and aliases. The listing refuses the first two with 8 from 4 KB on, and the last from 2 KB on, which has the largest
+/// answers that we know of, at 8 KB 43,307 bindings and 42,966 carried names.
+pub const STARRED: [Family; 7] = [
     Family { name: "203 yields, 127 WITHs of a star", make: stars },
     Family { name: "254 computed aliases, 127 WITHs of a star", make: most_entries },
     Family { name: "3 yields, 250 WITHs of a star", make: few_carried },
     Family { name: "203 yields, a WITH of 330 stars", make: stars_in_one },
     Family { name: "336 yields of one name, 90 WITHs of a star and the name", make: shadowing },
     Family { name: "168 yields, a WITH of 380 aliases of the last", make: aliased },
+    Family { name: "341 paths without a row, 126 WITHs of a star", make: stars_without_rows },
 ];
 
 /// Sheets with many findings; at 8 KB they have 500.
@@ -185,6 +191,44 @@ fn properties(share: Share) -> Vec<u8> {
     sheet(&numbered(1), bound(1, NODE), head, 1)
 }
 
+/// A Match of so many paths, with these variables.
+fn paths(count: u32, variable: impl Fn(u32) -> u32) -> Vec<u32> {
+    [1, 0, 9, 0, count].into_iter().chain((0..count).flat_map(|n| [1, variable(n), 0])).collect()
+}
+
+/// Numbers that are far from each other, most of them of ten digits.
+fn spread(n: u32) -> u32 {
+    n.wrapping_mul(0x9E37_79B1)
+}
+
+fn paths_without_rows(share: Share) -> Vec<u8> {
+    sheet(&[], Vec::new(), paths(share.of(677), |n| n), 1)
+}
+
+fn nodes_without_rows(share: Share) -> Vec<u8> {
+    let elements = share.of(338);
+    let mut head = vec![1, 0, 9, 0, 1, 0, elements];
+    head.extend((0..elements).flat_map(|n| [1, 0, 9, 1, spread(n), 0]));
+    sheet(&[], Vec::new(), head, 1)
+}
+
+fn unwinds_without_rows(share: Share) -> Vec<u8> {
+    let count = share.of(407);
+    sheet(&[], Vec::new(), (0..count).flat_map(|n| [5, 0, 9, spread(n), 1]).collect(), count)
+}
+
+/// The names have eight bytes each.
+fn named_without_rows(share: Share) -> Vec<u8> {
+    let count = share.of(338);
+    let names: Vec<String> = (0..count).map(|n| generated(100 + n)).collect();
+    sheet(&names, Vec::new(), paths(count, |n| 100 + n), 1)
+}
+
+/// All but the first have an E1002.
+fn one_without_a_row(share: Share) -> Vec<u8> {
+    sheet(&[], Vec::new(), paths(share.of(677), |_| u32::MAX), 1)
+}
+
 /// A WITH of no projection with so many keys.
 fn with_keys(count: u32, one: impl Fn(u32) -> Vec<u32>) -> Vec<u32> {
     [12, 0, 9, 0, 0, count].into_iter().chain((0..count).flat_map(one)).collect()
@@ -309,6 +353,11 @@ fn aliased(share: Share) -> Vec<u8> {
     head.extend((0..aliases).flat_map(|n| [1 + n % names, 8, names - 1]));
     head.push(0);
     sheet(&with_star(names), Vec::new(), head, 2)
+}
+
+fn stars_without_rows(share: Share) -> Vec<u8> {
+    let (count, stars) = (share.of(341), share.of(126));
+    sheet(&with_star(1), Vec::new(), [paths(count, |n| n), ONE_STAR.repeat(stars as usize)].concat(), 1 + stars)
 }
 
 /// A RETURN of such projections.

@@ -68,7 +68,7 @@ impl<'a> Answers<'a> {
         }
     }
 
-    /// The variable of a name, and the scope that binds it.
+    /// The variable of a name, by its text, and the scope that binds it.
     pub fn lookup(&self, scope: u32, name: &str) -> Option<(u32, u32)> {
         let by_model = |model: &Model| model.graph.lookup(scope as usize, name).map(|Found { variable, scope }| (variable, scope as u32));
         match self {

@@ -1,26 +1,31 @@
-//! Broken stand-ins of the two C functions, each wrong in one way, which `robust` must find out.
+//! Broken stand-ins of the three C functions, each wrong in one way, which `robust` must find out.
+use ours::WIDTHS;
 use std::ptr::{read_volatile, write_volatile};
 use std::sync::atomic::{AtomicU32, Ordering::Relaxed};
 
-/// As `ours::answer`, and as `ours::check`.
+/// As `ours::answer`, as `ours::check`, and as `ours::lookup`.
 type Listing = fn(&[u8], &mut [u8], u32) -> u32;
 type Check = fn(&[u8], u32, [&mut [u32]; 5], &mut [usize; 5]) -> u32;
+type Lookup = fn([&[u32]; 3], [usize; 3], u32, (u32, u32), &mut [u32; 2]) -> u32;
 
-/// The two functions that are run.
+/// The three functions that are run.
 #[derive(Clone, Copy)]
 pub struct Calls {
     pub listing: Listing,
     pub check: Check,
+    pub lookup: Lookup,
 }
 
 impl Calls {
-    pub const OURS: Self = Self { listing: ours::answer, check: ours::check };
+    pub const OURS: Self = Self { listing: ours::answer, check: ours::check, lookup: ours::lookup };
 }
 
 /// What each does wrong.
 pub fn broken() -> Vec<(&'static str, Calls)> {
     let listings = LISTINGS.into_iter().map(|(what, listing)| (what, Calls { listing, ..Calls::OURS }));
-    listings.chain(CHECKS.into_iter().map(|(what, check)| (what, Calls { check, ..Calls::OURS }))).collect()
+    let checks = CHECKS.into_iter().map(|(what, check)| (what, Calls { check, ..Calls::OURS }));
+    let lookups = LOOKUPS.into_iter().map(|(what, lookup)| (what, Calls { lookup, ..Calls::OURS }));
+    listings.chain(checks).chain(lookups).collect()
 }
 
 const LISTINGS: [(&str, Listing); 18] = [
@@ -109,7 +114,7 @@ const LISTINGS: [(&str, Listing); 18] = [
     }),
 ];
 
-const CHECKS: [(&str, Check); 8] = [
+const CHECKS: [(&str, Check); 9] = [
     ("reads the word after the findings", |sheet, warnings, lists, counts| {
         touch(lists[4].as_ptr().wrapping_add(lists[4].len()).cast());
         ours::check(sheet, warnings, lists, counts)
@@ -124,7 +129,7 @@ const CHECKS: [(&str, Check); 8] = [
     }),
     ("fills the bindings before it finds the carried list too short", |sheet, warnings, mut lists, counts| {
         let answer = ours::check(sheet, warnings, lists.each_mut().map(|list| &mut **list), counts);
-        if answer == 8 && lists[2].len() / 3 >= sheet.len() / 4 {
+        if answer == 8 && lists[2].len() / WIDTHS[2] >= sheet.len() / 4 {
             lists[1].fill(0);
         }
         answer
@@ -139,7 +144,7 @@ const CHECKS: [(&str, Check); 8] = [
     ("wants an entry more than is needed", |sheet, warnings, mut lists, counts| {
         let mut kept = lists.each_mut().map(|list| list.to_vec());
         let answer = ours::check(sheet, warnings, lists.each_mut().map(|list| &mut **list), counts);
-        if answer == 256 && counts[1] > sheet.len() / 4 && counts[1] == lists[1].len() / 6 {
+        if answer == 256 && counts[1] > sheet.len() / 4 && counts[1] == lists[1].len() / WIDTHS[1] {
             lists.iter_mut().zip(&mut kept).for_each(|(list, kept)| list.copy_from_slice(kept));
             *counts = [usize::MAX; 5];
             return 8;
@@ -147,7 +152,7 @@ const CHECKS: [(&str, Check); 8] = [
         answer
     }),
     ("takes 8 by the sheet's words alone for enough", |sheet, warnings, lists, counts| {
-        let long = lists.iter().zip(ours::WIDTHS).all(|(list, width)| list.len() / width >= sheet.len() / 4);
+        let long = lists.iter().zip(WIDTHS).all(|(list, width)| list.len() / width >= sheet.len() / 4);
         match ours::check(sheet, warnings, lists, counts) {
             8 if long => 256,
             answer => answer,
@@ -159,6 +164,45 @@ const CHECKS: [(&str, Check); 8] = [
             counts[3] = counts[3].saturating_sub(1);
         }
         answer
+    }),
+    ("gives a generated name the mark of an index", |sheet, warnings, mut lists, counts| {
+        let answer = ours::check(sheet, warnings, lists.each_mut().map(|list| &mut **list), counts);
+        if answer == 256 {
+            lists[1].chunks_exact_mut(WIDTHS[1]).take(counts[1]).for_each(|entry| entry[WIDTHS[1] - 1] = 0);
+        }
+        answer
+    }),
+];
+
+const LOOKUPS: [(&str, Lookup); 7] = [
+    ("reads the word after the carried names", |lists, counts, scope, name, found| {
+        touch(lists[2].as_ptr().wrapping_add(lists[2].len()).cast());
+        ours::lookup(lists, counts, scope, name, found)
+    }),
+    ("writes the first binding's scope, as it was", |lists, counts, scope, name, found| {
+        if let Some(first) = lists[1].first() {
+            put(lists[1].as_ptr().cast_mut().cast(), *first as u8);
+        }
+        ours::lookup(lists, counts, scope, name, found)
+    }),
+    ("clears the two words where nothing is found", |lists, counts, scope, name, found| {
+        let answer = ours::lookup(lists, counts, scope, name, found);
+        if answer == 0 {
+            *found = [0; 2];
+        }
+        answer
+    }),
+    ("takes every mark for 0", |lists, counts, scope, (name, _), found| ours::lookup(lists, counts, scope, (name, 0), found)),
+    ("takes any other mark for 1", |lists, counts, scope, (name, mark), found| {
+        ours::lookup(lists, counts, scope, (name, mark.min(1)), found)
+    }),
+    ("finds nothing for another mark", |lists, counts, scope, name, found| match name.1 {
+        0 | 1 => ours::lookup(lists, counts, scope, name, found),
+        _ => 0,
+    }),
+    ("finds nothing from a scope that isn't there", |lists, counts, scope, name, found| match scope as usize {
+        scope if scope >= counts[0] => 0,
+        _ => ours::lookup(lists, counts, scope, name, found),
     }),
 ];
 

@@ -19,16 +19,22 @@ const SEARCHED: usize = 1 << 23;
 pub struct Tally {
     pub sheets: usize,
     pub differ: usize,
-    refused: [usize; 8],
+    refused: [usize; 7],
     keyed: usize,
+    /// Sheets that bind a variable without a row.
+    rowless: usize,
     entries: [usize; 5],
     /// Recorded uses that came over a WITH.
     over_with: usize,
+    /// Bindings, carried names and findings with a generated name.
+    generated: [usize; 3],
     messages: usize,
     bytes: usize,
     /// Listings that end with the line of the expressions 25.
     olds: usize,
     lookups: usize,
+    /// Those of them that found a generated name.
+    found: usize,
     offsets: usize,
     tens: usize,
     eights: usize,
@@ -45,15 +51,18 @@ impl Tally {
     pub fn report(&self) {
         let accepted = self.accepted();
         println!(
-            "{} sheets, {accepted} accepted, {} refused (1 to 7: {:?}); warnings on and off",
+            "{} sheets, {accepted} accepted, {} refused (1 to 6: {:?}); warnings on and off",
             self.sheets,
             self.sheets - accepted,
             &self.refused[1..]
         );
         println!("{} of the accepted have sort keys and are compared with the model, the others with the Rust", self.keyed);
+        println!("{} of the accepted bind a node, relationship, path or Unwind variable without a row", self.rowless);
         println!("entries: {:?} (scopes, bindings, carried, recorded, findings)", self.entries);
+        println!("{:?} of the bindings, carried names and findings have a generated name", self.generated);
         println!("{} of the recorded uses came over a WITH", self.over_with);
         println!("listings: {} messages in {} bytes; {} lookups, {} offsets", self.messages, self.bytes, self.lookups, self.offsets);
+        println!("{} of the lookups found a generated name", self.found);
         println!("{} of the listings end with the line of the expressions 25", self.olds);
         println!("a page a byte short: {}, a list a word short: {}", self.tens, self.eights);
         println!("a list with a word for each of the sheet's, and too short for its answer: {}", self.needs);
@@ -115,6 +124,7 @@ impl Comparison {
         match sheet::read(other) {
             Ok(read) => {
                 self.tally.keyed += usize::from(read.has_keys());
+                self.tally.rowless += usize::from(!read.rowless.is_empty());
                 self.accepted(sheet, &read, false)?;
                 self.accepted(sheet, &read, true)?;
             }
@@ -161,8 +171,11 @@ impl Comparison {
         for (sum, count) in self.tally.entries.iter_mut().zip(self.lists.entries()) {
             *sum += count;
         }
+        for (sum, count) in self.tally.generated.iter_mut().zip(self.lists.generated()) {
+            *sum += count;
+        }
         self.tally.over_with += self.lists.over_with();
-        self.graph(&answers, &read.names)
+        self.graph(&answers, read)
     }
 
     /// The listing with room, into a page that it fills, and into one a byte shorter, and one without room for its last line; or, whatever the
@@ -211,23 +224,31 @@ impl Comparison {
         holds("check altered a list and refused with 8", self.lists.kept(true))
     }
 
-    fn graph(&mut self, answers: &Answers, names: &[String]) -> Result<(), String> {
-        let spans = answers.spans();
+    fn graph(&mut self, answers: &Answers, read: &Sheet) -> Result<(), String> {
+        let (spans, names) = (answers.spans(), read.asked());
+        let texts: Vec<Option<String>> = names.iter().map(|name| read.text(*name)).collect();
         let scopes = spans.len();
         let [_, bindings, carried, ..] = answers.entries();
         let asked = ASKED.min(SEARCHED / (1 + bindings + carried));
         let step = (scopes * names.len()).div_ceil(asked).max(1);
         for at in (0..scopes * names.len()).step_by(step) {
             let (scope, name) = ((at % scopes) as u32, at / scopes);
-            let (found, kept) = self.lists.lookup(scope, name as u32);
-            let expected = answers.lookup(scope, &names[name]);
+            let (found, kept) = self.lists.lookup(scope, names[name]);
+            let expected = texts[name].as_deref().and_then(|text| answers.lookup(scope, text));
             let variable = |found: Option<(u32, u32)>| found.map(|(variable, _)| variable);
             holds("a lookup's variable", found.map(variable) == Ok(variable(expected)))?;
             holds("a lookup's scope", found == Ok(expected))?;
             holds("a lookup altered a word that it may not", kept)?;
             self.tally.lookups += 1;
+            self.tally.found += usize::from(names[name].1 == 1 && expected.is_some());
         }
-        holds("a lookup from a scope that isn't there", self.lists.lookup(scopes as u32, 0) == (Err(9), true))?;
+        for mark in [0, 1] {
+            holds("a lookup from a scope that isn't there", self.lists.lookup(scopes as u32, (0, mark)) == (Err(9), true))?;
+        }
+        for (at, mark) in [2, 3, 256, 1 << 31, u32::MAX].into_iter().enumerate() {
+            let (name, _) = names[at * names.len() / 5];
+            holds("a lookup with another mark", self.lists.lookup((at * scopes / 5) as u32, (name, mark)) == (Err(9), true))?;
+        }
         for (start, end) in spans.into_iter().step_by(scopes.div_ceil(ASKED / 4)) {
             for offset in [start, end, start.wrapping_sub(1), end.wrapping_add(1)] {
                 holds("an offset", self.lists.scope_at_offset(offset) == Ok(answers.scope_at_offset(offset)))?;

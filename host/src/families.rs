@@ -1,6 +1,6 @@
 //! Families of short sheets, each of them whole: README.md says which sheets are in it.
 use crate::grammar::Grammar;
-use crate::several::{depths, key_depths, keys, spans, stars, steps, uses};
+use crate::several::{depths, key_depths, keys, rowless, spans, stars, steps, uses};
 use generator::{Sheet, to_bytes};
 
 /// Takes each sheet of a family.
@@ -15,7 +15,7 @@ const fn family(name: &'static str, sheets: fn(Each)) -> Family {
     Family { name, sheets }
 }
 
-pub const FAMILIES: [Family; 23] = [
+pub const FAMILIES: [Family; 24] = [
     family("lengths", lengths),
     family("trailers", trailers),
     family("few-words", few_words),
@@ -39,6 +39,7 @@ pub const FAMILIES: [Family; 23] = [
     family("steps", steps),
     family("keys", keys),
     family("stars", stars),
+    family("rowless", rowless),
 ];
 
 pub const MAX: u32 = u32::MAX;

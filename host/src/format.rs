@@ -1,5 +1,5 @@
-//! The sections with clauses as document 01 says, and document 02 of sort keys, read into the Rust's types. Where words, names and binders
-//! come from and go to is the reader's: `sheet` has one, `tuned` another, and `twin` a third.
+//! The sections with clauses as document 01 says, and document 02 of sort keys, read into the Rust's types. Where words and names come from
+//! is the reader's: `sheet` has one, `tuned` another, and `twin` a third.
 use cyrs_hir::{
     BinOp, Clause, Direction, Expr, HirId, HirOffset, HirSpan, ListPredKind, MapProjectionItem, OrderItem, Pattern, PatternElement,
     PatternPart, Projection, RelLength, RemoveItem, SetItem, ShortestPath, UnaryOp, UnionArm, VarId, YieldItem,
@@ -63,9 +63,6 @@ pub trait Reader: Sized {
 
     fn name_at(&self, at: usize) -> SmolStr;
 
-    /// A pattern or an Unwind binds a variable, which must have a binding.
-    fn bind(&mut self, variable: VarId);
-
     fn repeat<T>(&mut self, count: u32, one: impl FnMut(&mut Self) -> Read<T>) -> Read<Vec<T>>;
 
     fn below(&mut self, limit: usize) -> Read<usize> {
@@ -99,10 +96,9 @@ pub trait Reader: Sized {
         Ok((at > 0).then(|| self.name_at(at - 1)))
     }
 
+    /// A variable that a pattern or an Unwind binds; it need have no row in the binding table.
     fn binder(&mut self) -> Read<VarId> {
-        let variable = VarId(self.word()?);
-        self.bind(variable);
-        Ok(variable)
+        Ok(VarId(self.word()?))
     }
 
     fn maybe_binder(&mut self) -> Read<Option<VarId>> {

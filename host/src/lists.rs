@@ -1,7 +1,7 @@
 //! What program `lists` writes for a sheet, from the Rust's answers; but via_projection, which is false throughout in the Rust, is the model's.
 use crate::model::Recorded;
 use crate::record::record;
-use crate::sheet::KINDS;
+use crate::sheet::{KINDS, generated};
 use cyrs_diag::{Diagnostic, DiagnosticsSink};
 use cyrs_hir::{BindingKind, HirSpan, Resolution, ResolvedNames, ScopeGraph, ScopeKind, Statement, VarId, VarKind};
 use cyrs_sema::kinds::check_kinds;
@@ -41,10 +41,31 @@ pub fn barriers(ran: &Ran) -> impl Iterator<Item = &[(SmolStr, VarId)]> {
 }
 
 /// The index of each name of a sheet.
-pub type Names<'a> = HashMap<&'a str, usize>;
+pub struct Names<'a>(HashMap<&'a str, u32>);
+
+impl<'a> Names<'a> {
+    pub fn new(names: &'a [String]) -> Self {
+        Self(names.iter().zip(0..).map(|(name, at)| (name.as_str(), at)).collect())
+    }
+
+    pub fn index(&self, text: &str) -> u32 {
+        self.0[text]
+    }
+
+    /// A name as an entry gives it: its index and mark 0; or of a text that is no name of the sheet, which the Rust made of a variable
+    /// without a row, this variable and mark 1.
+    pub fn given(&self, text: &str) -> (u32, u32) {
+        if let Some(at) = self.0.get(text) {
+            return (*at, 0);
+        }
+        let variable = text.strip_prefix("__var").and_then(|digits| digits.parse().ok()).expect("a variable's text");
+        assert!(generated(variable) == text, "digits as they are printed");
+        (variable, 1)
+    }
+}
 
 pub fn lists(ran: &Ran, names: &[String], model: &Recorded) -> String {
-    let names: &Names = &names.iter().enumerate().map(|(at, name)| (name.as_str(), at)).collect();
+    let names = &Names::new(names);
     let graph = &ran.resolved.scope_graph;
     [
         list("scopes", scopes(graph)),
@@ -101,8 +122,8 @@ fn bindings(graph: &ScopeGraph, names: &Names) -> Vec<String> {
     let mut entries = Vec::new();
     for scope in graph.iter() {
         for (name, (variable, kind, replaced)) in scope.bindings.iter() {
-            let (at, kind, replaced) = (names[name.as_str()], var_kind(*kind), or_dash(replaced.map(|v: VarId| v.0)));
-            entries.push((name.made(), format!("{} {at} {} {kind} {replaced}", scope.id.0, variable.0)));
+            let ((given, mark), kind, replaced) = (names.given(name), var_kind(*kind), or_dash(replaced.map(|v: VarId| v.0)));
+            entries.push((name.made(), format!("{} {given} {} {kind} {replaced} {mark}", scope.id.0, variable.0)));
         }
     }
     entries.sort();
@@ -117,7 +138,10 @@ fn carried(graph: &ScopeGraph, names: &Names) -> Vec<String> {
     let mut entries = Vec::new();
     for scope in graph.iter() {
         if let ScopeKind::WithBarrier { projected } = &scope.kind {
-            entries.extend(projected.iter().map(|(name, v)| format!("{} {} {}", scope.id.0, names[name.as_str()], v.0)));
+            entries.extend(projected.iter().map(|(name, variable)| {
+                let (given, mark) = names.given(name);
+                format!("{} {given} {} {mark}", scope.id.0, variable.0)
+            }));
         }
     }
     entries

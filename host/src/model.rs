@@ -1,13 +1,14 @@
 //! A sheet's answers by a definition of its own, written from openCypher 9 with document 01's departures and document 02's sort keys, stars
-//! and aliases, and what it says of names that came over a WITH and of expressions 25. It has the sheet's tree in common with the Rust, and nothing of its two
-//! passes. A sheet with sort keys is compared with this; on sheets without, this is compared with the Rust (README.md).
+//! and aliases, and what it says of names that came over a WITH, of expressions 25 and of variables without a row. It has the sheet's tree in
+//! common with the Rust, and nothing of its two passes. A sheet with sort keys is compared with this; on sheets without, this is compared with
+//! the Rust (README.md).
 mod finding;
 mod graph;
 mod kinds;
 mod names;
 mod olds;
 mod parts;
-mod starred;
+mod said;
 
 use crate::sheet::Sheet;
 use cyrs_hir::{Binding, Statement, VarId, VarKind};
@@ -15,7 +16,7 @@ use finding::Finding;
 pub use graph::{Found, Graph};
 pub use names::Recorded;
 use names::Resolved;
-pub use starred::{SAID, Starred};
+pub use said::{Counted, SAID};
 use std::collections::HashMap;
 use std::fmt::{Display, Write};
 
@@ -23,15 +24,15 @@ pub struct Model {
     pub graph: Graph,
     pub findings: Vec<Finding>,
     pub recorded: Recorded,
-    pub starred: Starred,
+    pub counted: Counted,
 }
 
 /// The name walk over head and arms, then the kind walk over the head.
 pub fn run(sheet: &Sheet, warnings: bool) -> Model {
-    let names = names::walk(&sheet.statement, warnings);
+    let names = names::walk(sheet, warnings);
     let mut findings = names.findings;
     findings.extend(kinds::walk(&sheet.statement));
-    Model { graph: names.graph, findings, recorded: names.recorded, starred: names.starred }
+    Model { graph: names.graph, findings, recorded: names.recorded, counted: names.counted }
 }
 
 /// The last line of a sheet's listing, which is no finding's and which the Rust doesn't print: how many expressions 25 the sheet has, if any.
@@ -76,7 +77,9 @@ impl Model {
 
     /// As program `lists` writes them.
     pub fn lists(&self, names: &[String]) -> String {
-        let index: HashMap<&str, usize> = names.iter().enumerate().map(|(at, name)| (name.as_str(), at)).collect();
+        let index: HashMap<&str, u32> = names.iter().zip(0..).map(|(name, at)| (name.as_str(), at)).collect();
+        // A name's index and mark 0; the variable of one that no sheet's name is, and mark 1.
+        let given = |name: &str| index.get(name).map_or_else(|| (variable_in(name), 1), |at| (*at, 0));
         let mut text = String::new();
         put(&mut text, format_args!("scopes {}", self.graph.scopes.len()));
         for scope in &self.graph.scopes {
@@ -85,12 +88,13 @@ impl Model {
         }
         put(&mut text, format_args!("bindings {}", self.graph.bindings.len()));
         for b in &self.graph.bindings {
-            let (name, kind) = (index[b.name.as_str()], number(b.kind));
-            put(&mut text, format_args!("{} {name} {} {kind} {}", b.scope, b.variable, or_dash(b.replaced)));
+            let ((name, mark), kind) = (given(&b.name), number(b.kind));
+            put(&mut text, format_args!("{} {name} {} {kind} {} {mark}", b.scope, b.variable, or_dash(b.replaced)));
         }
         put(&mut text, format_args!("carried {}", self.graph.carried().count()));
         for (barrier, name, variable) in self.graph.carried() {
-            put(&mut text, format_args!("{barrier} {} {variable}", index[name]));
+            let (name, mark) = given(name);
+            put(&mut text, format_args!("{barrier} {name} {variable} {mark}"));
         }
         put(&mut text, format_args!("recorded {}", self.recorded.in_order().len()));
         for (id, answer) in self.recorded.in_order() {
@@ -103,11 +107,24 @@ impl Model {
         }
         put(&mut text, format_args!("records {}", self.findings.len()));
         for f in &self.findings {
-            let name = f.name.as_deref().map_or(0, |name| index[name] + 1);
-            put(&mut text, format_args!("{} {} {} {name} {} {}", f.code, f.span.0, f.span.1, f.one, f.two));
+            let (name, mark) = match f.name.as_deref().map(given) {
+                Some((index, 0)) => (index + 1, 0),
+                Some(generated) => generated,
+                None => (0, 0),
+            };
+            put(&mut text, format_args!("{} {} {} {name} {} {} {mark}", f.code, f.span.0, f.span.1, f.one, f.two));
         }
         text
     }
+}
+
+/// What a variable without a row is named, and its way back.
+fn name_for(variable: VarId) -> String {
+    format!("__var{}", variable.0)
+}
+
+fn variable_in(name: &str) -> u32 {
+    name.strip_prefix("__var").and_then(|digits| digits.parse().ok()).expect("a name of the sheet, or one that was made")
 }
 
 fn put(text: &mut String, line: std::fmt::Arguments) {

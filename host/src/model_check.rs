@@ -4,7 +4,7 @@ use generator::{Random, one};
 use std::collections::HashSet;
 use theirs::answers::Answers;
 use theirs::lists::{self, Ran};
-use theirs::model::{SAID, Starred};
+use theirs::model::SAID;
 use theirs::sheet::{self, Sheet};
 use theirs::twin::{Keys, called, twin, written_out};
 
@@ -16,8 +16,10 @@ struct Tally {
     twins: usize,
     projected: usize,
     called: usize,
+    /// Sheets with a binder without a row.
+    rowless: usize,
     /// Sheets that have each of `SAID`, that need more entries in a list than they have words, and more than the listing has.
-    starred: [usize; SAID.len()],
+    said: [usize; SAID.len()],
     longer: usize,
     too_long: usize,
     written_out: usize,
@@ -28,16 +30,17 @@ struct Tally {
 }
 
 impl Tally {
-    /// What a sheet of so many words has of stars and aliases, and whether its answers are long; whether it has any of these.
+    /// What a sheet of so many words has of stars, aliases and variables without a row, and whether its answers are long; whether it has
+    /// any stars or aliases.
     fn count(&mut self, answers: &Answers, words: usize) -> bool {
         let Answers::Model(model) = answers else { return false };
-        let Starred { counts } = &model.starred;
-        for (sheets, count) in self.starred.iter_mut().zip(counts) {
-            *sheets += usize::from(*count > 0);
+        for (sheets, count) in self.said.iter_mut().zip(model.counted.counts) {
+            *sheets += usize::from(count > 0);
         }
+        self.rowless += usize::from(model.counted.is_rowless());
         self.longer += usize::from(answers.entries().iter().any(|entries| *entries > words));
         self.too_long += usize::from(!answers.fit());
-        counts.iter().any(|count| *count > 0)
+        model.counted.carries()
     }
 }
 
@@ -70,7 +73,8 @@ fn main() {
     println!("{} need more entries in a list than they have words, {} more than the listing has", tally.longer, tally.too_long);
     println!("{} have WITHs that are written out for the Rust as variables under aliases", tally.written_out);
     println!("{} recorded uses, {} of which the Rust knows by a variable that WITHs alone carry", tally.uses, tally.over_with);
-    for (what, sheets) in SAID.iter().zip(tally.starred) {
+    println!("{} have a node, relationship, path or Unwind variable without a row, where the walks look", tally.rowless);
+    for (what, sheets) in SAID.iter().zip(tally.said) {
         println!("{sheets} have {what}");
     }
     println!("{} sheets differ", tally.differ);
@@ -95,10 +99,10 @@ fn compare(bytes: &[u8], tally: &mut Tally) -> Result<(), String> {
         tally.twins += usize::from(made.as_ref().is_some_and(|made| made != bytes));
         for warnings in [false, true] {
             let rust = Answers::rust(&sheet, warnings);
-            same(&rust, &Answers::model(&sheet, warnings), &sheet.names)?;
+            same(&rust, &Answers::model(&sheet, warnings), &sheet)?;
             if let Some(made) = &made {
                 let read = sheet::read(made).map_err(|cause| format!("with empty sort keys it is refused {cause}"))?;
-                same(&rust, &Answers::model(&read, warnings), &sheet.names).map_err(|what| what + " with empty sort keys")?;
+                same(&rust, &Answers::model(&read, warnings), &sheet).map_err(|what| what + " with empty sort keys")?;
             }
         }
         over_with(&sheet, free(&sheet), &Answers::model(&sheet, true), tally)?;
@@ -114,15 +118,15 @@ fn compare(bytes: &[u8], tally: &mut Tally) -> Result<(), String> {
         let made = sheet::read(&made).map_err(|cause| format!("with sort keys as projections it is refused {cause}"))?;
         for warnings in [false, true] {
             let (rust, model) = (Answers::rust(&made, warnings), Answers::model(&returned, warnings));
-            same(&rust, &model, &made.names).map_err(|what| what + " with a RETURN's sort keys as projections")?;
+            same(&rust, &model, &made).map_err(|what| what + " with a RETURN's sort keys as projections")?;
         }
         over_with(&made, free(&made), &Answers::model(&returned, true), tally)?;
     }
     let sheet = returned.without_keys(true);
     for (warnings, keyed) in [false, true].into_iter().zip(&keyed) {
         let rust = Answers::rust(&sheet, warnings);
-        same(&rust, &Answers::model(&sheet, warnings), &sheet.names)?;
-        same(&rust, &Answers::rust(&out, warnings), &sheet.names).map_err(|what| what + " with the sort keys taken out")?;
+        same(&rust, &Answers::model(&sheet, warnings), &sheet)?;
+        same(&rust, &Answers::rust(&out, warnings), &sheet).map_err(|what| what + " with the sort keys taken out")?;
         around_keys(&rust, keyed, &sheet)?;
     }
     over_with(&sheet, free(&sheet), &Answers::model(&sheet, true), tally)?;
@@ -176,10 +180,11 @@ fn plainly(sheet: &Sheet, tally: &mut Tally) -> Result<(), String> {
         Clause::With { projections, .. } => Some(projections.iter().any(is_star)),
         _ => None,
     });
+    let texts = sheet.texts();
     for ((before, pairs), _) in before.iter().zip(&pairs).zip(starred).filter(|(_, starred)| *starred) {
-        let found: Vec<_> = sheet.names.iter().filter_map(|name| Some((name.as_str(), rust.lookup(before.0, name)?.0))).collect();
+        let found: Vec<_> = texts.iter().filter_map(|name| Some((name.as_str(), rust.lookup(before.0, name)?.0))).collect();
         let mut all: Vec<_> = pairs.iter().take(found.len()).map(|(name, variable)| (name.as_str(), variable.0)).collect();
-        all.sort_by_key(|(name, _)| sheet.names.iter().position(|other| other == name));
+        all.sort_by_key(|(name, _)| texts.iter().position(|other| other == name));
         holds("what a star carries", all == found)?;
     }
     let mut plain = part(sheet, &[]);
@@ -234,7 +239,7 @@ fn part(sheet: &Sheet, clauses: &[Clause]) -> Sheet {
     let mut statement = Statement::new(sheet.statement.span);
     statement.bindings = sheet.statement.bindings.clone();
     statement.clauses = clauses.to_vec();
-    Sheet { names: sheet.names.clone(), statement }
+    Sheet { names: sheet.names.clone(), statement, rowless: sheet.rowless.clone() }
 }
 
 /// What the last WITH carries in the Rust, each name once, with its last variable.
@@ -269,8 +274,8 @@ fn moved(text: &str, list: &str, barrier: usize, more: usize) -> Vec<Vec<String>
             fields[1] = number(&fields[1]).to_string();
         } else {
             fields[0] = scope.to_string();
-            if scope == barrier {
-                fields.truncate(3);
+            if list == "bindings" && scope == barrier {
+                fields.drain(3..5);
             }
         }
         all.push(fields);
@@ -279,10 +284,10 @@ fn moved(text: &str, list: &str, barrier: usize, more: usize) -> Vec<Vec<String>
 }
 
 /// Every answer is equal.
-fn same(rust: &Answers, model: &Answers, names: &[String]) -> Result<(), String> {
+fn same(rust: &Answers, model: &Answers, sheet: &Sheet) -> Result<(), String> {
     holds("the listing", rust.listing() == model.listing())?;
-    holds("the lists", rust.lists(names) == model.lists(names))?;
-    let spans = rust.spans();
+    holds("the lists", rust.lists(&sheet.names) == model.lists(&sheet.names))?;
+    let (spans, names) = (rust.spans(), sheet.texts());
     let step = (spans.len() * names.len()).div_ceil(512).max(1);
     for at in (0..spans.len() * names.len()).step_by(step) {
         let (scope, name) = ((at % spans.len()) as u32, &names[at / spans.len()]);

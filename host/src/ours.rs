@@ -31,6 +31,7 @@ unsafe extern "C" {
         carried_count: usize,
         scope: u32,
         name: u32,
+        mark: u32,
         found: *mut u32,
     ) -> u32;
     fn cenguatu_scope_at_offset(scopes: *const u32, scopes_len: usize, count: usize, offset: u32) -> u64;
@@ -56,8 +57,17 @@ pub fn check(sheet: &[u8], warnings: u32, lists: [&mut [u32]; 5], counts: &mut [
     unsafe { cenguatu_check(sheet.as_ptr(), sheet.len(), warnings, a.0, a.1, b.0, b.1, c.0, c.1, d.0, d.1, e.0, e.1, counts) }
 }
 
-/// Words of an entry: scopes, bindings, carried, recorded, findings.
-pub const WIDTHS: [usize; 5] = [4, 6, 3, 5, 6];
+/// Lookup's answer, 256, 0 or the refusal's number, on scopes, bindings and carried names as words, each with its count; the variable and the
+/// scope are put where the name is found.
+pub fn lookup(lists: [&[u32]; 3], counts: [usize; 3], scope: u32, (name, mark): (u32, u32), found: &mut [u32; 2]) -> u32 {
+    let ([a, b, c], [i, j, k]) = (lists, counts);
+    let found = found.as_mut_ptr();
+    // Safety: the lists are valid for their lengths, and two words are lent.
+    unsafe { cenguatu_lookup(a.as_ptr(), a.len(), i, b.as_ptr(), b.len(), j, c.as_ptr(), c.len(), k, scope, name, mark, found) }
+}
+
+/// Words of an entry: scopes, bindings, carried, recorded, findings. The last word of a binding, a carried name and a finding is its name's mark.
+pub const WIDTHS: [usize; 5] = [4, 7, 4, 5, 7];
 
 /// The words of lists of so many entries.
 pub fn in_words(entries: [usize; 5]) -> [usize; 5] {
@@ -124,20 +134,27 @@ impl Lists {
         self.counts
     }
 
-    /// How many recorded uses came over a WITH.
-    pub fn over_with(&self) -> usize {
-        self.list(3).chunks_exact(WIDTHS[3]).take(self.counts[3]).filter(|entry| entry[4] == 1).count()
+    fn written(&self, list: usize) -> impl Iterator<Item = &[u32]> {
+        self.list(list).chunks_exact(WIDTHS[list]).take(self.counts[list])
     }
 
-    /// The variable of a name and the scope that binds it, or none, or the refusal's number; and whether no word was altered but these two,
-    /// where the name is found.
-    pub fn lookup(&self, scope: u32, name: u32) -> (Result<Option<(u32, u32)>, u32>, bool) {
-        let [a, b, c] = [0, 1, 2].map(|list| self.list(list));
-        let [i, j, k, ..] = self.counts;
+    /// How many recorded uses came over a WITH.
+    pub fn over_with(&self) -> usize {
+        self.written(3).filter(|entry| entry[4] == 1).count()
+    }
+
+    /// How many bindings, carried names and findings have a generated name.
+    pub fn generated(&self) -> [usize; 3] {
+        [1, 2, 4].map(|list| self.written(list).filter(|entry| entry.last() == Some(&1)).count())
+    }
+
+    /// The variable of a name with its mark and the scope that binds it, or none, or the refusal's number; and whether no word was altered but
+    /// these two, where the name is found.
+    pub fn lookup(&self, scope: u32, name: (u32, u32)) -> (Result<Option<(u32, u32)>, u32>, bool) {
+        let [scopes, bindings, carried, ..] = self.counts;
         let mut room = [BLANK; 6];
-        let found = room[2..4].as_mut_ptr();
-        // Safety: the lists are valid for their lengths, and two words are lent.
-        let answer = unsafe { cenguatu_lookup(a.as_ptr(), a.len(), i, b.as_ptr(), b.len(), j, c.as_ptr(), c.len(), k, scope, name, found) };
+        let found = room[2..].first_chunk_mut().expect("two of the words");
+        let answer = lookup([0, 1, 2].map(|list| self.list(list)), [scopes, bindings, carried], scope, name, found);
         let [before @ .., variable, scope, _, _] = room;
         let around = blank(&before) && blank(&room[4..]);
         match answer {
@@ -163,7 +180,7 @@ impl Lists {
         let mut text = String::new();
         for (list, name) in ["scopes", "bindings", "carried", "recorded", "records"].into_iter().enumerate() {
             writeln!(text, "{name} {}", self.counts[list]).expect("a String takes all");
-            for entry in self.list(list).chunks_exact(WIDTHS[list]).take(self.counts[list]) {
+            for entry in self.written(list) {
                 line(&mut text, list, entry);
             }
         }
@@ -179,11 +196,11 @@ fn blank(words: &[u32]) -> bool {
 fn line(text: &mut String, list: usize, e: &[u32]) {
     match list {
         0 => writeln!(text, "{} {} {} {}", e[0], or_dash(e[1] != 0, e[1].wrapping_sub(1)), e[2], e[3]),
-        1 => writeln!(text, "{} {} {} {} {}", e[0], e[1], e[2], e[3], or_dash(e[4] != 0, e[5])),
-        2 => writeln!(text, "{} {} {}", e[0], e[1], e[2]),
+        1 => writeln!(text, "{} {} {} {} {} {}", e[0], e[1], e[2], e[3], or_dash(e[4] != 0, e[5]), e[6]),
+        2 => writeln!(text, "{} {} {} {}", e[0], e[1], e[2], e[3]),
         3 if e[1] == 0 => writeln!(text, "{} unresolved", e[0]),
         3 => writeln!(text, "{} resolved {} {} {}", e[0], e[2], e[3], e[4]),
-        _ => writeln!(text, "{} {} {} {} {} {}", e[0], e[1], e[2], e[3], e[4], e[5]),
+        _ => writeln!(text, "{} {} {} {} {} {} {}", e[0], e[1], e[2], e[3], e[4], e[5], e[6]),
     }
     .expect("a String takes all")
 }

@@ -1,5 +1,5 @@
 //! Finding records. The Rust keeps a finding's name and details in its message alone, between backquotes; a name may have backquotes
-//! too, so a message is taken apart from its end.
+//! too, so a message is taken apart from its end. Only the name of an E1002 may be one that the Rust made of a variable without a row.
 use crate::lists::{Names, ends};
 use cyrs_diag::{DiagCode, Diagnostic};
 
@@ -8,11 +8,18 @@ const TYPES: [&str; 10] = ["Bool", "Int", "Float", "String", "Null", "Map", "Pat
 const PLACES: [&str; 3] = ["Path", "Node", "Relationship"];
 const WANTS: [&str; 3] = ["cannot index ", "cannot slice ", "cannot iterate over "];
 
-/// `code start end name+1 one two`
+/// `code start end name+1 one two mark`; with mark 1 the variable stands in place of the name + 1.
 pub fn record(finding: &Diagnostic, names: &Names) -> String {
     let (name, one, two) = details(finding.code, &finding.message);
-    let name = name.map_or(0, |n| 1 + names[n]);
-    format!("{} {} {name} {one} {two}", finding.code as u32, ends(finding.span))
+    let (name, mark) = match (name, finding.code) {
+        (Some(name), DiagCode::E1002) => match names.given(name) {
+            (index, 0) => (1 + index, 0),
+            generated => generated,
+        },
+        (Some(name), _) => (1 + names.index(name), 0),
+        (None, _) => (0, 0),
+    };
+    format!("{} {} {name} {one} {two} {mark}", finding.code as u32, ends(finding.span))
 }
 
 fn details(code: DiagCode, message: &str) -> (Option<&str>, usize, usize) {

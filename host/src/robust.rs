@@ -1,5 +1,5 @@
-//! Lends damaged sheets to the C functions for the listing and the check call, sheet, page and lists each between bytes that may not be
-//! touched, and looks at what a call altered; see README.md.
+//! Lends damaged sheets to the C functions for the listing and the check call, and the lists to lookup; sheet, page and lists each between
+//! bytes that may not be touched. Looks at what a call altered; see README.md.
 mod broken;
 mod guarded;
 
@@ -10,13 +10,17 @@ use ours::{WIDTHS, in_words, needed};
 use std::ops::Range;
 use std::sync::atomic::{AtomicU64, Ordering::Relaxed};
 use theirs::answers::Answers;
-use theirs::sheet;
+use theirs::sheet::{self, Sheet};
 
 /// Longer than any sheet that is lent, and than any listing.
 const SHEET: usize = 1 << 17;
 const PAGE: usize = 1 << 21;
-/// Bytes of 43,690 entries of the widest list, which is more than any answer has.
-const LIST: usize = 1 << 20;
+/// Bytes of 74,898 entries of the widest list, which is more than any answer has.
+const LIST: usize = 1 << 21;
+/// Bytes in which the two words lie that lookup answers with.
+const FOUND: usize = 1 << 16;
+/// Lookups on lists that were filled, each time.
+const LOOKED: usize = 8;
 /// Pages in which a listing is tried until it fits.
 const TRIED: [usize; 4] = [1 << 9, 1 << 13, 1 << 17, PAGE];
 /// Numbers that turn warnings on.
@@ -55,7 +59,7 @@ fn main() {
     std::process::exit(i32::from(!right));
 }
 
-/// Lends so many damaged sheets of a seed to two functions; whether they did nothing wrong.
+/// Lends so many damaged sheets of a seed to three functions; whether they did nothing wrong.
 fn run(count: u64, seed: u64, calls: Calls) -> bool {
     // Safety: the handler prints and ends; while the C function runs, no lock is held.
     unsafe { signal(SEGMENTATION_FAULT, stopped) };
@@ -93,7 +97,7 @@ fn selftest() -> bool {
 #[derive(Default)]
 struct Tally {
     sheets: usize,
-    refused: [usize; 8],
+    refused: [usize; 7],
     calls: usize,
     tens: usize,
     eights: usize,
@@ -102,6 +106,10 @@ struct Tally {
     filled: usize,
     entries: usize,
     short: usize,
+    /// Lookups, those that found a generated name, and those that had to be refused.
+    looked: usize,
+    generated: usize,
+    nines: usize,
     altered: usize,
     wrong: usize,
 }
@@ -124,7 +132,7 @@ impl Tally {
     fn report(&self) {
         let refused: usize = self.refused.iter().sum();
         println!(
-            "{} sheets, {} accepted, {refused} refused (1 to 7: {:?}); warnings on and off",
+            "{} sheets, {} accepted, {refused} refused (1 to 6: {:?}); warnings on and off",
             self.sheets,
             self.sheets - refused,
             &self.refused[1..]
@@ -134,6 +142,7 @@ impl Tally {
             self.calls, self.listings, self.bytes, self.tens, self.eights
         );
         println!("{} times the lists were filled with {} entries, {} times one was too short", self.filled, self.entries, self.short);
+        println!("{} lookups, {} of which found a generated name, {} refused 9", self.looked, self.generated, self.nines);
         println!("{} altered, {} wrong answers", self.altered, self.wrong);
     }
 }
@@ -155,9 +164,12 @@ struct Lent<'a> {
     warnings: u32,
 }
 
-/// What an accepted sheet must have: the entries of its lists and whether there is a listing, and its text and the lists' words as they were
-/// in the first place.
-struct Expected {
+/// What an accepted sheet must have: the entries of its lists and whether there is a listing, what lookup must find, of which names, and its
+/// text and the lists' words as they were in the first place.
+struct Expected<'a> {
+    read: &'a Sheet,
+    names: Vec<(u32, u32)>,
+    answers: Answers<'a>,
     entries: [usize; 5],
     fits: bool,
     text: Option<Vec<u8>>,
@@ -171,6 +183,7 @@ struct Run {
     sheet: Guarded,
     page: Guarded,
     lists: [Guarded; 5],
+    found: Guarded,
     tally: Tally,
 }
 
@@ -179,7 +192,8 @@ impl Run {
         let mut random = Random::new(seed);
         let (sheet, page) = (Guarded::new(SHEET, &mut random), Guarded::new(PAGE, &mut random));
         let lists = [(); 5].map(|()| Guarded::new(LIST, &mut random));
-        Self { random, calls, sheet, page, lists, tally: Tally::default() }
+        let found = Guarded::new(FOUND, &mut random);
+        Self { random, calls, sheet, page, lists, found, tally: Tally::default() }
     }
 
     fn lend(&mut self, bytes: &[u8]) {
@@ -193,7 +207,7 @@ impl Run {
     }
 
     fn look_at_all(&mut self) {
-        if !self.sheet.kept_all() || !self.page.kept_all() || !self.lists.iter().all(Guarded::kept_all) {
+        if !self.sheet.kept_all() || !self.page.kept_all() || !self.found.kept_all() || !self.lists.iter().all(Guarded::kept_all) {
             self.fault(Fault::Altered("memory far from what was lent"));
         }
     }
@@ -216,7 +230,11 @@ impl Run {
         self.sheet.writable(true);
         self.sheet.restore(0..SHEET);
         self.page.restore(0..PAGE);
-        self.lists.iter_mut().for_each(|list| list.restore(0..LIST));
+        self.found.restore(0..FOUND);
+        for list in &mut self.lists {
+            list.writable(true);
+            list.restore(0..LIST);
+        }
     }
 
     /// One sheet in each place, where it can't be written to, warnings off and on.
@@ -227,8 +245,10 @@ impl Run {
             self.tally.refused[cause as usize] += 1;
         }
         let mut expected = [false, true].map(|warnings| {
-            let answers = Answers::new(read.as_ref().ok()?, warnings);
-            Some(Expected { entries: answers.entries(), fits: answers.fit(), text: None, lists: None })
+            let read = read.as_ref().ok()?;
+            let answers = Answers::new(read, warnings);
+            let (entries, fits) = (answers.entries(), answers.fit());
+            Some(Expected { read, names: read.asked(), answers, entries, fits, text: None, lists: None })
         });
         for place in [Place::First, Place::Between, Place::Last] {
             let part = self.sheet.part(place, bytes.len(), &mut self.random);
@@ -255,7 +275,7 @@ impl Run {
             self.call(lent, room, |answer| answer == Err(cause))?;
         }
         let entries = [(); 5].map(|()| self.random.at(40));
-        self.check(lent, in_words(entries), cause).map(drop)
+        self.check(lent, in_words(entries), cause, None).map(drop)
     }
 
     /// Lists that are as long as they must be, and some that are longer; then one that is too short, by a word, by an entry, or by all that
@@ -264,7 +284,7 @@ impl Run {
         let words = lent.bytes.len() / 4;
         let entries = needed(lent.bytes.len(), expected.entries);
         let more = if self.random.one_in(4) { self.random.at(300) } else { 0 };
-        let made = self.check(lent, in_words(entries.map(|entries| entries + more)), 256)?;
+        let made = self.check(lent, in_words(entries.map(|entries| entries + more)), 256, Some(&*expected))?;
         if made.each_ref().map(Vec::len) != in_words(expected.entries) {
             return Err(Fault::Wrong(format!(
                 "{:?} words in the lists, {:?} entries wanted",
@@ -281,14 +301,15 @@ impl Run {
         for (list, less) in [(list, 1), (by_need, WIDTHS[by_need]), (by_need, (entries[by_need] - words).max(1) * WIDTHS[by_need])] {
             let mut lengths = in_words(entries);
             lengths[list] -= less;
-            self.check(lent, lengths, 8)?;
+            self.check(lent, lengths, 8, None)?;
             self.tally.short += 1;
         }
         Ok(())
     }
 
-    /// One check call on lists of so many words, with this answer, all else as it was; the words that it wrote.
-    fn check(&mut self, lent: &Lent, lengths: [usize; 5], wanted: u32) -> Result<[Vec<u32>; 5], Fault> {
+    /// One check call on lists of so many words, with this answer, all else as it was, and then lookups on the lists if these are to be looked
+    /// at; the words that it wrote.
+    fn check(&mut self, lent: &Lent, lengths: [usize; 5], wanted: u32, expected: Option<&Expected>) -> Result<[Vec<u32>; 5], Fault> {
         let parts: [Range<usize>; 5] = std::array::from_fn(|list| self.lists[list].words(lent.place, lengths[list], &mut self.random));
         let mut counts = [usize::MAX; 5];
         let mut at = parts.iter();
@@ -308,6 +329,9 @@ impl Run {
             kept("a list past its count, or at a refusal,", self.lists[list].kept(part.start + 4 * written[list]..part.end))?;
             kept("what is around a list", self.lists[list].kept_around(part))?;
         }
+        if let Some(expected) = expected.filter(|expected| expected.entries == counts) {
+            self.look(lent.place, &parts, counts, expected)?;
+        }
         let made = std::array::from_fn(|list| self.lists[list].as_words(&parts[list])[..written[list]].to_vec());
         for (list, part) in parts.into_iter().enumerate() {
             self.lists[list].restore(part);
@@ -317,6 +341,65 @@ impl Run {
             self.tally.entries += counts.iter().sum::<usize>();
         }
         Ok(made)
+    }
+
+    /// Lookups on filled lists, which can't be written to, of names with marks 0, 1, 2 and any, from scopes that are there and some that are
+    /// not, and with counts that are right and some that are too large.
+    fn look(&mut self, place: Place, parts: &[Range<usize>; 5], counts: [usize; 5], expected: &Expected) -> Result<(), Fault> {
+        self.lists.iter_mut().for_each(|list| list.writable(false));
+        for number in 0..LOOKED {
+            let (name, mark) = self.random.pick(&expected.names);
+            let mark = [mark, mark, 0, 1, 2, self.random.word(), mark, mark][number];
+            let scopes = counts[0] as u32;
+            let scope = if number < 6 { self.random.below(scopes) } else { self.random.pick(&[scopes, 0, 0, u32::MAX]) };
+            let [scopes_count, bindings_count, carried_count, ..] = counts;
+            let mut lent_counts = [scopes_count, bindings_count, carried_count];
+            if number == LOOKED - 1 && self.random.one_in(2) {
+                let list = self.random.at(3);
+                lent_counts[list] = parts[list].len() / 4 / WIDTHS[list] + 1 + self.random.at(3);
+            }
+            let wanted = if mark > 1 || scope >= scopes || lent_counts[..] != counts[..3] {
+                Err(9)
+            } else {
+                Ok(expected.read.text((name, mark)).and_then(|text| expected.answers.lookup(scope, &text)))
+            };
+            self.lookup(place, parts, lent_counts, scope, (name, mark), wanted)?;
+        }
+        self.lists.iter_mut().for_each(|list| list.writable(true));
+        Ok(())
+    }
+
+    /// One lookup, which must find the variable and the scope, nothing, or refuse; it writes two words where it finds the name.
+    fn lookup(
+        &mut self,
+        place: Place,
+        parts: &[Range<usize>; 5],
+        counts: [usize; 3],
+        scope: u32,
+        name: (u32, u32),
+        wanted: Result<Option<(u32, u32)>, u32>,
+    ) -> Result<(), Fault> {
+        let part = self.found.words(place, 2, &mut self.random);
+        let mut at = parts.iter();
+        let [scopes, bindings, carried, ..] = self.lists.each_mut().map(|list| &*list.as_words(at.next().expect("a part for each list")));
+        let found = self.found.as_words(&part).first_chunk_mut().expect("two words");
+        let answer = (self.calls.lookup)([scopes, bindings, carried], counts, scope, name, found);
+        let (number, written) = match wanted {
+            Ok(Some((variable, scope))) => (256, Some([variable, scope])),
+            Ok(None) => (0, None),
+            Err(refusal) => (refusal, None),
+        };
+        let right = answer == number && written.is_none_or(|written| written == *found);
+        if !right {
+            return Err(Fault::Wrong(format!("lookup's answer {answer} and words {found:?} for {name:?} from {scope}, {wanted:?} wanted")));
+        }
+        kept("what lookup doesn't answer with", written.is_some() || self.found.kept(part.clone()))?;
+        kept("what is around lookup's words", self.found.kept_around(&part))?;
+        self.found.restore(part);
+        self.tally.looked += 1;
+        self.tally.generated += usize::from(name.1 == 1 && answer == 256);
+        self.tally.nines += usize::from(answer == 9);
+        Ok(())
     }
 
     /// A listing in pages of several lengths, whose text is the same in every place; or its refusal 8, whatever the page.

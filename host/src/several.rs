@@ -369,3 +369,106 @@ pub fn steps(each: Each) {
         put(&walk, each);
     });
 }
+
+/// Names of the sheet beside `a` and `*`, of which the first is used, or `a` where there is none.
+const LIKE: [&[&str]; 6] = [&[], &["__var7"], &["__var07"], &["__var7", "__var07"], &["__var0"], &["__var4294967295"]];
+
+type Clause = (u32, Vec<u32>);
+
+/// Clauses that bind a variable, or name it where nothing is bound, beside a name.
+fn binding(v: u32, name: u32) -> [Clause; 13] {
+    [
+        // MATCH v = (), (v), -[v]-; UNWIND AS v; CREATE v = (); MERGE (v)
+        (1, vec![0, 1, 1, v, 0]),
+        (1, vec![0, 1, 0, 1, 1, 0, 1, 1, v, 0]),
+        (1, vec![0, 1, 0, 1, 2, 0, 1, 1, v, 0]),
+        (5, vec![v, 1]),
+        (6, vec![1, 1, v, 0]),
+        (7, vec![1, 0, 1, 1, 0, 1, 1, v, 0]),
+        // MATCH v = (), v = (); v = (v); (v), v = (); (v) whose property is a comprehension that binds v = (), and the name in it
+        (1, vec![0, 2, 1, v, 0, 1, v, 0]),
+        (1, vec![0, 1, 1, v, 1, 1, 0, 1, 1, v, 0]),
+        (1, vec![0, 2, 0, 1, 1, 0, 1, 1, v, 0, 1, v, 0]),
+        (1, vec![0, 1, 0, 1, 1, 0, 1, 1, v, 1, 22, 0, 1, 0, 1, 1, v, 0, 8, name]),
+        // WHERE a comprehension that binds (v), and the name in it; WHERE (v) as a pattern predicate; CALL with the name as v's yield
+        (2, vec![22, 0, 1, 0, 1, 0, 1, 1, 0, 1, 1, v, 0, 8, name]),
+        (2, vec![20, 1, 0, 1, 1, 0, 1, 1, v, 0]),
+        (11, vec![0, 1, name, 0, v]),
+    ]
+}
+
+/// Nothing, or a WITH.
+fn carrying(v: u32, name: u32) -> [Option<Clause>; 14] {
+    let alias = name + 1;
+    [
+        None,
+        // WITH *; *, v AS a; v; v AS a; the name; the name AS a; a AS the name; a number AS the name; *, a number AS the name; nothing
+        Some((3, vec![1, 0, 8, 1, 0])),
+        Some((3, vec![2, 0, 8, 1, 1, 7, v, 0])),
+        Some((3, vec![1, 0, 7, v, 0])),
+        Some((3, vec![1, 1, 7, v, 0])),
+        Some((3, vec![1, 0, 8, name, 0])),
+        Some((3, vec![1, 1, 8, name, 0])),
+        Some((3, vec![1, alias, 8, 0, 0])),
+        Some((3, vec![1, alias, 3, 0])),
+        Some((3, vec![2, 0, 8, 1, alias, 3, 0])),
+        Some((3, vec![0, 0])),
+        // WITH * and the name as key; nothing, and a comprehension that binds v = () and the name in it; v AS a, and the name, a, and a
+        // comprehension that binds (v) and the name in it
+        Some((12, vec![1, 0, 8, 1, 0, 1, 8, name])),
+        Some((12, vec![0, 0, 1, 22, 0, 1, 0, 1, 1, v, 0, 8, name])),
+        Some((12, vec![1, 1, 7, v, 0, 3, 8, name, 8, 0, 22, 0, 1, 0, 1, 0, 1, 1, 0, 1, 1, v, 0, 8, name])),
+    ]
+}
+
+/// Clauses after it: DELETE of the name, a and v; before it MATCH v = (), WITH *, or both; RETURN of the name AS a, with it and a as keys.
+fn at_last(v: u32, name: u32) -> [Vec<Clause>; 5] {
+    let (path, star) = ((1, vec![0, 1, 1, v, 0]), (3, vec![1, 0, 8, 1, 0]));
+    let delete = (10, vec![3, 8, name, 8, 0, 7, v]);
+    [
+        vec![delete.clone()],
+        vec![path.clone(), delete.clone()],
+        vec![star.clone(), delete.clone()],
+        vec![path, star, delete],
+        vec![(13, vec![1, 1, 8, name, 2, 8, name, 8, 0])],
+    ]
+}
+
+pub fn rowless(each: Each) {
+    for like in LIKE {
+        let names = [&["a", "*"], like].concat();
+        let name = if like.is_empty() { 0 } else { 2 };
+        // No row; a node of the name; variable 7 as a node `a`.
+        for rows in [&[][..], &[[1, name, 1, 0, 1]], &[[7, 0, 1, 0, 1]]] {
+            let mut walk = sheet(&names, rows, &[]);
+            let mut put = |head: &[Clause], arm: &[Clause]| {
+                (walk.counts[2], walk.sections[2]) = (head.len() as u32, placed(head, 0));
+                let count = arm.len() as u32;
+                walk.counts[3] = count.min(1);
+                walk.sections[3] = if arm.is_empty() { Vec::new() } else { [&[0, count, count], &placed(arm, 0)[..]].concat() };
+                put(&walk, each);
+            };
+            for first in [0, 7, MAX].into_iter().flat_map(|v| binding(v, name).map(|clause| (v, clause))) {
+                one_binder(first, name, &mut put);
+            }
+        }
+    }
+}
+
+/// A clause that binds alone, with another one before it of any of the variables, and with another one in the head that binds the same.
+fn one_binder((v, clause): (u32, Clause), name: u32, put: &mut dyn FnMut(&[Clause], &[Clause])) {
+    for with in carrying(v, name) {
+        let with: Vec<Clause> = with.into_iter().collect();
+        let lasts = at_last(v, name);
+        for last in &lasts {
+            put(&[&[clause.clone()], &with[..], last].concat(), &[]);
+        }
+        let rest = [&[clause.clone()], &with[..], &lasts[0]].concat();
+        for other in [0, 7, MAX].into_iter().flat_map(|v| binding(v, name)) {
+            put(&[&[other], &rest[..]].concat(), &[]);
+        }
+        for other in binding(v, name) {
+            put(&[other], &rest);
+        }
+    }
+}

@@ -1,20 +1,55 @@
-//! A sheet to the Rust's statement, or its refusal 1 to 7, as document 01 says.
+//! A sheet to the Rust's statement, or its refusal 1 to 6, as document 01 says; document 02 (CR 5) dropped 7.
 use crate::format::{Read, Reader, check, span_of};
 use cyrs_hir::{Binding, Clause, Statement, VarId, VarKind};
 use smol_str::SmolStr;
+use std::collections::HashSet;
 
 pub const TRAILER: usize = 10;
 
+#[derive(Clone)]
 pub struct Sheet {
     pub names: Vec<String>,
     pub statement: Statement,
+    /// The variables that a pattern or an Unwind binds, wherever it stands, and that the binding table lacks.
+    pub rowless: Vec<u32>,
+}
+
+/// What the Rust names a variable without a row.
+pub fn generated(variable: u32) -> String {
+    format!("__var{variable}")
 }
 
 impl Sheet {
+    /// Every text that can be a name of something bound: the names of the sheet, and those of its variables without a row.
+    pub fn texts(&self) -> Vec<String> {
+        let names: HashSet<&String> = self.names.iter().collect();
+        let generated = self.rowless.iter().map(|variable| generated(*variable)).filter(|text| !names.contains(text));
+        self.names.iter().cloned().chain(generated).collect()
+    }
+
     /// Whether a WITH or a RETURN has a sort key.
     pub fn has_keys(&self) -> bool {
         let mut clauses = self.statement.clauses.iter().chain(self.statement.unions.iter().flat_map(|arm| &arm.clauses));
         clauses.any(|clause| matches!(clause, Clause::With { order_by, .. } | Clause::Return { order_by, .. } if !order_by.is_empty()))
+    }
+
+    /// The text of a name that lookup is asked for, by its mark; none where no entry can have these two words: an index past the names, or a
+    /// variable whose text is one of the names, which then stands by its index.
+    pub fn text(&self, (name, mark): (u32, u32)) -> Option<String> {
+        match mark {
+            0 => self.names.get(name as usize).cloned(),
+            1 => Some(generated(name)).filter(|text| !self.names.contains(text)),
+            _ => None,
+        }
+    }
+
+    /// Names to look up, with their marks: each of the sheet's, an index past them, each variable without a row, these also as indices, and
+    /// two indices also as variables.
+    pub fn asked(&self) -> Vec<(u32, u32)> {
+        let names = self.names.len() as u32;
+        let listed = (0..=names).map(|name| (name, 0));
+        let rowless = self.rowless.iter().flat_map(|variable| [(*variable, 1), (*variable, 0)]);
+        listed.chain(rowless).chain([(0, 1), (names, 1)]).collect()
     }
 
     /// Takes the sort keys of a WITH out, and if `all` those of a RETURN too.
@@ -46,8 +81,10 @@ pub fn read(bytes: &[u8]) -> Read<Sheet> {
     reader.words = &sections[arms..];
     statement.unions = reader.repeat(trailer[7], Words::arm)?;
     reader.used_up()?;
-    check(reader.binders.iter().all(|v| statement.bindings.get(v).is_some()), 7)?;
-    Ok(Sheet { names, statement })
+    let mut seen = HashSet::new();
+    let rowless = |variable: &VarId| statement.bindings.get(variable).is_none() && seen.insert(variable.0);
+    let rowless = reader.binders.into_iter().filter(rowless).map(|variable| variable.0).collect();
+    Ok(Sheet { names, statement, rowless })
 }
 
 pub fn word(four: &[u8]) -> u32 {
@@ -119,8 +156,10 @@ impl Reader for Words<'_> {
         SmolStr::new(&self.names[at])
     }
 
-    fn bind(&mut self, variable: VarId) {
+    fn binder(&mut self) -> Read<VarId> {
+        let variable = VarId(self.word()?);
         self.binders.push(variable);
+        Ok(variable)
     }
 
     fn repeat<T>(&mut self, count: u32, mut one: impl FnMut(&mut Self) -> Read<T>) -> Read<Vec<T>> {

@@ -24,15 +24,12 @@ fn read(bytes: &[u8]) -> Read<Statement> {
     let mut statement = Statement::new(span_of(trailer[8], trailer[9], 2)?);
     let names = read_names(&bytes[..4 * bindings], trailer[1])?;
     read_bindings(&sections[bindings..head], trailer[3], &names, &mut statement)?;
-    let mut reader = Bytes { words: &sections[head..arms], names: &names, statement: &mut statement, unbound: false };
-    let clauses = reader.repeat(trailer[5], Bytes::clause)?;
+    let mut reader = Bytes { words: &sections[head..arms], names: &names };
+    statement.clauses = reader.repeat(trailer[5], Bytes::clause)?;
     reader.used_up()?;
     reader.words = &sections[arms..];
-    let unions = reader.repeat(trailer[7], Bytes::arm)?;
+    statement.unions = reader.repeat(trailer[7], Bytes::arm)?;
     reader.used_up()?;
-    check(!reader.unbound, 7)?;
-    statement.clauses = clauses;
-    statement.unions = unions;
     Ok(statement)
 }
 
@@ -76,12 +73,10 @@ fn read_bindings(section: &[[u8; 4]], count: u32, names: &[SmolStr], statement: 
     Ok(())
 }
 
-/// The words of a section that are still to be read, the names, and whether a variable was bound that has no binding.
+/// The words of a section that are still to be read, and the names.
 struct Bytes<'a> {
     words: &'a [[u8; 4]],
     names: &'a [SmolStr],
-    statement: &'a Statement,
-    unbound: bool,
 }
 
 impl Reader for Bytes<'_> {
@@ -101,10 +96,6 @@ impl Reader for Bytes<'_> {
 
     fn name_at(&self, at: usize) -> SmolStr {
         self.names[at].clone()
-    }
-
-    fn bind(&mut self, variable: VarId) {
-        self.unbound |= !self.statement.bindings.contains_key(&variable);
     }
 
     fn repeat<T>(&mut self, count: u32, mut one: impl FnMut(&mut Self) -> Read<T>) -> Read<Vec<T>> {

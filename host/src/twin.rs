@@ -83,8 +83,6 @@ impl Reader for Copier<'_> {
         SmolStr::new("")
     }
 
-    fn bind(&mut self, _: VarId) {}
-
     fn repeat<T>(&mut self, count: u32, mut one: impl FnMut(&mut Self) -> Read<T>) -> Read<Vec<T>> {
         (0..count).map(|_| one(self)).collect()
     }

@@ -2,10 +2,12 @@
 use super::finding::{Finding, NOWHERE};
 use super::graph::{Found, Graph, Kind, ends};
 use super::parts::{elements, parts};
-use super::row;
-use super::starred::{Said, Starred};
+use super::said::{Counted, Said};
+use super::{name_for, row};
+use crate::sheet::Sheet;
 use cyrs_hir::{Clause, Expr, HirSpan, OrderItem, Pattern, Projection, RemoveItem, SetItem, Statement, VarId, VarKind};
-use std::collections::HashMap;
+use std::borrow::Cow;
+use std::collections::{HashMap, HashSet};
 
 /// The answers by use id, in order of first use, each with the last use's answer, or none.
 #[derive(Default)]
@@ -45,11 +47,15 @@ impl Recorded {
 
 pub struct Names<'a> {
     statement: &'a Statement,
+    /// The names of the sheet.
+    listed: HashSet<&'a str>,
     warnings: bool,
     pub graph: Graph,
     pub recorded: Recorded,
     pub findings: Vec<Finding>,
-    pub starred: Starred,
+    pub counted: Counted,
+    /// Binders that have a row.
+    rows: usize,
 }
 
 /// Where an expression stands, and so what its names mean.
@@ -70,13 +76,16 @@ impl Place<'_> {
 }
 
 /// Head, then each arm, from the first Root.
-pub fn walk(statement: &Statement, warnings: bool) -> Names<'_> {
-    let (graph, recorded, starred) = (Graph::default(), Recorded::default(), Starred::default());
-    let mut names = Names { statement, warnings, graph, recorded, findings: Vec::new(), starred };
+pub fn walk(sheet: &Sheet, warnings: bool) -> Names<'_> {
+    let statement = &sheet.statement;
+    let listed = sheet.names.iter().map(String::as_str).collect();
+    let (graph, recorded, counted) = (Graph::default(), Recorded::default(), Counted::default());
+    let mut names = Names { statement, listed, warnings, graph, recorded, findings: Vec::new(), counted, rows: 0 };
     let root = names.graph.open(Kind::Root, None, ends(statement.span));
     for clauses in std::iter::once(&statement.clauses).chain(statement.unions.iter().map(|arm| &arm.clauses)) {
         clauses.iter().fold(root, |current, clause| names.clause(clause, current));
     }
+    names.counted.count(Said::All, names.rows == 0 && names.counted.is_rowless());
     names
 }
 
@@ -101,7 +110,8 @@ impl<'a> Names<'a> {
             Clause::Merge { pattern, span, .. } => return self.with_pattern(Kind::Merge, pattern, *span, current),
             Clause::Unwind { bind, span, .. } => {
                 let scope = self.graph.open(Kind::Unwind, Some(current), ends(*span));
-                self.graph.bind(scope, self.name_of(*bind), *bind, VarKind::Value);
+                let name = self.binder(*bind, Said::Unwind, Place::at(scope));
+                self.graph.bind(scope, &name, *bind, VarKind::Value);
                 return scope;
             }
             Clause::Call { yields, span, .. } => {
@@ -195,27 +205,32 @@ impl<'a> Names<'a> {
         Some((alias.or(own)?.to_owned(), variable))
     }
 
-    /// Counts what a WITH has of stars and aliases.
+    /// Counts what a WITH has of stars and aliases, and of Vars without a row.
     fn count(&mut self, projections: &[Projection], keys: &[OrderItem], current: usize) {
-        let (graph, starred) = (&self.graph, &mut self.starred);
+        let (graph, counted) = (&self.graph, &mut self.counted);
         let found = |name: &str| graph.lookup(current, name).is_some();
         let stars = projections.iter().filter(|projection| is_star(projection)).count();
         if stars > 0 {
-            starred.count(Said::Star, true);
-            starred.count(Said::Several, stars > 1);
-            starred.count(Said::Beside, projections.len() > stars);
-            starred.count(Said::Sorted, !keys.is_empty());
-            starred.count(Said::Shadowed, graph.shadows(current));
-            starred.count(Said::Named, found("*"));
+            counted.count(Said::Star, true);
+            counted.count(Said::Several, stars > 1);
+            counted.count(Said::Beside, projections.len() > stars);
+            counted.count(Said::Sorted, !keys.is_empty());
+            counted.count(Said::Shadowed, graph.shadows(current));
+            counted.count(Said::Named, found("*"));
+            counted.count(Said::Carried, graph.visible(current).iter().any(|(name, _)| !self.listed.contains(name.as_str())));
         }
         for Projection { expr, alias, .. } in projections {
             match (expr, alias) {
-                (Expr::Var(_), _) | (_, None) => (),
-                (Expr::Unresolved(name), Some(_)) => starred.count(if found(name) { Said::Found } else { Said::Lost }, true),
+                (Expr::Var(variable), alias) => {
+                    let what = if alias.is_some() { Said::Aliased } else { Said::LeftOut };
+                    counted.count(what, row(self.statement, *variable).is_none());
+                }
+                (_, None) => (),
+                (Expr::Unresolved(name), Some(_)) => counted.count(if found(name) { Said::Found } else { Said::Lost }, true),
                 (_, Some(alias)) => {
-                    starred.count(Said::Computed, true);
-                    starred.count(Said::Met, row(self.statement, VarId(use_id(alias))).is_some());
-                    starred.count(Said::Over, found(alias));
+                    counted.count(Said::Computed, true);
+                    counted.count(Said::Met, row(self.statement, VarId(use_id(alias))).is_some());
+                    counted.count(Said::Over, found(alias));
                 }
             }
         }
@@ -226,15 +241,25 @@ impl<'a> Names<'a> {
         row(self.statement, variable).map_or(VarKind::Value, |row| row.kind)
     }
 
-    /// The table's name of a variable that a pattern or an Unwind binds; a sheet where there is none is refused 7.
-    fn name_of(&self, variable: VarId) -> &'a str {
-        &row(self.statement, variable).expect("a row of the binding table").name
+    /// The name of a variable that a pattern or an Unwind binds: the table's, or without a row one that is made of the variable, which may be
+    /// a name of the sheet too. Counts what is said of the latter.
+    fn binder(&mut self, variable: VarId, position: Said, place: Place) -> Cow<'a, str> {
+        if let Some(row) = row(self.statement, variable) {
+            self.rows += 1;
+            return Cow::Borrowed(&row.name);
+        }
+        let name = name_for(variable);
+        self.counted.count(position, true);
+        self.counted.count(Said::Listed, self.listed.contains(name.as_str()));
+        self.counted.count(Said::Visible, self.visible(&name, place).is_some());
+        Cow::Owned(name)
     }
 
     /// A path or a yield binds, and warns where its scope has the name.
     fn bind(&mut self, scope: usize, name: &str, variable: VarId, kind: VarKind, span: (u32, u32)) {
         if self.graph.bind(scope, name, variable, kind) && self.warnings {
             self.findings.push(Finding::of_name(1002, span, name));
+            self.counted.count(Said::Warned, !self.listed.contains(name));
         }
     }
 
@@ -245,14 +270,16 @@ impl<'a> Names<'a> {
     fn pattern(&mut self, pattern: &'a Pattern, place: Place) {
         for part in &pattern.parts {
             if let Some(path) = part.named_as {
-                self.bind(place.scope, self.name_of(path), path, VarKind::Path, NOWHERE);
+                let name = self.binder(path, Said::Path, place);
+                self.bind(place.scope, &name, path, VarKind::Path, NOWHERE);
             }
             for element in elements(part) {
                 if let Some(binder) = element.binder {
-                    let name = self.name_of(binder);
-                    if self.visible(name, place).is_none() {
-                        let kind = if element.node { VarKind::Node } else { VarKind::Relationship };
-                        self.graph.bind(place.scope, name, binder, kind);
+                    let (kind, position) =
+                        if element.node { (VarKind::Node, Said::Node) } else { (VarKind::Relationship, Said::Relationship) };
+                    let name = self.binder(binder, position, place);
+                    if self.visible(&name, place).is_none() {
+                        self.graph.bind(place.scope, &name, binder, kind);
                     }
                 }
                 if let Some(property) = element.property {
@@ -276,6 +303,8 @@ impl<'a> Names<'a> {
                     kind: self.kind_of(VarId(variable)),
                     via_projection: self.graph.is_over_with(scope),
                 });
+                let is_rowless = |variable| row(self.statement, variable).is_none() && *name == *name_for(variable);
+                self.counted.count(Said::Used, answer.is_some_and(|answer| is_rowless(VarId(answer.variable))));
                 self.recorded.put(use_id(name), answer);
                 if answer.is_none() && name != "*" {
                     self.findings.push(Finding::of_name(1001, NOWHERE, name));
