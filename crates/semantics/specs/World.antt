@@ -41,7 +41,6 @@ row_name v i None = listed_name v i
 row_name v i (Some (row j x k a b)) = indexed x
 
 -- a row's kind: "the table's, Value if it has none"
-
 unfoldable pub row_kind : Option Row → ℕ
 row_kind None = value_kind
 row_kind (Some (row i x k a b)) = k
