@@ -12,9 +12,12 @@ use Rattle.visible.specs.Visible.{seens, Descends}
 use Rattle.visible.specs.Stack.{Cut}
 use Rattle.visible.specs.declared.Visible.{Visible}
 use Rattle.visible.proofs.Names.{descends-above}
+use Rattle.rowless.specs.Rowless.{places}
+use Rattle.steps.specs.Named.{as_named, Below}
 use Rattle.steps.specs.Hold.{Fits, Holds, Still, Left, on_names}
 use Rattle.steps.specs.declared.Walk.{Walk}
 use Rattle.steps.specs.declared.context.Context.{Context}
+use Rattle.steps.proofs.Named.{unmoved-idle, below-less}
 use Rattle.steps.proofs.Held.{refit, recounted, log-idle, still-then}
 use Rattle.walk.specs.Goes.{Goer}
 use Rattle.walk.proofs.Stage.{Rest, Stage}
@@ -31,19 +34,25 @@ lower-descends n t (suc d) (suc u) c m e h = lower-descends n t d u c m (omega a
 pub below-descends : (n t u c : ℕ) (m : List ℕ) → t ≤ u → Descends c (seens n u m) → Descends c (seens n t m)
 below-descends n t u c m h d = lower-descends n t (u - t) u c m (omega arith) d
 
+-- and of one whose places are below n
+below-lower : (n k t u : ℕ) (m : List ℕ) → t ≤ u → Below n (seens k u m) → Below n (seens k t m)
+below-lower n k t u m h b =
+    let z : u ≡ u - t + t = omega arith in
+    below-less n k (u - t) t m (rw z at b)
+
 -- ---- the first names stay visible
 module _ {w : Walk} {v : Visible} {top cur : ℕ} (p : Cut top w.visible v) where
   kept_still : Still w (record w { visible = v; cur = cur })
-  kept_still = record { visible = p.still; log = log-idle }
+  kept_still = record { visible = p.still; rowless = unmoved-idle; log = log-idle }
 
-  kept_fits : {c : Context} {i k : ℕ} → Fits i k c w → top ≤ w.visible.top → Descends cur (seens w.visible.names top w.visible.words.now) → cur ≤ w.last → Fits i k c (record w { visible = v; cur = cur })
+  kept_fits : {c : Context} {i k l : ℕ} → Fits i k l c w → top ≤ w.visible.top → Descends cur (seens w.visible.names top w.visible.words.now) → cur ≤ w.last → Fits i k l c (record w { visible = v; cur = cur })
   kept_fits f h d l =
-      refit f kept_still p.sound (subst (λ s. Descends cur s) (sym p.same) d) l f.last f.count (omega (arith, f.stack, p.back, p.still.names)) f.olds f.needs f.within
+      refit f kept_still refl (subst (λ s. Below (places w.rowless) s) (sym p.same) (below-lower (places w.rowless) w.visible.names top w.visible.top w.visible.words.now h f.below)) p.sound (subst (λ s. Descends cur s) (sym p.same) d) l f.last f.count (omega (arith, f.stack, p.back)) f.rowless f.olds f.needs f.within
 
-  kept_holds : {id : ℕ → ℕ} {c : Context} {s : Both} → Holds id c w s → Holds id c (record w { visible = v; cur = cur }) (on_names (standing (seens w.visible.names top w.visible.words.now) cur) s)
+  kept_holds : {id : ℕ → ℕ} {c : Context} {s : Both} → Holds id c w s → Holds id c (record w { visible = v; cur = cur }) (on_names (standing (as_named w.rowless (seens w.visible.names top w.visible.words.now)) cur) s)
   kept_holds h =
       record {
-        visible = p.same;
+        visible = ap (λ l. as_named w.rowless l) p.same;
         cur = refl;
         last = h.last;
         log = h.log;
@@ -58,22 +67,22 @@ module _ {w w' : Walk} {top cur : ℕ} (p : Left w w' top cur) where
   cut_still = rw p.same (kept_still p.visible)
 
   -- any number of words may be left of the stack's room
-  pub cut_fits : {c : Context} {i k : ℕ} → Fits i k c w → top ≤ w.visible.top → Descends cur (seens w.visible.names top w.visible.words.now) → cur ≤ w.last → Fits i k c w'
+  pub cut_fits : {c : Context} {i k l : ℕ} → Fits i k l c w → top ≤ w.visible.top → Descends cur (seens w.visible.names top w.visible.words.now) → cur ≤ w.last → Fits i k l c w'
   cut_fits f h d l = rw p.same (kept_fits p.visible f h d l)
 
-  pub cut_holds : {id : ℕ → ℕ} {c : Context} {s : Both} → Holds id c w s → Holds id c w' (on_names (standing (seens w.visible.names top w.visible.words.now) cur) s)
+  pub cut_holds : {id : ℕ → ℕ} {c : Context} {s : Both} → Holds id c w s → Holds id c w' (on_names (standing (as_named w.rowless (seens w.visible.names top w.visible.words.now)) cur) s)
   cut_holds h = rw p.same (kept_holds p.visible h)
 
   pub cut_at : w'.at ≡ w.at
   cut_at = ap (λ (x : Walk). x.at) p.same
 
 -- ---- with nothing visible
-pub cleared-fits : {c : Context} {w w' : Walk} {i k cur : ℕ} → Fits i k c w → Left w w' 0 cur → cur ≤ w.last → Fits i k c w'
+pub cleared-fits : {c : Context} {w w' : Walk} {i k l cur : ℕ} → Fits i k l c w → Left w w' 0 cur → cur ≤ w.last → Fits i k l c w'
 unfolding seens Descends
 cleared-fits f p l = cut_fits p f (omega arith) tt l
 
 pub cleared : {j : ℕ} {c : Context} {w₀ : Walk} {G : Goer} {free : ℕ} {w w' : Walk} (K : Rest) → Left w w' 0 0 → Stage None j c w₀ G free w (λ id s t. K id s (on_names (standing [] 0) t)) → Stage None j c w₀ G free w' K
-unfolding seens
+unfolding seens as_named
 cleared K p o =
     record {
       from = omega (arith, o.from, cut_at p);

@@ -30,7 +30,7 @@ use Rattle.clause_parts.specs.Passes.{Passes, Held, Next}
 pub forget : {i : ℕ} {c : Context} {w w' : Walk} {H : Goer} (r : Result (Unit {0}) Refusal) → Walked i c w w' H r → Passes 0 c w w' H r
 forget (Ok u) x =
     let y = x.goes in
-    record { still = x.still; passes = record { from = y.from; fit = λ k f. y.fit k (lower (omega arith) (omega arith) f); goes = y.goes } }
+    record { still = x.still; passes = record { from = y.from; fit = λ k f. y.fit k (lower (omega arith) (omega arith) (omega arith) f); goes = y.goes } }
 forget (Err e) x = record { still = x.still; passes = x.goes }
 
 -- ---- the end
@@ -41,7 +41,7 @@ module _ {j : ℕ} {c : Context} {w₀ : Walk} {G : Goer} {free : ℕ} {w : Walk
         still = o.still;
         passes = record {
           from = o.from;
-          fit = λ k f. lower (omega arith) (omega arith) (o.fit k f);
+          fit = λ k f. lower (omega arith) (omega arith) (omega arith) (o.fit k f);
           goes = comes o;
         };
       }

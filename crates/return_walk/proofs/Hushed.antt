@@ -20,21 +20,26 @@ use Rattle.return_walk.proofs.Marking.{hushing, hushed-world}
 
 -- what is hushed says nothing of where a walk stands; and `c` hushed by its own marks is `c`
 module _ {c : Context} (h : Bor (List ℕ)) where
-  fits_on : {e t : ℕ} {w : Walk} → Fits e t c w → Fits e t (hushing c h) w
+  fits_on : {e t u : ℕ} {w : Walk} → Fits e t u c w → Fits e t u (hushing c h) w
   fits_on f =
       record {
-        some = f.some;
-        places = f.places;
+        listed = f.listed;
+        heads = f.heads;
+        numbered = f.numbered;
+        right = f.right;
+        below = f.below;
         sound = f.sound;
         descends = f.descends;
         cur = f.cur;
         last = f.last;
         count = f.count;
         stack = f.stack;
+        rowless = f.rowless;
         olds = f.olds;
         needs = f.needs;
         within = f.within;
         names = f.names;
+        binders = f.binders;
         room = f.room;
       }
 

@@ -1,5 +1,5 @@
--- A RETURN: its projections are walked as rounds, from outside its scope. They are refused (`return_refused`), or its scope is current after them
--- (`leave-asks`, `return-passes`).
+-- A RETURN: its projections are walked as rounds, from outside its scope, where a walk may begin (`outside-ready`). They are refused
+-- (`return_refused`), or its scope is current after them (`leave-asks`, `return-passes`).
 use Rattle.std.specs.Prelude.{Result, Ok, Err}
 use Rattle.std.specs.Result.{IsErr, IsErrAnd}
 use Prim.Native.Nat.{ℕ, zero, suc, ◌+◌, ◌≤◌}
@@ -18,10 +18,12 @@ use Rattle.fused.specs.Fused.{Both, Mode, Go, rounds, step}
 use Rattle.fused.specs.Clauses.{within, aliased, projections_go, returned, return_go}
 use Rattle.visible.specs.Visible.{seens}
 use Rattle.visible.specs.Stack.{entries, Sound}
+use Rattle.steps.specs.Named.{as_named}
 use Rattle.steps.specs.Memory.{words_in, names_in, world_at}
 use Rattle.steps.specs.Hold.{Fit, Holds, Frame, Still, Steps, Ready, Left, on_names}
 use Rattle.steps.specs.declared.Walk.{Walk}
 use Rattle.steps.specs.declared.context.Context.{Context}
+use Rattle.steps.proofs.Named.{named-grows}
 use Rattle.steps.proofs.Held.{lower, framed, frame-more, still-then}
 use Rattle.steps.proofs.Moved.{left-fits, left-frame, left-holds}
 use Rattle.walk.specs.Goes.{Walked, rest_in}
@@ -86,10 +88,14 @@ returned-as m s u q e f = rw (e, f, q)
 -- the scope is opened (w1) and left (w2), the expressions are walked (w3), and its scope is current with the names that were visible (w4)
 module _ {c : Context} {w w1 w2 : Walk} {a b : ℕ} (ready : Ready 3 c w) (x : Steps 1 c w w1 (λ id. on_names (enter 8 a b))) (p : Left w1 w2 w.visible.top w.cur) where
   opened-fits : (k : ℕ) → Fit (3 + k) c w → Fit (2 + k) c w1
-  opened-fits k f = x.fit (2 + k) (2 + k) (lower (omega arith) (omega arith) f)
+  opened-fits k f = x.fit (2 + k) (2 + k) (2 + k) (lower (omega arith) (omega arith) (omega arith) f)
 
   inner-fits : (k : ℕ) → Fit (3 + k) c w → Fit (2 + k) c w2
   inner-fits k f = left-fits f (opened-fits k f) x.still x.frame p
+
+  -- an expression may be walked from outside it
+  pub outside-ready : Ready 0 c w2
+  outside-ready = record { fine = ready.fine; fit = lower (omega arith) (omega arith) (omega arith) (inner-fits 0 ready.fit) }
 
   inner-frame : Frame 0 w w2
   inner-frame = left-frame ready.fit (opened-fits 0 ready.fit) x.still x.frame p
@@ -132,13 +138,13 @@ module _ {c : Context} {w w1 w2 : Walk} {a b : ℕ} (ready : Ready 3 c w) (x : S
           passes = record {
             from = omega (arith, z.from, inner-at, cut_at l);
             fit = λ k f. let g1 = opened-fits k f in let g = z.fit (2 + k) (inner-fits k f) in
-                cut_fits l (lower (omega arith) (omega arith) g) frame.top
+                cut_fits l (lower (omega arith) (omega arith) (omega arith) g) frame.top
                 (rw (see, ← x.frame.below, ← x.still.visible.names) (below-descends w1.visible.names w.visible.top w1.visible.top w1.cur w1.visible.words.now x.frame.top g1.descends))
                 (omega (arith, g1.cur, ap (λ (v : Walk). v.last) p.same, z.frame.last));
             goes = λ id s h. let v = z.goes id _ (inner-holds h) in
                 record {
                   state = returned m s v.state;
-                  holds = subst (λ t. Holds id c w4 t) (returned-as m s v.state live (see ∙ h.visible) (x.goes id s h).cur) (cut_holds l v.holds);
+                  holds = subst (λ t. Holds id c w4 t) (returned-as m s v.state live (ap (λ l. as_named w3.rowless l) see ∙ named-grows (entries w.visible) frame.grows ready.fit.below ∙ h.visible) (x.goes id s h).cur) (cut_holds l v.holds);
                   same = inner-go m sorts live id s ∙ rw v.same (ap (λ (k : ℕ). ok (returned m s v.state) (drop k (words_in c))) (sym (cut_at l)));
                 };
           };

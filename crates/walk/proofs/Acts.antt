@@ -3,11 +3,10 @@
 use Rattle.std.specs.Prelude.{Option, None}
 use Prim.Native.Nat.{ℕ, ◌/◌, ◌%◌, ◌<◌, ◌≤◌}
 use mathlib.Core.Path.{◌≡◌, refl, sym}
-use mathlib.Core.Bool.{Bool, true, false, ◌&&◌}
+use mathlib.Core.Bool.{Bool, true, false}
 use mathlib.Core.List.{[]}
 use Rattle.heads.specs.Form.{shape_of, form_one}
 use Rattle.expr.specs.declared.types.«Type».{«Type»}
-use Rattle.expr.specs.Binders.{binder, all_known}
 use Rattle.semantics.specs.World.{variable}
 use Rattle.semantics.specs.Resolve.{use_var, bind_path}
 use Rattle.semantics.specs.Kinds.{at_type, at_row, misplaced, row_for}
@@ -60,15 +59,11 @@ module _ {c : Context} {w : Walk} (code a : ℕ) where
       pub type-idle : mode.checks ≡ false → Steps (cost_of (headed code a)) c w w (Does c mode set code a)
       type-idle y = as-steps _ (unchecked-step mode (at_type (setting_of set) (type_by code)) y) (λ id s. sym ((law code a p l).type v n (world_at c id) (mode_of mode) (setting_of set) s))
 
-and-true : (b : Bool) → b && true ≡ b
-and-true true = refl
-and-true false = refl
-
 when-same : {A : Type 0} (b : Bool) (f : A → A) (a : A) → f a ≡ a → when b f a ≡ a
 when-same true f a q = q
 when-same false f a q = refl
 
 pub path-none : {c : Context} {w : Walk} {j : ℕ} {x : Option ℕ} (mode : Mode) → x ≡ None → Steps j c w w (λ id. path_step (world_at c id) (mode_of mode) x)
-unfolding binder all_known variable bind_path row_for misplaced told
+unfolding variable bind_path row_for misplaced told
 path-none {c} mode q =
-    rw q (idle-step _ (λ id s h. rw (and-true s.known, when-same mode.resolves (bind_path (world_at c id) None) s.names refl, when-same mode.checks (told []) s.kinds refl) h))
+    rw q (idle-step _ (λ id s h. rw (when-same mode.resolves (bind_path (world_at c id) None) s.names refl, when-same mode.checks (told []) s.kinds refl) h))

@@ -24,14 +24,15 @@ use Rattle.semantics.specs.Kinds as kinds
 use Rattle.fused.specs.Fused.{Both, Go, row_go, expr_go}
 use Rattle.steps.specs.Modes.{mode_of, setting_of, pair_of}
 use Rattle.steps.specs.Memory.{words_in, names_in, world_at}
-use Rattle.steps.specs.Hold.{Steps, Ready, cost_of, idle, level_of}
+use Rattle.steps.specs.Hold.{Still, Steps, Ready, cost_of, idle, level_of}
 use Rattle.steps.specs.declared.Level.{Level}
 use Rattle.steps.specs.declared.Walk.{Walk}
 use Rattle.steps.specs.declared.context.Context.{Context}
 use Rattle.steps.specs.declared.mode.Mode.{Mode}
 use Rattle.steps.specs.declared.mode.Setting.{Setting}
 use Rattle.steps.specs.declared.mode.Settings.{Settings}
-use Rattle.steps.proofs.Held.{framed}
+use Rattle.steps.proofs.Named.{unmoved-idle, grows-idle}
+use Rattle.steps.proofs.Held.{refit, seen-idle, log-idle, still-then, framed}
 use Rattle.walk.specs.Goes.{Goer, Walked, expr_at, row_at}
 use Rattle.walk.specs.Plain.{shape, limit, headed, parts_of, number_of, Plain, Plainly}
 use Rattle.walk.proofs.Acts.{Does}
@@ -226,7 +227,7 @@ module _ {c : Context} {w₀ : Walk} {room : ℕ} {mode : Mode} {n : ℕ} {first
           more = some;
           deep = f.level;
           few = few;
-          stage = recast _ (did (after_head c room mode left now later d t code word (level_of w)) 0 (omega (arith, l, as-shaped)) (omega (arith, l, as-shaped)) head x)
+          stage = recast _ (did (after_head c room mode left now later d t code word (level_of w)) 0 (omega (arith, l, as-shaped)) (omega (arith, l, as-shaped)) (omega (arith, l, as-shaped)) head x)
               (λ id s u r. bind-each (row_go (within c mode id (d - 1)) (parts_of t word) (settings (world_at c id).is_id (headed code word) (setting_of now)) u r) _ _
               (λ v r1. bind-each (later_row (within c mode id d) (left - 1) later v r1) _ _
               (λ y r2. climb-same (within c mode id) (level_of w) (level_of w') d (room - d) y r2 (λ i j. sym (same i j)))));
@@ -236,28 +237,16 @@ module _ {c : Context} {w₀ : Walk} {room : ℕ} {mode : Mode} {n : ℕ} {first
 abbrev pub leveled : Walk → ℕ → Level → Walk
 leveled w d x = record w { levels = set w.levels d x }
 
+leveled-still : {w : Walk} (d : ℕ) (x : Level) → Still w (leveled w d x)
+leveled-still d x = record { visible = seen-idle; rowless = unmoved-idle; log = log-idle }
+
 written : {room free : ℕ} {c : Context} {w₀ : Walk} {G : Goer} {w : Walk} {K : Rest} (d : ℕ) (x : Level) → d ≤ room → Stage (Some room) 0 c w₀ G free w K → Stage (Some room) 0 c w₀ G free (leveled w d x) K
 written {w = w} d x b o =
     record {
       from = o.from;
-      still = record { visible = o.still.visible; log = o.still.log };
-      fit = λ k y. let f = o.fit k y in
-          record {
-            some = f.some;
-            places = f.places;
-            sound = f.sound;
-            descends = f.descends;
-            cur = f.cur;
-            last = f.last;
-            count = f.count;
-            stack = f.stack;
-            olds = f.olds;
-            needs = f.needs;
-            within = f.within;
-            names = f.names;
-            room = f.room;
-          };
-      keeps = record { kept = framed o.still o.keeps.kept (record { top = omega arith; last = omega arith; below = refl; levels = λ i h. get_or-set_other w.levels d i x idle (λ q. omega arith) }) };
+      still = still-then o.still (leveled-still d x);
+      fit = λ k y. let f = o.fit k y in refit f (leveled-still d x) refl f.below f.sound f.descends f.cur f.last f.count f.stack f.rowless f.olds f.needs f.within;
+      keeps = record { kept = framed o.still o.keeps.kept (record { top = omega arith; last = omega arith; below = refl; grows = grows-idle; levels = λ i h. get_or-set_other w.levels d i x idle (λ q. omega arith) }) };
       on = λ id s h. let n = o.on id s h in let k = n.holds in
           record {
             state = n.state;

@@ -34,7 +34,7 @@ module _ {c : Context} {w : Walk} (room : ℕ) (mode : Mode) (r : Ready 0 c w) w
     elem-read = read elem-begins 3 a (omega (arith, (elem-paid _ _ _ h a).0))
 
     pub elem-bound : {w' : Walk} → Steps 3 c (placed w p) w' (λ id. elem_step (world_at c id) mode h) → Stage (Some room) 0 c w (elem_at c room mode) 0 w' (λ id u v. last (row_at c room mode h.property plain id v))
-    elem-bound x = did _ 0 (omega arith) (omega arith) elem-read x
+    elem-bound x = did _ 0 (omega arith) (omega arith) (omega arith) elem-read x
 
   -- a part, then its path, then its elements
   pub part-begins : Stage (Some room) 0 c w (part_at c room mode) 0 w (λ id u v. step read_part λ h. last (elems_at c room mode h.count id (path_step (world_at c id) mode h.path v)))
@@ -46,7 +46,7 @@ module _ {c : Context} {w : Walk} (room : ℕ) (mode : Mode) (r : Ready 0 c w) w
     part-read = read part-begins (path_cost h.path) a (omega (arith, (part-paid _ _ _ h a).0))
 
     pub part-bound : {w' : Walk} → Steps (path_cost h.path) c (placed w p) w' (λ id. path_step (world_at c id) mode h.path) → Stage (Some room) 0 c w (part_at c room mode) 0 w' (λ id u v. last (elems_at c room mode h.count id v))
-    part-bound x = did _ 0 (omega arith) (omega arith) part-read x
+    part-bound x = did _ 0 (omega arith) (omega arith) (omega arith) part-read x
 
   -- how many parts, then those
   pub pattern-begins : Stage (Some room) 0 c w (pattern_at c room mode) 0 w (λ id u v. step any_word λ n. last (parts_at c room mode n id v))
@@ -77,4 +77,4 @@ module _ {c : Context} {w : Walk} (room : ℕ) (mode : Mode) (r : Ready 0 c w) w
       head-read = read expr-begins (cost_of f) a (omega (arith, (form-paid _ _ _ _ f a).0))
 
       pub head-done : {w' : Walk} → Steps (cost_of f) c (placed w p) w' (λ id. head_of (world_at c id) mode f set) → Stage (Some room) 0 c w (expr_at c room mode set) 0 w' (λ id u v. step (rest_at c (room - 1) mode f set id v) λ x. last (ok (tail_of mode f u x)))
-      head-done x = did _ 0 (omega arith) (omega arith) head-read x
+      head-done x = did _ 0 (omega arith) (omega arith) (omega arith) head-read x

@@ -24,7 +24,8 @@ use Rattle.steps.specs.Hold.{Fit, Holds, Frame, Still, Costs, Ready, Closed}
 use Rattle.steps.specs.declared.Walk.{Walk}
 use Rattle.steps.specs.declared.context.Context.{Context}
 use Rattle.steps.proofs.Heads.{closed-fits, closed-frame, closed-stays, closed-holds}
-use Rattle.steps.proofs.Held.{lower, framed, framed-idle, frame-more, still-idle, still-then}
+use Rattle.steps.proofs.Named.{unmoved-idle, grows-idle}
+use Rattle.steps.proofs.Held.{lower, refit, seen-idle, log-idle, framed, framed-idle, frame-more, still-idle, still-then}
 use Rattle.walk.specs.Goes.{Goer, Comes, Refuses, Walked, rest_in}
 
 -- ---- at another word
@@ -32,23 +33,12 @@ abbrev pub placed : Walk → ℕ → Walk
 placed w p = record w { at = p }
 
 module _ {w : Walk} {p : ℕ} where
+  pub placed-still : Still w (placed w p)
+  placed-still = record { visible = seen-idle; rowless = unmoved-idle; log = log-idle }
+
   pub placed-fit : {c : Context} {free i : ℕ} → w.at ≤ p → p ≤ length (words_in c) → i + w.at ≤ free + p → Fit free c w → Fit i c (placed w p)
   placed-fit l e h f =
-      record {
-        some = f.some;
-        places = f.places;
-        sound = f.sound;
-        descends = f.descends;
-        cur = f.cur;
-        last = omega (arith, f.last);
-        count = omega (arith, f.count);
-        stack = omega (arith, f.stack);
-        olds = omega (arith, f.olds);
-        needs = omega (arith, f.needs);
-        within = e;
-        names = f.names;
-        room = f.room;
-      }
+      refit f placed-still refl f.below f.sound f.descends f.cur (omega (arith, f.last)) (omega (arith, f.count)) (omega (arith, f.stack)) (omega (arith, f.rowless)) (omega (arith, f.olds)) (omega (arith, f.needs)) e
 
   pub placed-holds : {id : ℕ → ℕ} {c : Context} {s : Both} → Holds id c w s → Holds id c (placed w p) s
   placed-holds h =
@@ -64,10 +54,7 @@ module _ {w : Walk} {p : ℕ} where
       }
 
   pub placed-frame : {room : ℕ} → Frame room w (placed w p)
-  placed-frame = record { top = omega arith; last = omega arith; below = refl; levels = λ d h. refl }
-
-  pub placed-still : Still w (placed w p)
-  placed-still = record { visible = record { names = refl; lent = refl; size = refl }; log = record { lent = refl; size = refl } }
+  placed-frame = record { top = omega arith; last = omega arith; below = refl; grows = grows-idle; levels = λ d h. refl }
 
 -- ---- what is kept: with `some room` what was visible and the levels above the room; a WITH keeps nothing (`none`)
 abbrev KeepsAs : Option ℕ → (w w' : Walk) → Type 0
@@ -127,7 +114,7 @@ start {keep} K h q =
 module _ {keep : Option ℕ} {j : ℕ} {c : Context} {w₀ : Walk} {G : Goer} {free : ℕ} {w : Walk} where
   -- a step or a walk may begin where the last one came to
   pub ready : {K : Rest} {i : ℕ} → i ≤ free → Ready j c w₀ → Stage keep j c w₀ G free w K → Ready i c w
-  ready l h o = record { fine = h.fine; fit = lower (omega arith) (omega arith) (o.fit 0 (lower (omega arith) (omega arith) h.fit)) }
+  ready l h o = record { fine = h.fine; fit = lower (omega arith) (omega arith) (omega arith) (o.fit 0 (lower (omega arith) (omega arith) (omega arith) h.fit)) }
 
   -- what is left, put another way
   pub recast : {K : Rest} (L : Rest) → Stage keep j c w₀ G free w K → ((id : ℕ → ℕ) (s t : Both) (r : List ℕ) → run (K id s t) r ≡ run (L id s t) r) → Stage keep j c w₀ G free w L
@@ -157,7 +144,7 @@ module _ {keep : Option ℕ} {j : ℕ} {c : Context} {w₀ : Walk} {G : Goer} {f
       record {
         from = o.from;
         still = o.still;
-        fit = λ k f. lower (omega arith) (omega arith) (o.fit k f);
+        fit = λ k f. lower (omega arith) (omega arith) (omega arith) (o.fit k f);
         keeps = o.keeps;
         on = o.on;
       }
@@ -170,14 +157,14 @@ module _ {keep : Option ℕ} {j : ℕ} {c : Context} {w₀ : Walk} {G : Goer} {f
     pub stop : {e : Refusal} {k : ℕ} → Ans (words_in c) w.at (R (rest_in c w)) (no (number_of e)) k → Refuses c w₀ G e
     stop a = record { same = λ id s h. rw ((o.on id s h).same, a.same) }
 
-  -- a step for which e and t words pay, after which i are left
-  pub did : {F : (ℕ → ℕ) → Both → Both} {e t : ℕ} {w' : Walk} (K : Rest) (i : ℕ) → e + i ≤ free → t + i ≤ free → Stage keep j c w₀ G free w (λ id s u. K id s (F id u)) → Costs e t c w w' F → Stage keep j c w₀ G i w' K
-  did {F} {e} {t} K i a b o x =
+  -- a step for which e, t and u words pay, after which i are left
+  pub did : {F : (ℕ → ℕ) → Both → Both} {e t u : ℕ} {w' : Walk} (K : Rest) (i : ℕ) → e + i ≤ free → t + i ≤ free → u + i ≤ free → Stage keep j c w₀ G free w (λ id s x. K id s (F id x)) → Costs e t u c w w' F → Stage keep j c w₀ G i w' K
+  did {F} {e} {t} {u} K i a b d o x =
       let p = x.at in
       record {
         from = omega (arith, o.from, p);
         still = still-then o.still x.still;
-        fit = λ k f. x.fit (i + k) (i + k) (lower (omega arith) (omega arith) (o.fit k f));
+        fit = λ k f. x.fit (i + k) (i + k) (i + k) (lower (omega arith) (omega arith) (omega arith) (o.fit k f));
         keeps = keeps_then keep (under_none keep) o.still o.keeps x.frame;
         on = λ id s h. let n = o.on id s h in record { state = F id n.state; holds = x.goes id n.state n.holds; same = rw p n.same };
       }
@@ -196,7 +183,7 @@ went {keep} l b o x =
     record {
       from = omega (arith, o.from, x.from);
       still = still-then o.still x.still;
-      fit = λ k f. x.fit (l + k) (lower (omega arith) (omega arith) (o.fit k f));
+      fit = λ k f. x.fit (l + k) (lower (omega arith) (omega arith) (omega arith) (o.fit k f));
       keeps = keeps-both keep o.still o.keeps x.keeps;
       on = λ id s h. let n = o.on id s h in let y = x.goes id n.state n.holds in
           record { state = y.state; holds = y.holds; same = rw (n.same, y.same) };
@@ -209,7 +196,7 @@ walked_on {keep} l x =
     record {
       from = y.from;
       still = x.still;
-      fit = λ k f. y.fit k (lower (omega arith) (omega arith) f);
+      fit = λ k f. y.fit k (lower (omega arith) (omega arith) (omega arith) f);
       keeps = keeps_then keep l still-idle (keeps-idle keep) y.frame;
       goes = y.goes;
     }
@@ -241,7 +228,7 @@ module _ {room : ℕ} {c : Context} {w₀ : Walk} {G : Goer} {free : ℕ} {w : W
         still = o.still;
         goes = record {
           from = o.from;
-          fit = λ k f. lower (omega arith) (omega arith) (o.fit k (lower (omega arith) (omega arith) f));
+          fit = λ k f. lower (omega arith) (omega arith) (omega arith) (o.fit k (lower (omega arith) (omega arith) (omega arith) f));
           frame = o.keeps.kept;
           goes = comes o;
         };
@@ -275,7 +262,7 @@ close mode f h o l =
       still = still-then o.still z.still;
       goes = record {
         from = omega (arith, o.from, z.at);
-        fit = λ k y. closed-fits mode f y (lower (omega arith) (omega arith) (o.fit k (lower (omega arith) (omega arith) y))) o.still r l;
+        fit = λ k y. closed-fits mode f y (lower (omega arith) (omega arith) (omega arith) (o.fit k (lower (omega arith) (omega arith) (omega arith) y))) o.still r l;
         frame = closed-frame mode f h.fit g o.still r l;
         goes = λ id s k. let n = o.on id s k in
             record { state = tail_of mode f s n.state; holds = closed-holds mode f h.fit g o.still r l k n.holds; same = rw z.at n.same };

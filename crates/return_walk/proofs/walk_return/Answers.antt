@@ -8,9 +8,17 @@ use Rattle.clauses.specs.Read.{max_depth}
 use Rattle.steps.specs.Modes.{mode_of}
 use Rattle.walk.specs.Goes.{Walked}
 use Rattle.return_walk.specs.Returns.{sorts, outside_at}
-use Rattle.return_walk.proofs.Returned.{return_refused, leave-asks, return-passes}
+use Rattle.return_walk.proofs.Returned.{outside-ready, return_refused, leave-asks, return-passes}
 use Rattle.return_walk.proofs.walk_return.Goals.{in-SortedReturn+in_ok-walk_sorted-in-SortedReturn, in_default+in_ok-walk_returned-in_default}
 use Rattle.return_walk.proofs.walk_return.Goals as goal
+
+pub walk_sorted-requires : goal.walk_sorted-requires
+walk_sorted-requires c =
+    (rw c.in-SortedReturn.is at c.requires.0, outside-ready c.requires.1.1 c.enter.ensures c.leave.ensures)
+
+pub walk_returned-requires : goal.walk_returned-requires
+walk_returned-requires c =
+    outside-ready c.requires.1.1 c.enter.ensures c.leave.ensures
 
 pub returns-in_err-walk_sorted-in-SortedReturn-clause-passes : goal.returns-in_err-walk_sorted-in-SortedReturn-clause-passes
 returns-in_err-walk_sorted-in-SortedReturn-clause-passes c =

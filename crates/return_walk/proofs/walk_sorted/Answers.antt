@@ -47,6 +47,12 @@ loop-preserved c = record {
   sorting = turned c.loop.invariant.sorting (omega arith) c.in_ok-alias.ensures (rw (alias-read c.in_ok-alias.alias) c.hold.ensures.held) c.in_ok-walk_expr.ensures;
 }
 
+pub walk_hushed-requires : goal.walk_hushed-requires
+walk_hushed-requires c =
+    let i = c.loop.invariant.sorting in
+    let r = ready {i = 0} (omega arith) (counted (mode_of c.args.mode) c.requires.1 c.in_ok-n.ensures) i.stage in
+    ((c.requires.0.1, record { wide = omega (arith, i.few, i.kept, r.fit.within, c.requires.0.0.room); named = i.named }), r)
+
 pub returns-clause-walked : goal.returns-clause-walked
 returns-clause-walked c =
     tail _ (omega arith) (past (begun (mode_of c.args.mode) c.requires.1) c.in_ok-n.ensures) (tail _ (omega arith) (ended c.loop.invariant.sorting (omega arith)) c.walk_hushed.ensures.walked)

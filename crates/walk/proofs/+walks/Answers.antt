@@ -41,6 +41,10 @@ pub walk_elems-loop-init : goal.walk_elems-loop-init
 walk_elems-loop-init t c =
     let a = c.args in begun a.n (elem_at a.context.now a.room (mode_of a.mode)) c.requires.1
 
+pub walk_elems-walk_elem-requires : goal.walk_elems-walk_elem-requires
+walk_elems-walk_elem-requires t c =
+    let o = c.loop.invariant.stage in (omega (arith, o.from, c.requires.0), (c.requires.0, ready (omega arith) c.requires.1 o))
+
 pub walk_elems-returns-in_err-walk_elem : goal.walk_elems-returns-in_err-walk_elem
 walk_elems-returns-in_err-walk_elem t c =
     fall c.loop.invariant _ (omega arith) c.in_err-walk_elem.ensures c.from_residual.ensures
@@ -92,6 +96,10 @@ walk_expr-returns t c =
 pub walk_many-loop-init : goal.walk_many-loop-init
 walk_many-loop-init t c =
     let a = c.args in count-begin a.room a.mode a.n a.settings c.requires.1
+
+pub walk_many-walk_expr-requires : goal.walk_many-walk_expr-requires
+walk_many-walk_expr-requires t c =
+    let o = c.loop.invariant.stage in (omega (arith, o.from, c.requires.0), (c.requires.0, ready (omega arith) c.requires.1 o))
 
 pub walk_many-returns-in_err-walk_expr : goal.walk_many-returns-in_err-walk_expr
 walk_many-returns-in_err-walk_expr t c =
@@ -168,6 +176,10 @@ pub walk_parts-loop-init : goal.walk_parts-loop-init
 walk_parts-loop-init t c =
     let a = c.args in begun a.n (part_at a.context.now a.room (mode_of a.mode)) c.requires.1
 
+pub walk_parts-walk_part-requires : goal.walk_parts-walk_part-requires
+walk_parts-walk_part-requires t c =
+    let o = c.loop.invariant.stage in (omega (arith, o.from, c.requires.0), (c.requires.0, ready (omega arith) c.requires.1 o))
+
 pub walk_parts-returns-in_err-walk_part : goal.walk_parts-returns-in_err-walk_part
 walk_parts-returns-in_err-walk_part t c =
     fall c.loop.invariant _ (omega arith) c.in_err-walk_part.ensures c.from_residual.ensures
@@ -204,8 +216,14 @@ walk_rest-returns-in_err-walk_many t c =
     fell _ (go (rest-begins c.args.room (mode_of c.args.mode) c.requires.1 c.args.f (setting_of c.args.set)) c.in_ok-walk_inner.ensures (omega arith)) (rw (c.kids.ensures, c.settings_of-settings.ensures) at c.in_err-walk_many.ensures) c.from_residual-in_err-walk_many.ensures
 
 pub walk_rest-walk_marks-requires : goal.walk_rest-walk_marks-requires
-walk_rest-walk_marks-requires t c =
-    let o = go (go (rest-begins c.args.room (mode_of c.args.mode) c.requires.1 c.args.f (setting_of c.args.set)) c.in_ok-walk_inner.ensures (omega arith)) (rw (c.kids.ensures, c.settings_of-settings.ensures) at c.in_ok-walk_many.ensures) (omega arith) in (omega (arith, o.from, c.requires.0), (omega (arith, c.requires.0), ready (omega arith) c.requires.1 o))
+walk_rest-walk_marks-requires t c = (
+  omega (arith, c.in_ok-walk_inner.ensures.goes.from, c.in_ok-walk_many.ensures.goes.from, c.requires.0),
+  (
+    omega (arith, c.requires.0),
+    ready (omega arith) c.requires.1
+        (go (go (rest-begins c.args.room (mode_of c.args.mode) c.requires.1 c.args.f (setting_of c.args.set)) c.in_ok-walk_inner.ensures (omega arith)) (rw (c.kids.ensures, c.settings_of-settings.ensures) at c.in_ok-walk_many.ensures) (omega arith)),
+  ),
+)
 
 pub walk_rest-returns : goal.walk_rest-returns
 walk_rest-returns t c =
