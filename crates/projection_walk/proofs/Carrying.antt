@@ -14,6 +14,7 @@ use lib.Dec.{eqb}
 use borrow.Author.Tests.{eq-eqb, eqb-true}
 use lib.ListN.{length, get_or, set, length-set}
 use lib.Seq.{get_or-set_same, get_or-set_other}
+use Rattle.scope.specs.Graph.{name, indexed}
 use Rattle.tables.specs.Row.{Row, row}
 use Rattle.semantics.specs.Log.{finding, missing, write, find}
 use Rattle.semantics.specs.Log.{answer as answer'}
@@ -22,13 +23,13 @@ use Rattle.semantics.specs.Resolve.{Hit, hit, variable_of, State, Seen, Pair, pa
 use Rattle.fused.specs.Fused.{Both, name_use}
 use Rattle.fused.specs.Clauses.{takes}
 use Rattle.rows.specs.Rows.{shown}
-use Rattle.visible.specs.Visible.{answer}
 use Rattle.visible.specs.Stack.{entries}
 use Rattle.visible.proofs.Pairs.{same_pair}
-use Rattle.steps.specs.Memory.{is_the, hushed_in, world_at}
-use Rattle.steps.specs.Hold.{Holds, Steps, on_names, name_record}
+use Rattle.steps.specs.Memory.{names_in, is_the, hushed_in, world_at}
+use Rattle.steps.specs.Hold.{Fits, Holds, Steps, on_names, name_record}
 use Rattle.steps.specs.declared.Walk.{Walk}
 use Rattle.steps.specs.declared.context.Context.{Context}
+use Rattle.steps.proofs.Named.{lookup-index}
 use Rattle.steps.proofs.Held.{lower, instead}
 use Rattle.projection_walk.specs.Pairs.{pairs_in, pairs_of, taken_by, kept_of, Still, Kept, InNames}
 use Rattle.projection_walk.specs.Carries.{Adds, Within, NoStar}
@@ -40,7 +41,7 @@ unfolding pairs_in
 pairs-alike zero a b e = refl
 pairs-alike (suc n) a b e = rw (pairs-alike n a b (λ i h. e i (omega arith)), e (n * 2) (omega arith), e (n * 2 + 1) (omega arith))
 
-pub held_one : (n x v : ℕ) (l : List ℕ) → (n + 1) * 2 ≤ length l → pairs_in (n + 1) (set (set l (n * 2) x) (n * 2 + 1) v) ≡ pairs_in n l ++ (pair x v ∷ [])
+pub held_one : (n x v : ℕ) (l : List ℕ) → (n + 1) * 2 ≤ length l → pairs_in (n + 1) (set (set l (n * 2) x) (n * 2 + 1) v) ≡ pairs_in n l ++ (pair (indexed x) v ∷ [])
 unfolding pairs_in
 held_one n x v l h =
     let m = set l (n * 2) x in
@@ -58,10 +59,10 @@ kept-more {p = p} {p'} k =
     let e : ◌≡◌ {A = ℕ} (cond p'.star 1 0) (cond p.star 1 0) = ap (λ (b : Bool). cond b 1 0) k.star in
     omega (arith, k.count)
 
-pub names_more : {slots x : ℕ} (v : ℕ) (ps : List Pair) → x < slots → InNames slots ps → InNames slots (ps ++ (pair x v ∷ []))
+pub names_more : {slots x : ℕ} (v : ℕ) (ps : List Pair) → x < slots → InNames slots ps → InNames slots (ps ++ (pair (indexed x) v ∷ []))
 unfolding InNames
-names_more v [] h n = (h, tt)
-names_more v (pair y u ∷ ps) h n = (n.0, names_more v ps h n.1)
+names_more v [] h n = ((refl, h), tt)
+names_more v (pair (name m y) u ∷ ps) h n = (n.0, names_more v ps h n.1)
 
 -- ---- what a projection adds
 -- what the definition takes of it: whether it is a star, and its pairs
@@ -77,7 +78,7 @@ abbrev Given : Context → Walk → ((ℕ → ℕ) → Both → Both) → Option
 Given c w F alias d b ps = (id : ℕ → ℕ) (s : Both) → Holds id c w s → Gives (world_at c id) alias d (F id s).names.visible b ps
 
 module _ {c : Context} {w w' : Walk} {p : Pairs} {F : (ℕ → ℕ) → Both → Both} (alias : Option ℕ) (d : Direct) where
-  pub adds-pair : {p' : Pairs} {x v j : ℕ} → x < w.visible.names → j ≤ 2 → Steps j c w w' F → Kept x v p p' → Given c w F alias d false (pair x v ∷ []) → Adds c w p w' p' F alias d
+  pub adds-pair : {p' : Pairs} {x v j : ℕ} → x < names_in c → j ≤ 2 → Steps j c w w' F → Kept x v p p' → Given c w F alias d false (pair (indexed x) v ∷ []) → Adds c w p w' p' F alias d
   adds-pair {p'} {v = v} h l y k g =
       let m = kept-more k in
       record {
@@ -87,7 +88,7 @@ module _ {c : Context} {w w' : Walk} {p : Pairs} {F : (ℕ → ℕ) → Both →
         frame = y.frame;
         more = omega (arith, m);
         named = λ n. rw k.same (names_more v (pairs_of p) h n);
-        fit = λ i f. y.fit (i + kept_of p') (i + kept_of p') (lower (omega (arith, m)) (omega (arith, m)) f);
+        fit = λ i f. y.fit (i + kept_of p') (i + kept_of p') (i + kept_of p') (lower (omega (arith, m)) (omega (arith, m)) (omega (arith, m)) f);
         goes = y.goes;
         taken = λ id s b. taken p p' (g id s b) (k.star ∙ sym (or-false p.star)) k.same;
       }
@@ -101,7 +102,7 @@ module _ {c : Context} {w w' : Walk} {p : Pairs} {F : (ℕ → ℕ) → Both →
         frame = y.frame;
         more = omega arith;
         named = λ n. n;
-        fit = λ i f. y.fit (i + kept_of p) (i + kept_of p) (lower (omega arith) (omega arith) f);
+        fit = λ i f. y.fit (i + kept_of p) (i + kept_of p) (i + kept_of p) (lower (omega arith) (omega arith) (omega arith) f);
         goes = y.goes;
         taken = λ id s b. taken p p (g id s b) (sym (or-false p.star)) (sym (append-nil (pairs_of p)));
       }
@@ -115,22 +116,22 @@ module _ {c : Context} {w w' : Walk} {p : Pairs} {F : (ℕ → ℕ) → Both →
         frame = y.frame;
         more = omega arith;
         named = λ n. n;
-        fit = λ i f. y.fit (i + kept_of (record p { star = true })) (i + kept_of (record p { star = true })) (lower (omega arith) (omega arith) f);
+        fit = λ i f. y.fit (i + kept_of (record p { star = true })) (i + kept_of (record p { star = true })) (i + kept_of (record p { star = true })) (lower (omega arith) (omega arith) (omega arith) f);
         goes = y.goes;
         taken = λ id s b. taken p (record p { star = true }) (g id s b) (sym (or-true p.star)) (sym (append-nil (pairs_of p)));
       }
 
 -- ---- a Var
 module _ (w : World) (vis : List Seen) (v : ℕ) {alias : Option ℕ} where
-  pub var-aliased : {x : ℕ} → alias ≡ Some x → Gives w alias (a_var v) vis false (pair x v ∷ [])
+  pub var-aliased : {x : ℕ} → alias ≡ Some x → Gives w alias (a_var v) vis false (pair (indexed x) v ∷ [])
   unfolding carries is_all
   var-aliased e = rw e (record { all = refl; pairs = refl })
 
-  pub var-named : {x k : ℕ} → alias ≡ None → Some (x, k) ≡ shown (w.row v) → Gives w alias (a_var v) vis false (pair x v ∷ [])
+  pub var-named : {x k : ℕ} → alias ≡ None → Some (x, k) ≡ shown (w.row v) → Gives w alias (a_var v) vis false (pair (indexed x) v ∷ [])
   unfolding carries is_all if_row
   var-named {x} e q = rw e (record { all = refl; pairs = go (w.row v) q })
     where
-      go : (o : Option Row) {k : ℕ} → Some (x, k) ≡ shown o → if_row o v ≡ pair x v ∷ []
+      go : (o : Option Row) {k : ℕ} → Some (x, k) ≡ shown o → if_row o v ≡ pair (indexed x) v ∷ []
       go None q = cc
       go (Some (row i y l a b)) q = let z : x ≡ y = (same_pair q).0 in rw z
 
@@ -147,7 +148,7 @@ use-visible : (w : World) (x : ℕ) (o : Option Hit) (s : State) → (use_name w
 unfolding use_name say_if
 use-visible w x None s = go (not (w.is_star x))
   where
-    go : (b : Bool) → (say_if b (find (finding 1001 0 0 (suc x) 0 0)) (say (answer' (write (w.id x) missing)) s)).visible ≡ s.visible
+    go : (b : Bool) → (say_if b (find (finding 1001 0 0 (Some (indexed x)) 0 0)) (say (answer' (write (w.id x) missing)) s)).visible ≡ s.visible
     go true = refl
     go false = refl
 use-visible w x (Some (hit v u)) s = refl
@@ -167,33 +168,37 @@ none-star c x n = go (is_the x c.star) (n refl)
 
 -- what is visible after its use
 seen_then : (c : Context) (x : ℕ) (id : ℕ → ℕ) (s : Both) → (name_use (world_at c id) x s.names).visible ≡ s.names.visible
-seen_then c x id s = visit-visible (world_at c id) (hushed_in c x) x (lookup x s.names.visible) s.names
+seen_then c x id s = visit-visible (world_at c id) (hushed_in c x) x (lookup (indexed x) s.names.visible) s.names
 
 module _ {c : Context} {w : Walk} (x : ℕ) where
-  module _ {v u : ℕ} (q : lookup x (entries w.visible) ≡ Some (hit v u)) where
-    pub name-found : {w' : Walk} → hushed_in c x ≡ false → Steps 1 c w w' (λ id. on_names (λ y. name_record (world_at c id) x (lookup x y.visible) y)) → Steps 1 c w w' (λ id. on_names (name_use (world_at c id) x))
-    unfolding use_name visit
-    name-found e s = instead _ s (λ id t h. let z : lookup x t.visible ≡ Some (hit v u) = ap (λ l. lookup x l) (sym h.visible) ∙ q in rw (z, e))
+  module _ {i j k : ℕ} (at : x < names_in c) (f : Fits i j k c w) where
+    sought : (id : ℕ → ℕ) (s : Both) → Holds id c w s → lookup (indexed x) s.names.visible ≡ lookup (indexed x) (entries w.visible)
+    sought id s h = ap (λ l. lookup (indexed x) l) (sym h.visible) ∙ lookup-index f.numbered x (entries w.visible) (omega (arith, f.listed)) f.below
 
-    pub name-carried : (alias : Option ℕ) → NoStar c alias x → Given c w (λ id. on_names (name_use (world_at c id) x)) alias (a_name x) false (pair (unwrap_or alias x) v ∷ [])
-    unfolding carries is_all if_some variable_of
-    name-carried None e id s h =
-        let z : lookup x s.names.visible ≡ Some (hit v u) = ap (λ l. lookup x l) (sym h.visible) ∙ q in
+    module _ {v u : ℕ} (q : lookup (indexed x) (entries w.visible) ≡ Some (hit v u)) where
+      pub name-found : {w' : Walk} → hushed_in c x ≡ false → Steps 1 c w w' (λ id. on_names (λ y. name_record (world_at c id) x (lookup (indexed x) y.visible) y)) → Steps 1 c w w' (λ id. on_names (name_use (world_at c id) x))
+      unfolding use_name visit
+      name-found e s = instead _ s (λ id t h. let z : lookup (indexed x) t.names.visible ≡ Some (hit v u) = sought id t h ∙ q in rw (z, e))
+
+      pub name-carried : (alias : Option ℕ) → NoStar c alias x → Given c w (λ id. on_names (name_use (world_at c id) x)) alias (a_name x) false (pair (indexed (unwrap_or alias x)) v ∷ [])
+      unfolding carries is_all if_some variable_of
+      name-carried None e id s h =
+          let z : lookup (indexed x) s.names.visible ≡ Some (hit v u) = sought id s h ∙ q in
+          let n : is_the x c.star ≡ false = none-star c x e in
+          record { all = n; pairs = rw (n, seen_then c x id s, z) }
+      name-carried (Some a) e id s h =
+          let z : lookup (indexed x) s.names.visible ≡ Some (hit v u) = sought id s h ∙ q in
+          record { all = refl; pairs = rw (seen_then c x id s, z) }
+
+    pub name-missing : (alias : Option ℕ) → NoStar c alias x → lookup (indexed x) (entries w.visible) ≡ None → Given c w (λ id. on_names (name_use (world_at c id) x)) alias (a_name x) false []
+    unfolding carries is_all if_some
+    name-missing None e q id s h =
+        let z : lookup (indexed x) s.names.visible ≡ None = sought id s h ∙ q in
         let n : is_the x c.star ≡ false = none-star c x e in
         record { all = n; pairs = rw (n, seen_then c x id s, z) }
-    name-carried (Some a) e id s h =
-        let z : lookup x s.names.visible ≡ Some (hit v u) = ap (λ l. lookup x l) (sym h.visible) ∙ q in
+    name-missing (Some a) e q id s h =
+        let z : lookup (indexed x) s.names.visible ≡ None = sought id s h ∙ q in
         record { all = refl; pairs = rw (seen_then c x id s, z) }
-
-  pub name-missing : (alias : Option ℕ) → NoStar c alias x → lookup x (entries w.visible) ≡ None → Given c w (λ id. on_names (name_use (world_at c id) x)) alias (a_name x) false []
-  unfolding carries is_all if_some
-  name-missing None e q id s h =
-      let z : lookup x s.names.visible ≡ None = ap (λ l. lookup x l) (sym h.visible) ∙ q in
-      let n : is_the x c.star ≡ false = none-star c x e in
-      record { all = n; pairs = rw (n, seen_then c x id s, z) }
-  name-missing (Some a) e q id s h =
-      let z : lookup x s.names.visible ≡ None = ap (λ l. lookup x l) (sym h.visible) ∙ q in
-      record { all = refl; pairs = rw (seen_then c x id s, z) }
 
   pub name-all : (alias : Option ℕ) → is_some alias ≡ false → is_the x c.star ≡ true → Given c w (λ id. on_names (name_use (world_at c id) x)) alias (a_name x) true []
   unfolding carries is_all

@@ -16,6 +16,7 @@ use Rattle.fused.specs.Clauses.{Taken}
 use Rattle.steps.specs.Hold.{Ready}
 use Rattle.steps.specs.declared.Walk.{Walk}
 use Rattle.steps.specs.declared.context.Context.{Context}
+use Rattle.steps.proofs.Named.{grows-then}
 use Rattle.steps.proofs.Held.{lower, seens-lower, still-idle, still-then}
 use Rattle.walk.specs.Goes.{Goer, Walked, rest_in}
 use Rattle.walk.proofs.Stage.{placed, placed-fit, placed-holds, placed-still}
@@ -41,6 +42,7 @@ module _ {j : ℕ} {c : Context} {w : Walk} {p : Pairs} {w' : Walk} {p' : Pairs}
           paid = y.paid;
           top = y.top;
           below = y.below;
+          grows = y.grows;
           named = y.named;
           fit = y.fit;
           goes = λ id s b. let g = y.goes id s b in record { state = g.state; holds = g.holds; same = e id _ s ∙ g.same };
@@ -66,8 +68,9 @@ module _ {j : ℕ} {c : Context} {w : Walk} {p : Pairs} {w' : Walk} {p' : Pairs}
             paid = omega (arith, y.paid, u.paid);
             top = omega (arith, y.top, u.top);
             below = seens-lower w.visible.names w.visible.top w'.visible.top w2.visible.words.now w'.visible.words.now y.top (rw x.still.visible.names at u.below) ∙ y.below;
-            named = λ n. rw x.still.visible.names at (u.named (rw (← x.still.visible.names) at (y.named n)));
-            fit = λ k f. u.fit k (lower (omega arith) (omega arith) (y.fit k f));
+            grows = grows-then y.grows u.grows;
+            named = λ n. u.named (y.named n);
+            fit = λ k f. u.fit k (lower (omega arith) (omega arith) (omega arith) (y.fit k f));
             goes = λ id s b. let g = y.goes id s b in let h = u.goes id g.state g.holds in
                 record { state = h.state; holds = h.holds; same = rw g.same h.same };
           };
@@ -84,7 +87,7 @@ module _ {c : Context} {w : Walk} {p : Pairs} {w' : Walk} {p' : Pairs} {P : Proj
   pub carried-ready : Ready (kept_of p) c w → Ready (kept_of p') c w'
   carried-ready h =
       let y = x.carries in
-      record { fine = h.fine; fit = lower (omega arith) (omega arith) (y.fit 0 (lower (omega arith) (omega arith) h.fit)) }
+      record { fine = h.fine; fit = lower (omega arith) (omega arith) (omega arith) (y.fit 0 (lower (omega arith) (omega arith) (omega arith) h.fit)) }
 
   pub carried-holding : Holding 0 c w p → Holding 0 c w' p'
   carried-holding o =
@@ -103,8 +106,9 @@ module _ {j : ℕ} {c : Context} {w : Walk} {p : Pairs} {w' : Walk} {H : Goer} w
           paid = omega (arith, y.from);
           top = y.frame.top;
           below = y.frame.below;
+          grows = y.frame.grows;
           named = λ n. n;
-          fit = λ k b. lower (omega arith) (omega arith) (y.fit (j + k + kept_of p) b);
+          fit = λ k b. lower (omega arith) (omega arith) (omega arith) (y.fit (j + k + kept_of p) b);
           goes = λ id s b. let g = y.goes id s b in record { state = g.state; holds = g.holds; same = rw g.same };
         };
       }
@@ -130,6 +134,7 @@ module _ {c : Context} {w w1 : Walk} {lo hi x : ℕ} (n : Next c lo hi w w1 (Ok 
             paid = omega (arith, y.paid);
             top = y.top;
             below = y.below;
+            grows = y.grows;
             named = y.named;
             fit = λ k f. y.fit k (placed-fit n.got.from n.got.within (omega arith) f);
             goes = λ id s b. let g = y.goes id s (placed-holds b) in record { state = g.state; holds = g.holds; same = rw n.got.same g.same };

@@ -30,6 +30,7 @@ use Rattle.steps.specs.Memory.{words_in, names_in, use_in, world_at}
 use Rattle.steps.specs.Hold.{Ready, on_names}
 use Rattle.steps.specs.declared.Walk.{Walk}
 use Rattle.steps.specs.declared.context.Context.{Context}
+use Rattle.steps.proofs.Named.{grows-idle}
 use Rattle.steps.proofs.Held.{lower, still-idle, still-then}
 use Rattle.walk.specs.Goes.{Walked, rest_in, expr_at}
 use Rattle.walk.proofs.Paid.{form-paid}
@@ -88,6 +89,7 @@ module _ {c : Context} {w : Walk} {f : Form} {q : ℕ} (l : w.at + 2 ≤ q) (a :
           paid = omega (arith, x.more, x.at);
           top = x.frame.top;
           below = x.frame.below;
+          grows = x.frame.grows;
           named = x.named;
           fit = λ k b. x.fit k (placed-fit a.from a.within (omega arith) b);
           goes = λ id s b. let h = placed-holds b in
@@ -139,8 +141,9 @@ module _ {c : Context} {w w' : Walk} {p : Pairs} {u v : Unit {0}} (m : Mode) (x 
           paid = omega (arith, y.from);
           top = y.frame.top;
           below = y.frame.below;
+          grows = y.frame.grows;
           named = λ n. n;
-          fit = λ i b. lower (omega arith) (omega arith) (y.fit (1 + i + kept_of p) b);
+          fit = λ i b. lower (omega arith) (omega arith) (omega arith) (y.fit (1 + i + kept_of p) b);
           goes = λ id s b. let g = y.goes id s b in
               record { state = g.state; holds = g.holds; same = rw (g.same, d, or-false p.star, append-nil (pairs_of p)) };
         };
@@ -157,8 +160,9 @@ module _ {c : Context} {w w' : Walk} {p : Pairs} {u v : Unit {0}} (m : Mode) (x 
           paid = omega (arith, n, y.from);
           top = y.frame.top;
           below = y.frame.below;
-          named = λ b. rw o.same (names_more (use_in c z) (pairs_of p) (omega (arith, h.fit.places)) b);
-          fit = λ i b. lower (omega (arith, n)) (omega (arith, n)) (y.fit (1 + i + kept_of p) b);
+          grows = y.frame.grows;
+          named = λ b. rw o.same (names_more (use_in c z) (pairs_of p) l b);
+          fit = λ i b. lower (omega (arith, n)) (omega (arith, n)) (omega (arith, n)) (y.fit (1 + i + kept_of p) b);
           goes = λ id s b. let g = y.goes id s b in
               record { state = g.state; holds = g.holds; same = rw (g.same, d, o.same, o.star, or-false p.star, b.uses z l) };
         };
@@ -211,8 +215,9 @@ begun m =
         paid = omega arith;
         top = omega arith;
         below = refl;
+        grows = grows-idle;
         named = λ n. n;
-        fit = λ k f. lower (omega arith) (omega arith) f;
+        fit = λ k f. lower (omega arith) (omega arith) (omega arith) f;
         goes = λ id s b. record { state = s; holds = b; same = refl };
       };
     }

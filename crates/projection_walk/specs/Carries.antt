@@ -10,6 +10,7 @@ use Rattle.semantics.specs.Kinds.{general, plain, at_row}
 use Rattle.fused.specs.Fused.{Both, Mode, step, row_go}
 use Rattle.fused.specs.Clauses.{within, direct_of, Taken, takes, projections_go}
 use Rattle.rows.specs.Table.{row_in}
+use Rattle.rowless.specs.Rowless.{Grows}
 use Rattle.visible.specs.Visible.{seens}
 use Rattle.visible.specs.Stack.{entries}
 use Rattle.steps.specs.Memory.{words_in, names_in, is_the, world_at}
@@ -32,12 +33,13 @@ pub record ComesHolding (id : ℕ → ℕ) (c : Context) (w : Walk) (p : Pairs) 
 abbrev pub Projector : Type 0
 Projector = (ℕ → ℕ) → Taken → Both → List ℕ → Got (Both × Taken)
 
--- A word is left for each pair and for a star, j words were read before. What was visible stays below.
+-- A word is left for each pair and for a star, j words were read before. What was visible stays below, and places keep their names.
 pub record Carried (j : ℕ) (c : Context) (w : Walk) (p : Pairs) (w' : Walk) (p' : Pairs) (G : Projector) : Type 0 where
   pub from : w.at ≤ w'.at
   pub paid : kept_of p' + w.at ≤ kept_of p + j + w'.at
   pub top : w.visible.top ≤ w'.visible.top
   pub below : seens w.visible.names w.visible.top w'.visible.words.now ≡ entries w.visible
+  pub grows : Grows w.rowless w'.rowless
   pub named : InNames (names_in c) (pairs_of p) → InNames (names_in c) (pairs_of p')
   pub fit : (k : ℕ) → Fit (j + k + kept_of p) c w → Fit (k + kept_of p') c w'
   pub goes : (id : ℕ → ℕ) (s : Both) → Holds id c w s → ComesHolding id c w' p' (G id (taken_by p) s (rest_in c w))

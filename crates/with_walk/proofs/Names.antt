@@ -7,13 +7,14 @@ use mathlib.Core.List.{List, [], ◌∷◌, ◌++◌}
 use lib.Dec.{eqb}
 use lib.ListN.{get_or}
 use borrow.Author.Tests.{eqb-true, eqb-false}
+use Rattle.scope.specs.Graph.{name, indexed}
 use Rattle.semantics.specs.Resolve.{Pair, pair}
 use Rattle.projection_walk.specs.Pairs.{pairs_in, InNames}
 
-names-split : {slots x : ℕ} (v : ℕ) (ps : List Pair) → InNames slots (ps ++ (pair x v ∷ [])) → InNames slots ps × (x < slots)
+names-split : {slots x : ℕ} (v : ℕ) (ps : List Pair) → InNames slots (ps ++ (pair (indexed x) v ∷ [])) → InNames slots ps × (x < slots)
 unfolding InNames
-names-split v [] h = (tt, h.0)
-names-split v (pair y u ∷ ps) h = let z = names-split v ps h.1 in ((h.0, z.0), z.1)
+names-split v [] h = (tt, h.0.1)
+names-split v (pair (name m y) u ∷ ps) h = let z = names-split v ps h.1 in ((h.0, z.0), z.1)
 
 pub names_at : (slots : ℕ) (held : List ℕ) (n i : ℕ) → i < n → InNames slots (pairs_in n held) → get_or held (i * 2) 0 < slots
 unfolding pairs_in

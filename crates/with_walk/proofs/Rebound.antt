@@ -3,14 +3,14 @@
 -- what the star's pairs are when they are bound (`spread-seen`), and all of them are first (`spread-first`). The whole: `rebinds`; what each step
 -- asks: `root-asks`, `leave-asks`, `spread-asks`, `pairs-ask`, `count-asks`.
 use Rattle.std.specs.Prelude.{Some}
-use Prim.Native.Nat.{ℕ, zero, suc, ◌+◌, ◌*◌, ◌<◌, ◌≤◌}
+use Prim.Native.Nat.{ℕ, zero, suc, ◌+◌, ◌-◌, ◌*◌, ◌<◌, ◌≤◌}
 use native.Mathlib.Omega.{arith}
 use mathlib.Core.Path.{◌≡◌, refl, ap, sym, ◌∙◌}
 use mathlib.Core.Bool.{Bool, true, false, cond, ◌&&◌, ◌||◌}
 use mathlib.Core.List.{List, [], ◌∷◌, ◌++◌, reverse, reverse_aux}
 use lib.Dec.{eqb}
 use lib.ListN.{length, length-append}
-use Rattle.scope.specs.Graph.{root_scope, with_barrier, scope, carried}
+use Rattle.scope.specs.Graph.{root_scope, with_barrier, scope, Name, same_name, carried}
 use Rattle.semantics.specs.Log.{Bound, bound, Event, open', bind, carry}
 use Rattle.semantics.specs.World.{World, kind_of}
 use Rattle.semantics.specs.Resolve.{hit, Seen, seen, binds, State, Pair, pair, without, once, say, enter, standing, bind_over, bind_all, carry_all, barrier}
@@ -18,20 +18,25 @@ use Rattle.theorems.specs.Needs.{made, carried_in}
 use Rattle.theorems.specs.Woven.{written}
 use Rattle.fused.specs.Fused.{Both}
 use Rattle.fused.specs.Clauses.{all_of}
+use Rattle.rowless.specs.Rowless.{places, Sound as Numbered}
+use Rattle.rowless.specs.declared.Rowless.{Rowless}
 use Rattle.visible.specs.Visible.{seens, Descends, seen_once}
 use Rattle.visible.specs.Stack.{entries, Sound}
 use Rattle.visible.specs.Stack as stack
 use Rattle.steps.specs.Memory.{world_at}
+use Rattle.steps.specs.Named.{as_named, Below}
 use Rattle.steps.specs.Said.{kept}
 use Rattle.steps.specs.Hold.{Binding, Fits, Fit, Holds, Still, Steps, Ready, Left, on_names}
 use Rattle.steps.specs.declared.Walk.{Walk}
 use Rattle.steps.specs.declared.context.Context.{Context}
+use Rattle.steps.proofs.Named.{unmoved-idle, named-grows, below-less}
 use Rattle.steps.proofs.Held.{seen-idle, log-idle, still-then, seens-lower, lower, refit, then-steps}
-use Rattle.projection_walk.specs.Pairs.{pairs_in, pairs_of, kept_of}
+use Rattle.projection_walk.specs.Pairs.{pairs_in, pairs_of, InNames, kept_of}
 use Rattle.projection_walk.specs.declared.pairs.Pairs.{Pairs}
 use Rattle.with_walk.specs.Binds.{rooted_on, under_star, first_seen, firsts, seen_by, Sees, SeesAll, SeesIn, Spreads, Countable, BindsIn, Rebinds}
 use Rattle.clause_parts.proofs.Cleared.{below-descends, cut_still, cut_fits, cut_holds, cut_at}
-use Rattle.with_walk.proofs.Seeing.{above, seen_as_lem, seen-still, seen-fits, seen-holds}
+use Rattle.with_walk.proofs.Named.{above, length-named, spread-named, spread-below, firsts-named}
+use Rattle.with_walk.proofs.Seeing.{seen_as_lem, seen-still, seen-fits, seen-holds}
 
 or_parts : (a b : Bool) → (a || b) ≡ false → (a ≡ false) × (b ≡ false)
 or_parts true b e = (e, cc e)
@@ -140,28 +145,28 @@ unfoldable Distinct : List Pair → Type 0
 Distinct [] = Unit {0}
 Distinct (pair x v ∷ ps) = ((c : ℕ) → binds c x (seen_once c ps) ≡ false) × Distinct ps
 
-gone : (c x : ℕ) (ps : List Pair) → binds c x (seen_once c (without x ps)) ≡ false
+gone : (c : ℕ) (x : Name) (ps : List Pair) → binds c x (seen_once c (without x ps)) ≡ false
 unfolding without seen_once binds
 gone c x [] = refl
-gone c x (pair y v ∷ ps) = go (eqb x y) refl (gone c x ps)
+gone c x (pair y v ∷ ps) = go (same_name x y) refl (gone c x ps)
   where
-    go : (b : Bool) → eqb x y ≡ b → binds c x (seen_once c (without x ps)) ≡ false → binds c x (seen_once c (cond b (without x ps) (pair y v ∷ without x ps))) ≡ false
+    go : (b : Bool) → same_name x y ≡ b → binds c x (seen_once c (without x ps)) ≡ false → binds c x (seen_once c (cond b (without x ps) (pair y v ∷ without x ps))) ≡ false
     go true q z = z
     go false q z = rw q z
 
-still-gone : (c x y : ℕ) (ps : List Pair) → binds c x (seen_once c ps) ≡ false → binds c x (seen_once c (without y ps)) ≡ false
+still-gone : (c : ℕ) (x y : Name) (ps : List Pair) → binds c x (seen_once c ps) ≡ false → binds c x (seen_once c (without y ps)) ≡ false
 unfolding without seen_once binds
 still-gone c x y [] e = refl
-still-gone c x y (pair z v ∷ ps) e = let q = or_parts (eqb x z && eqb c c) (binds c x (seen_once c ps)) e in go (eqb y z) q.0 (still-gone c x y ps q.1)
+still-gone c x y (pair z v ∷ ps) e = let q = or_parts (same_name x z && eqb c c) (binds c x (seen_once c ps)) e in go (same_name y z) q.0 (still-gone c x y ps q.1)
   where
-    go : (b : Bool) → (eqb x z && eqb c c) ≡ false → binds c x (seen_once c (without y ps)) ≡ false → binds c x (seen_once c (cond b (without y ps) (pair z v ∷ without y ps))) ≡ false
+    go : (b : Bool) → (same_name x z && eqb c c) ≡ false → binds c x (seen_once c (without y ps)) ≡ false → binds c x (seen_once c (cond b (without y ps) (pair z v ∷ without y ps))) ≡ false
     go true q i = i
     go false q i = rw q i
 
-distinct_without : (y : ℕ) (ps : List Pair) → Distinct ps → Distinct (without y ps)
+distinct_without : (y : Name) (ps : List Pair) → Distinct ps → Distinct (without y ps)
 unfolding Distinct without
 distinct_without y [] d = tt
-distinct_without y (pair x v ∷ ps) d = go (eqb y x) (distinct_without y ps d.1)
+distinct_without y (pair x v ∷ ps) d = go (same_name y x) (distinct_without y ps d.1)
   where
     go : (b : Bool) → Distinct (without y ps) → Distinct (cond b (without y ps) (pair x v ∷ without y ps))
     go true z = z
@@ -198,6 +203,20 @@ abbrev star_count : Bool → List Seen → ℕ
 star_count true l = length (once l)
 star_count false l = 0
 
+-- by places as by names
+module _ {r : Rowless} (s : Numbered r) where
+  under-below : (star : Bool) (c : ℕ) (l : List Seen) → Below (places r) l → Below (places r) (seen_under star c l)
+  under-below true c l b = spread-below s c l b
+  under-below false c l b = b
+
+  under-named : (star : Bool) (c : ℕ) (l : List Seen) → Below (places r) l → as_named r (seen_under star c l) ≡ seen_under star c (as_named r l)
+  under-named true c l b = spread-named s c l b
+  under-named false c l b = refl
+
+  under-count : (star : Bool) (l : List Seen) → Below (places r) l → star_count star l ≡ star_count star (as_named r l)
+  under-count true l b = sym (length-named s l b)
+  under-count false l b = refl
+
 -- all that a WITH has taken
 all_quiet : (wants star : Bool) (w : World) (a b : ℕ) (below : List Seen) (ps : List Pair) (y : State) → let r = suc (suc y.last) in let l = seen_under star r below in
     Beside wants (star_count star below + length ps) (star_count star below + firsts r ps l) (above r ps l) (quiet (above r ps l) a b y) (rooted_on (under_star star below) w a b (all_of (record { star = star; pairs = ps }) below) y)
@@ -216,11 +235,11 @@ beside-as p q e z = rw (← p, ← q, ← e) z
 -- ---- the counts
 module _ {w : Walk} (b k : ℕ) where
   counts-still : Still w (record w { taken = w.taken + k; made = w.made + b })
-  counts-still = record { visible = seen-idle; log = log-idle }
+  counts-still = record { visible = seen-idle; rowless = unmoved-idle; log = log-idle }
 
   -- words pay for them
-  counts-fit : {c : Context} {i t : ℕ} → w.made + b + (w.taken + k) + t * 16384 ≤ w.at * 16384 → Fits i t c w → Fits i t c (record w { taken = w.taken + k; made = w.made + b })
-  counts-fit h f = refit f counts-still f.sound f.descends f.cur f.last f.count f.stack f.olds h f.within
+  counts-fit : {c : Context} {i t l : ℕ} → w.made + b + (w.taken + k) + t * 16384 ≤ w.at * 16384 → Fits i t l c w → Fits i t l c (record w { taken = w.taken + k; made = w.made + b })
+  counts-fit h f = refit f counts-still refl f.below f.sound f.descends f.cur f.last f.count f.stack f.rowless f.olds h f.within
 
   -- and the state that it counts is held
   counts-hold : {id : ℕ → ℕ} {c : Context} {s : Both} {t : State} {l : List Seen} → Beside c.wants k b l s.names t → l ≡ s.names.visible → Holds id c w s → Holds id c (record w { taken = w.taken + k; made = w.made + b }) (record { names = t; kinds = s.kinds; olds = s.olds })
@@ -287,11 +306,11 @@ module _ {star : Bool} {w w' : Walk} {k : ℕ} (z : Settled star w w' k) where
   settled-still : Still w w'
   settled-still = rw z.same (seen-still z.still)
 
-  settled-fits : {c : Context} {e t : ℕ} → Fits e t c w → Fits e t c w'
-  settled-fits f = rw z.same (seen-fits z.still f z.sound z.descends (omega (arith, f.stack, z.low, z.still.names)))
+  settled-fits : {c : Context} {e t u : ℕ} → Fits e t u c w → Fits e t u c w'
+  settled-fits f = rw z.same (seen-fits z.still f (rw z.seen (under-below f.numbered star w.cur (entries w.visible) f.below)) z.sound z.descends (omega (arith, f.stack, z.low)))
 
-  settled-holds : {id : ℕ → ℕ} {c : Context} {s : Both} → Holds id c w s → Holds id c w' (on_names (standing (seen_under star w.cur (entries w.visible)) w.cur) s)
-  settled-holds h = rw z.same (seen-holds z.seen h)
+  settled-holds : {id : ℕ → ℕ} {c : Context} {e t u : ℕ} {s : Both} → Fits e t u c w → Holds id c w s → Holds id c w' (on_names (standing (seen_under star w.cur (as_named w.rowless (entries w.visible))) w.cur) s)
+  settled-holds f h = rw z.same (seen-holds (ap (λ (l : List Seen). as_named w.rowless l) z.seen ∙ under-named f.numbered star w.cur (entries w.visible) f.below) h)
 
 -- ---- the barrier, the new Root, and what is bound in it
 length_pairs : (n : ℕ) (held : List ℕ) → length (pairs_in n held) ≡ n
@@ -301,14 +320,14 @@ length_pairs (suc n) held = length-append (pairs_in n held) _ ∙ omega (arith, 
 
 module _ (p : Pairs) {c : Context} {w w1 : Walk} {a b : ℕ} (ready : Ready (2 + kept_of p) c w) (x : Steps 1 c w w1 (λ id. on_names (enter 7 a b))) where
   pub root-asks : Ready 1 c w1
-  root-asks = record { fine = ready.fine; fit = x.fit 1 1 (lower (omega arith) (omega arith) ready.fit) }
+  root-asks = record { fine = ready.fine; fit = x.fit 1 1 1 (lower (omega arith) (omega arith) (omega arith) ready.fit) }
 
   module _ {w2 : Walk} (y : Steps 1 c w1 w2 (λ id. on_names (enter 1 b b))) where
     opened : Steps 2 c w w2 (λ id s. on_names (enter 1 b b) (on_names (enter 7 a b) s))
     opened = then-steps x y
 
     rooted : (k : ℕ) → Fit (2 + k) c w → Fit k c w2
-    rooted k f = opened.fit k k f
+    rooted k f = opened.fit k k k f
 
     root-fit : Fit (kept_of p) c w2
     root-fit = rooted (kept_of p) ready.fit
@@ -317,15 +336,22 @@ module _ (p : Pairs) {c : Context} {w w1 : Walk} {a b : ℕ} (ready : Ready (2 +
       still-low : top ≤ w2.visible.top
       still-low = omega (arith, given.low, opened.frame.top)
 
-      -- the first ones are those before
+      -- the first ones are those before, whose places are in use
+      first-below : Below (places w.rowless) (seens w.visible.names top w.visible.words.now)
+      first-below =
+          let z : w.visible.top ≡ w.visible.top - top + top = omega (arith, given.low) in
+          below-less (places w.rowless) w.visible.names (w.visible.top - top) top w.visible.words.now (rw z at ready.fit.below)
+
       first-same : first_seen top w2 ≡ first_seen top w
-      first-same = rw opened.still.visible.names (seens-lower w.visible.names top w.visible.top w2.visible.words.now w.visible.words.now given.low opened.frame.below)
+      first-same =
+          rw opened.still.visible.names (ap (λ (l : List Seen). as_named w2.rowless l) (seens-lower w.visible.names top w.visible.top w2.visible.words.now w.visible.words.now given.low opened.frame.below))
+          ∙ named-grows (seens w.visible.names top w.visible.words.now) opened.frame.grows first-below
 
       pub leave-asks : (top ≤ w2.visible.top) × Sound w2.visible
       leave-asks = (still-low, root-fit.sound)
 
       module _ {w3 : Walk} (l : Left w2 w3 top w2.cur) where
-        cut : {e t : ℕ} → Fits e t c w2 → Fits e t c w3
+        cut : {e t u : ℕ} → Fits e t u c w2 → Fits e t u c w3
         cut g = cut_fits l g still-low (below-descends w2.visible.names top w2.visible.top w2.cur w2.visible.words.now still-low g.descends) g.cur
 
         bound3 : Binding w3
@@ -337,8 +363,11 @@ module _ (p : Pairs) {c : Context} {w w1 : Walk} {a b : ℕ} (ready : Ready (2 +
         pub spread-asks : (w3.cur < 2147483648) × Binding w3
         spread-asks = (short3, bound3)
 
-        seen3 : entries w3.visible ≡ first_seen top w
-        seen3 = l.visible.same ∙ first-same
+        places3 : w3.rowless ≡ w2.rowless
+        places3 = ap (λ (v : Walk). v.rowless) l.same
+
+        seen3 : as_named w3.rowless (entries w3.visible) ≡ first_seen top w
+        seen3 = ap (λ (r : Rowless). as_named r (entries w3.visible)) places3 ∙ ap (λ (s : List Seen). as_named w2.rowless s) l.visible.same ∙ first-same
 
         cur3 : w3.cur ≡ w2.cur
         cur3 = ap (λ (v : Walk). v.cur) l.same
@@ -347,8 +376,17 @@ module _ (p : Pairs) {c : Context} {w w1 : Walk} {a b : ℕ} (ready : Ready (2 +
           s4 : Settled p.star w3 w4 k
           s4 = settled bound3 z
 
-          fit4 : {e t : ℕ} → Fits e t c w2 → Fits e t c w4
+          fit4 : {e t u : ℕ} → Fits e t u c w2 → Fits e t u c w4
           fit4 g = settled-fits s4 (cut g)
+
+          places4 : w4.rowless ≡ w3.rowless
+          places4 = ap (λ (v : Walk). v.rowless) s4.same
+
+          listed4 : w4.rowless.listed ≡ w.rowless.listed
+          listed4 = ap (λ (r : Rowless). r.listed) (places4 ∙ places3) ∙ opened.frame.grows.listed
+
+          named4 : InNames w4.rowless.listed (pairs_of p)
+          named4 = rw listed4 given.named
 
           still4 : Still w w4
           still4 = still-then opened.still (still-then (cut_still l) (settled-still s4))
@@ -371,11 +409,12 @@ module _ (p : Pairs) {c : Context} {w w1 : Walk} {a b : ℕ} (ready : Ready (2 +
               let i = ready.fine.short in
               let t = top4 in
               let d = at4 in
-              let n = still4.visible.names in
+              let n = f.heads in
+              let e = listed4 in
               let r = given.room in
               let v = f.within in
               let o = f.names in
-              record { short = omega (arith, short3, cur4); binding = record { sound = f.sound; descends = f.descends }; wide = given.wide; named = rw n given.named; few = omega arith; room = omega arith }
+              record { short = omega (arith, short3, cur4); binding = record { sound = f.sound; descends = f.descends }; wide = given.wide; named = named4; few = omega arith; places = omega arith; room = omega arith }
 
           module _ {w5 : Walk} {r : ℕ} (u : Sees p w4 w5 r) where
             seen5 : SeesAll p.count p c w4 w5
@@ -390,8 +429,8 @@ module _ (p : Pairs) {c : Context} {w w1 : Walk} {a b : ℕ} (ready : Ready (2 +
             at5 : w5.at ≡ w4.at
             at5 = ap (λ (v : Walk). v.at) u.same
 
-            fit5 : (k : ℕ) → Fit (2 + k + kept_of p) c w → w.visible.names + (top + p.count) + k ≤ w.at → Fits k k c w5
-            fit5 k f h = seen5.fit k k (fit4 (lower (omega arith) (omega arith) (rooted (k + kept_of p) (lower (omega arith) (omega arith) f)))) (omega (arith, at4, top4, still4.visible.names))
+            fit5 : (k : ℕ) → Fit (2 + k + kept_of p) c w → w.rowless.listed + (top + p.count) + k ≤ w.at → Fit k c w5
+            fit5 k f h = seen5.fit k k k (fit4 (lower (omega arith) (omega arith) (omega arith) (rooted (k + kept_of p) (lower (omega arith) (omega arith) (omega arith) f)))) named4 (omega (arith, at4, top4, listed4))
 
             star-pays : k ≤ cond {A = ℕ} p.star 1 0 * 2048
             star-pays = go p.star s4.count
@@ -416,7 +455,7 @@ module _ (p : Pairs) {c : Context} {w w1 : Walk} {a b : ℕ} (ready : Ready (2 +
 
             needs5 : (i : ℕ) → Fit (2 + i + kept_of p) c w → w5.made + (k + r) + (w5.taken + (k + p.count)) + i * 16384 ≤ w5.at * 16384
             needs5 i f =
-                let g = (fit4 (rooted (i + kept_of p) (lower (omega arith) (omega arith) f))).needs in
+                let g = (fit4 (rooted (i + kept_of p) (lower (omega arith) (omega arith) (omega arith) f))).needs in
                 let o = star-pays in
                 let z = u.few in
                 let m = made5 in
@@ -437,14 +476,16 @@ module _ (p : Pairs) {c : Context} {w w1 : Walk} {a b : ℕ} (ready : Ready (2 +
                   fit = λ i f h. counts-fit (k + r) (k + p.count) (needs5 i f) (fit5 i f h);
                   goes = λ id s h.
                       let e2 = opened.goes id s h in
-                      let e5 = seen5.goes id _ (settled-holds s4 (cut_holds l e2)) in
+                      let e5 = seen5.goes id _ named4 (settled-holds s4 (cut root-fit) (cut_holds l e2)) in
                       let last = suc (suc s.names.last) in
                       let m : w3.cur ≡ suc (suc s.names.last) = cur3 ∙ e2.cur in
-                      let same : entries w4.visible ≡ seen_under p.star (suc (suc s.names.last)) (first_seen top w) = rw (seen3, m) at s4.seen in
-                      let many : k ≡ star_count p.star (first_seen top w) = rw seen3 at s4.count in
-                      let first : r ≡ firsts (suc (suc s.names.last)) (pairs_of p) (seen_under p.star (suc (suc s.names.last)) (first_seen top w)) = rw (cur4, m, same) at u.first in
+                      let f3 = cut root-fit in
+                      let f4 = fit4 root-fit in
+                      let same : as_named w4.rowless (entries w4.visible) ≡ seen_under p.star (suc (suc s.names.last)) (first_seen top w) = ap (λ (r : Rowless). as_named r (entries w4.visible)) places4 ∙ ap (λ (v : List Seen). as_named w3.rowless v) s4.seen ∙ under-named f3.numbered p.star w3.cur (entries w3.visible) f3.below ∙ rw (seen3, m) refl in
+                      let many : k ≡ star_count p.star (first_seen top w) = s4.count ∙ under-count f3.numbered p.star (entries w3.visible) f3.below ∙ rw seen3 refl in
+                      let first : r ≡ firsts (suc (suc s.names.last)) (pairs_of p) (seen_under p.star (suc (suc s.names.last)) (first_seen top w)) = u.first ∙ firsts-named f4.numbered w4.cur (pairs_of p) (entries w4.visible) named4 f4.below ∙ rw (same, cur4, m) refl in
                       let z = all_quiet c.wants p.star (world_at c id) a b (first_seen top w) (pairs_of p) s.names in
-                      let ends : seen_by (pairs_of p) (standing (seen_under p.star w3.cur (entries w3.visible)) w3.cur (standing (first_seen top w2) w2.cur (enter 1 b b (enter 7 a b s.names)))) ≡ quiet (above (suc (suc s.names.last)) (pairs_of p) (seen_under p.star (suc (suc s.names.last)) (first_seen top w))) a b s.names =
+                      let ends : seen_by (pairs_of p) (standing (seen_under p.star w3.cur (as_named w3.rowless (entries w3.visible))) w3.cur (standing (first_seen top w2) w2.cur (enter 1 b b (enter 7 a b s.names)))) ≡ quiet (above (suc (suc s.names.last)) (pairs_of p) (seen_under p.star (suc (suc s.names.last)) (first_seen top w))) a b s.names =
                       rw seen3 (quiet_is (pairs_of p) (seen_under p.star w3.cur (first_seen top w)) (first_seen top w2) w3.cur w2.cur s.names m
                       ∙ ap (λ (n : ℕ). quiet (above (suc (suc s.names.last)) (pairs_of p) (seen_under p.star n (first_seen top w))) a b s.names) m) in
                       counts-hold (k + r) (k + p.count) (beside-as (omega (arith, many, length_pairs p.count p.words.now)) (omega (arith, many, first)) (sym ends) z) (ap (λ (t : State). t.visible) (sym ends)) e5;

@@ -13,17 +13,21 @@ use lib.ListN.{length, drop}
 use Rattle.refusal.specs.declared.Refusal.{Refusal}
 use Rattle.heads.specs.Got.{Got, ok, no, bind, any_word, flag}
 use Rattle.clauses.specs.Read.{max_depth}
+use Rattle.scope.specs.Graph.{Name}
 use Rattle.semantics.specs.Kinds.{plain}
 use Rattle.semantics.specs.Resolve.{Seen, Pair, binds, leave, standing, barrier, fresh}
 use Rattle.fused.specs.Fused.{Both, Mode, row_go, left}
 use Rattle.fused.specs.Clauses.{Taken, nothing, takes, all_of, within, projections_go, rooted_by, sort_go, with_go, counted_row}
 use Rattle.fused.proofs.StarKeys.{star-sort}
+use Rattle.rowless.specs.Rowless.{Grows}
 use Rattle.visible.specs.Visible.{seens, Descends}
 use Rattle.visible.specs.Stack.{entries}
 use Rattle.steps.specs.Memory.{words_in, names_in, world_at}
+use Rattle.steps.specs.Named.{as_named}
 use Rattle.steps.specs.Hold.{Fit, Holds, Still, Ready, on_names}
 use Rattle.steps.specs.declared.Walk.{Walk}
 use Rattle.steps.specs.declared.context.Context.{Context}
+use Rattle.steps.proofs.Named.{named-grows}
 use Rattle.steps.proofs.Held.{lower, still-then}
 use Rattle.steps.proofs.Moved.{left-still, left-fits, left-holds}
 use Rattle.walk.specs.Goes.{Walked, rest_in}
@@ -33,6 +37,7 @@ use Rattle.projection_walk.specs.Pairs.{pairs_in, pairs_of, taken_by, kept_of, I
 use Rattle.projection_walk.specs.Carries.{Carries, ComesHolding, filtered_at}
 use Rattle.projection_walk.specs.declared.pairs.Pairs.{Pairs}
 use Rattle.with_walk.specs.Binds.{Rebinds, BindsIn, SeesAgainIn, SeesAgain, first_seen, under_star, rooted_on, seen_by, with_at}
+use Rattle.with_walk.proofs.Named.{named-descends}
 use Rattle.with_walk.proofs.Seeing.{unbound, barrier-last, renewed, rooted-beside, seen-again}
 
 -- ---- projections and filter, and then what is bound
@@ -73,8 +78,9 @@ pub record Filtered (m : Mode) (c : Context) (l : MutBor (List ℕ)) (w w' : Wal
   pub from : w.at ≤ w'.at
   pub paid : kept_of p + w.at ≤ w'.at
   pub top : w.visible.top ≤ w'.visible.top
-  pub below : first_seen w.visible.top w' ≡ entries w.visible
-  pub named : InNames w'.visible.names (pairs_of p)
+  pub below : seens w'.visible.names w.visible.top w'.visible.words.now ≡ entries w.visible
+  pub grows : Grows w.rowless w'.rowless
+  pub named : InNames (names_in c) (pairs_of p)
   pub fit : (k : ℕ) → Fit k c w → Fit (k + kept_of p) c w'
   pub goes : (id : ℕ → ℕ) (s : Both) → Holds id c w s → ComesHolding id c w' p (filtered_at c m id nothing s (rest_in c w))
 
@@ -90,8 +96,9 @@ module _ {c : Context} {l : MutBor (List ℕ)} {w w' : Walk} {p : Pairs} (m : Mo
         paid = omega (arith, y.paid);
         top = y.top;
         below = rw x.still.visible.names y.below;
-        named = rw x.still.visible.names (y.named tt);
-        fit = λ k f. y.fit k (lower (omega arith) (omega arith) f);
+        grows = y.grows;
+        named = y.named tt;
+        fit = λ k f. y.fit k (lower (omega arith) (omega arith) (omega arith) f);
         goes = y.goes;
       }
 
@@ -111,6 +118,10 @@ low-before true top = omega arith
 low-before false top = omega arith
 
 module _ {m : Mode} {c : Context} {l : MutBor (List ℕ)} {w w2 : Walk} {p : Pairs} (given : Held c l.now m) (ready : Ready 3 c w) (x : Filtered m c l w w2 p) where
+  -- the names before
+  before : first_seen w.visible.top w2 ≡ as_named w.rowless (entries w.visible)
+  before = ap (λ (s : List Seen). as_named w2.rowless s) x.below ∙ named-grows (entries w.visible) x.grows ready.fit.below
+
   pub with-asks : {top : ℕ} → top ≤ w.visible.top → BindsIn top w2 p × Ready (2 + kept_of p) c w2
   with-asks h =
       let f = x.fit 3 ready.fit in
@@ -120,16 +131,16 @@ module _ {m : Mode} {c : Context} {l : MutBor (List ℕ)} {w w2 : Walk} {p : Pai
       let d = given.room in
       let e = x.size in
       let s = ready.fit.stack in
-      let n = x.still.visible.names in
-      (record { wide = omega arith; named = x.named; low = omega arith; room = omega arith }, record { fine = ready.fine; fit = lower (omega arith) (omega arith) f })
+      let n = x.grows.listed in
+      (record { wide = omega arith; named = rw f.listed x.named; low = omega arith; room = omega arith }, record { fine = ready.fine; fit = lower (omega arith) (omega arith) (omega arith) f })
 
   module _ {w3 : Walk} {a b top : ℕ} (y : Rebinds c p w2 w3 a b top) (low : top ≤ w.visible.top) where
     root-fits : (k : ℕ) → Fit (3 + k) c w → Fit k c w3
     root-fits k f =
         let d = x.paid in
         let s = f.stack in
-        let n = x.still.visible.names in
-        y.fit k (lower (omega arith) (omega arith) (x.fit (3 + k) f)) (omega arith)
+        let n = x.grows.listed in
+        y.fit k (lower (omega arith) (omega arith) (omega arith) (x.fit (3 + k) f)) (omega arith)
 
     pub keys-ask : Ready 0 c w3
     keys-ask = record { fine = ready.fine; fit = root-fits 0 ready.fit }
@@ -137,7 +148,7 @@ module _ {m : Mode} {c : Context} {l : MutBor (List ℕ)} {w w2 : Walk} {p : Pai
   -- the names before, where a star carries them or nothing of them is seen
   all-of : (t : Bool) (top : ℕ) (ps : List Pair) (r : List Seen) → first_seen top w2 ≡ r →
       (under_star t (first_seen (cond t top 0) w2) ≡ []) × (all_of (record { star = t; pairs = ps }) (first_seen (cond t top 0) w2) ≡ all_of (record { star = t; pairs = ps }) r)
-  unfolding seens
+  unfolding seens as_named
   all-of true top ps r e = (refl, ap (λ (v : List Seen). all_of (record { star = true; pairs = ps }) v) e)
   all-of false top ps r e = (refl, refl)
 
@@ -151,7 +162,7 @@ module _ {m : Mode} {c : Context} {l : MutBor (List ℕ)} {w w2 : Walk} {p : Pai
         passes = record {
           from = omega (arith, x.from, d);
           fit = root-fits y (low-before p.star w.visible.top);
-          goes = λ id s h. let g = x.goes id s h in let z = all-of p.star w.visible.top (pairs_of p) s.names.visible (x.below ∙ h.visible) in
+          goes = λ id s h. let g = x.goes id s h in let z = all-of p.star w.visible.top (pairs_of p) s.names.visible (before ∙ h.visible) in
               record {
                 state = on_names (renewed (world_at c id) a b (all_of (taken_by p) s.names.visible)) g.state;
                 holds = rw (z.0, z.1) at (y.goes id g.state g.holds);
@@ -173,7 +184,7 @@ module _ {m : Mode} {c : Context} {l : MutBor (List ℕ)} {w w2 : Walk} {p : Pai
   outside : (id : ℕ → ℕ) (s : Both) (h : Holds id c w s) → Descends w2.cur s.names.visible
   outside id s h =
       let f = x.fit 3 ready.fit in
-      rw (x.below, h.visible) at (below-descends w2.visible.names w.visible.top w2.visible.top w2.cur w2.visible.words.now x.top f.descends)
+      rw (before, h.visible) at (named-descends w2.rowless w2.cur (seens w2.visible.names w.visible.top w2.visible.words.now) (below-descends w2.visible.names w.visible.top w2.visible.top w2.cur w2.visible.words.now x.top f.descends))
 
   keys-as : (t : Bool) (a b : ℕ) (id : ℕ → ℕ) (s : Both) (h : Holds id c w s) → p.star ≡ t → let u = (x.goes id s h).state in
       with_at c m true a b id s (rest_in c w) ≡ bind (counted_at c m id (keyed t id a b s u) (rest_in c w2)) (λ z r. ok (left m (ended t id a b s u) z) r)
@@ -185,7 +196,7 @@ module _ {m : Mode} {c : Context} {l : MutBor (List ℕ)} {w w2 : Walk} {p : Pai
       let q : Taken = record { star = true; pairs = pairs_of p } in
       with-as c m a b true id s (rest_in c w)
       ∙ rw (g.same, e)
-      (star-sort W (names_in c) (λ v. refl) m a b q s g.state w2.cur (rest_in c w2) given.resolves refl (λ d y n. unbound w2.cur d y s.names.visible n (outside id s h)) (omega (arith, f.cur, g.holds.last))
+      (star-sort W (names_in c) m a b q s g.state w2.cur (rest_in c w2) given.resolves refl (λ d y n. unbound w2.cur d y s.names.visible n (outside id s h)) (omega (arith, f.cur, g.holds.last))
       ∙ ap (λ (v : Both). bind (counted_row W (names_in c) m v (rest_in c w2)) (λ z r. ok (left m v z) r)) (names-step m (renewed W a b (all_of q s.names.visible)) g.state given.resolves))
   keys-as false a b id s h e =
       let g = x.goes id s h in
@@ -193,7 +204,7 @@ module _ {m : Mode} {c : Context} {l : MutBor (List ℕ)} {w w2 : Walk} {p : Pai
       let f = x.fit 3 ready.fit in
       let ps = pairs_of p in
       let n = barrier-last W a b (pairs_of p) g.state.names in
-      let free : (y : ℕ) → binds (suc (barrier W a b (pairs_of p) g.state.names).last) y s.names.visible ≡ false = λ y. unbound w2.cur _ y s.names.visible (omega (arith, f.cur, g.holds.last, n)) (outside id s h) in
+      let free : (y : Name) → binds (suc (barrier W a b (pairs_of p) g.state.names).last) y s.names.visible ≡ false = λ y. unbound w2.cur _ y s.names.visible (omega (arith, f.cur, g.holds.last, n)) (outside id s h) in
       with-as c m a b true id s (rest_in c w)
       ∙ rw (g.same, e)
       (ap (λ (v : Both). sort_go W (names_in c) m a b true s v (rest_in c w2)) (names-step m (renewed W a b ps) g.state given.resolves)
@@ -201,7 +212,7 @@ module _ {m : Mode} {c : Context} {l : MutBor (List ℕ)} {w w2 : Walk} {p : Pai
 
   module _ {w3 : Walk} {a b : ℕ} (y : Rebinds c p w2 w3 a b w.visible.top) where
     keyed-holds : (t : Bool) (id : ℕ → ℕ) (s : Both) (h : Holds id c w s) → p.star ≡ t → let u = (x.goes id s h).state in Holds id c w3 (keyed t id a b s u)
-    keyed-holds t id s h e = let g = x.goes id s h in rw (e, x.below, h.visible) at (y.goes id g.state g.holds)
+    keyed-holds t id s h e = let g = x.goes id s h in rw (e, before, h.visible) at (y.goes id g.state g.holds)
 
     -- the keys are read from where the WITH came to
     keys-at : (t : Bool) (id : ℕ → ℕ) (s : Both) (h : Holds id c w s) → p.star ≡ t → let u = (x.goes id s h).state in
@@ -233,8 +244,6 @@ module _ {m : Mode} {c : Context} {l : MutBor (List ℕ)} {w w2 : Walk} {p : Pai
         again-asks =
             let f = walked-fits 0 ready.fit in
             let g = root-fits y (omega arith) 0 ready.fit in
-            let n = still-then y.still k.still in
-            let e = n.visible.names in
             let d = x.paid in
             let h = given.room in
             let i = ready.fine.short in
@@ -242,8 +251,10 @@ module _ {m : Mode} {c : Context} {l : MutBor (List ℕ)} {w w2 : Walk} {p : Pai
             let o = x.size in
             let r = f.names in
             let s = ready.fit.stack in
-            let j = still4.visible.names in
-            record { short = omega (arith, g.cur, g.last, g.within, ready.fine.short); sound = f.sound; low = k.goes.frame.top; wide = omega arith; named = rw e x.named; few = omega arith; room = omega arith }
+            let j = ready.fit.listed in
+            let e = f.listed in
+            let t = f.heads in
+            record { short = omega (arith, g.cur, g.last, g.within, ready.fine.short); sound = f.sound; low = k.goes.frame.top; wide = omega arith; named = rw e x.named; few = omega arith; places = omega arith; room = omega arith }
 
         module _ {w5 : Walk} {o : Unit {0}} (z : SeesAgain p w3.visible.top w3.cur w4 w5) where
           -- ---- after the keys: all that a star carries is still seen
@@ -269,22 +280,23 @@ module _ {m : Mode} {c : Context} {l : MutBor (List ℕ)} {w w2 : Walk} {p : Pai
 
           -- or the pairs are seen again, and alone
           pair-passes : p.star ≡ false → Passes 3 c w w5 (with_at c m true a b) (Ok o)
-          unfolding seens
+          unfolding seens as_named
           pair-passes e =
               let n = z.no e in
               let l = n.left in
               let v = n.sees.all c in
+              let named : InNames n.between.rowless.listed (pairs_of p) = let e = ap (λ (v : Walk). v.rowless.listed) l.same ∙ (walked-fits 0 ready.fit).listed in rw e x.named in
               let at5 : w5.at ≡ w4.at = ap (λ (v : Walk). v.at) n.sees.same ∙ cut_at l in
               record {
                 still = still-then still4 (still-then (cut_still l) n.sees.still);
                 passes = record {
                   from = omega (arith, x.from, y.at, k.goes.from, at5);
-                  fit = λ i f. let g = root-fits y (omega arith) i f in
-                      v.fit i i (cleared-fits (walked-fits i f) l (omega (arith, g.cur, k.goes.frame.last))) (omega (arith, l.visible.back, l.visible.still.names, still4.visible.names, cut_at l, x.paid, f.stack, y.at, k.goes.from));
+                  fit = λ i f. let g = root-fits y (omega arith) i f in let d = cleared-fits (walked-fits i f) l (omega (arith, g.cur, k.goes.frame.last)) in
+                      v.fit i i i d named (omega (arith, l.visible.back, d.listed, f.listed, cut_at l, x.paid, f.stack, y.at, k.goes.from));
                   goes = λ id s h. let u = (x.goes id s h).state in let b3 = keyed-holds false id s h e in let g = k.goes.goes id _ b3 in
                       record {
                         state = on_names (seen_by (pairs_of p)) (on_names (standing [] w3.cur) g.state);
-                        holds = v.goes id _ (cut_holds l g.holds);
+                        holds = v.goes id _ named (cut_holds l g.holds);
                         same = keys-at false id s h e ∙ rw (g.same, at5) (ap (λ (t : Both). ok t (drop w4.at (words_in c))) (seen-again (world_at c id) a b (pairs_of p) m s.names.visible u g.state given.resolves b3.cur));
                       };
                 };

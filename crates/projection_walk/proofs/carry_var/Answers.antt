@@ -7,11 +7,11 @@ use Rattle.projection_walk.proofs.carry_var.Goals as goal
 pub returns-in-Some : goal.returns-in-Some
 returns-in-Some c =
     let h = rw c.in-Some.is at c.requires.0 in
-    adds-pair c.args.alias (a_var c.args.v) (omega (arith, h, c.requires.1.1.fit.places)) (omega arith) c.use_var.ensures c.keep.ensures (λ id s b. var-aliased _ _ _ c.in-Some.is)
+    adds-pair c.args.alias (a_var c.args.v) h (omega arith) c.use_var.ensures c.keep.ensures (λ id s b. var-aliased _ _ _ c.in-Some.is)
 
 pub returns-in-Some-row_of : goal.returns-in-Some-row_of
 returns-in-Some-row_of c =
-    adds-pair c.args.alias (a_var c.args.v) (omega (arith, c.in-Some-row_of.ensures.range.0, c.requires.1.1.fit.places)) (omega arith) c.use_var.ensures c.keep-in-Some-row_of.ensures
+    adds-pair c.args.alias (a_var c.args.v) c.in-Some-row_of.ensures.range.0 (omega arith) c.use_var.ensures c.keep-in-Some-row_of.ensures
     (λ id s b. var-named _ _ _ c.in-None.is c.in-Some-row_of.ensures.value)
 
 pub returns-in-None-row_of : goal.returns-in-None-row_of

@@ -12,9 +12,9 @@ pub bind-requires : goal.bind-requires
 bind-requires c =
     let q = c.requires in
     let b = c.loop-i.invariant in
-    let n = names_at c.args.walk.now.visible.names c.args.pairs.now.words.now _ _ c.loop-i-test.true q.named in
+    let n = names_at c.args.walk.now.rowless.listed c.args.pairs.now.words.now _ _ c.loop-i-test.true q.named in
     let s = b.still in
-    (omega (arith, ap (λ p. p.0) c.pair-x.ensures, n, s.names), (omega (arith, q.short, same-cur b), (omega (arith, q.few, b.top), (omega (arith, q.room, b.top, s.names, s.size), b.sound))))
+    (omega (arith, ap (λ p. p.0) c.pair-x.ensures, n, q.places, s.names), (omega (arith, q.short, same-cur b), (omega (arith, q.few, b.top), (omega (arith, q.room, b.top, s.names, s.size), b.sound))))
 
 pub loop-i-preserved : goal.loop-i-preserved
 loop-i-preserved c =
