@@ -97,7 +97,10 @@ module _ {warns : Bool} {s was has : List ℕ} {x : Index} {a : Scratch} (h : He
           marked = omega (arith, q.marked, ap length z.unmarked);
           unmarked = λ i. rw z.unmarked (q.unmarked i);
           pairs = omega (arith, q.pairs, z.pairs);
-          names = omega (arith, q.names, z.seen);
+          names = omega (arith, q.names, z.seen, z.rowless.slots);
+          binders = omega (arith, q.binders, z.rowless.slots);
+          listed = omega (arith, q.listed, z.rowless.slots, z.rowless.room);
+          small = omega (arith, q.small, z.rowless.slots);
           wide = omega (arith, q.room, z.wrote);
         }
 

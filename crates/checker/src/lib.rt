@@ -5,7 +5,7 @@
 // sheet with the mark 0, or the id of a variable with the mark 1.
 #![tactic(auto)]
 
-ghost use Rattle.std.specs.Prelude.{◌≡◌, true, ◌+◌, ◌*◌, ◌≤◌, length, take, IfOk, IfErr};
+ghost use Rattle.std.specs.Prelude.{◌≡◌, true, ◌+◌, ◌*◌, ◌/◌, ◌<◌, ◌≤◌, length, take, IfOk, IfErr};
 ghost use Rattle.words.specs.Words.{words};
 ghost use Rattle.refusal.specs.Number.{number_of};
 ghost use Rattle.sheet.specs.Read.{read_sheet, refused};
@@ -207,15 +207,9 @@ fn check_in(
 }
 
 // With scratch for sheets of up to N words: V, F, H and B are the lengths that follow from N, which the language doesn't compute of it. No
-// heap: scratch is arrays. One array, cut
-// as crate listing cuts its own, would need one length, but laws of the zeros in each part, which are those of listing once more.
-fn check_sized<
-    const N: usize,
-    const V: usize,
-    const F: usize,
-    const H: usize,
-    const B: usize,
->(
+// heap: scratch is arrays. One array, cut as crate listing cuts its own, would need one length, but laws of the zeros in each part, which are
+// those of listing once more.
+fn check_sized<const N: usize, const V: usize, const F: usize, const H: usize, const B: usize>(
     s: &[u8],
     warns: bool,
     lists: &mut Lists<u32>,
