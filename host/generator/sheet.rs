@@ -46,7 +46,7 @@ pub fn sheet(random: &mut Random) -> Sheet {
     let (size, filled) = size(random);
     let room = if down_to.is_some() { size.max(700) } else { size } - TRAILER;
     let stars = random.one_in(3);
-    let rowless = random.one_in(3).then(|| Rowless::new(random));
+    let rowless = (random.below(5) < 2).then(|| Rowless::new(random));
     if stars && down_to.is_none() && room >= LEAST && random.one_in(16) {
         return wide(random, room, rowless);
     }
