@@ -150,7 +150,7 @@ class Writer:
     """The words of a text. Names are numbered by first mention."""
 
     def __init__(self, terms):
-        self.names, self.rows, self.ids, self.binders, self.statement_span = {}, [], set(), [], None
+        self.names, self.rows, self.ids, self.statement_span = {}, [], set(), None
         groups = [(None, [])]
         for t in terms:
             if t.head == "Arm":
@@ -165,9 +165,6 @@ class Writer:
                 self.binding(t)
             else:
                 groups[-1][1].append(self.clause(t))
-        for v, line in self.binders:
-            if v not in self.ids:
-                raise Bad(line, "variable %d has no binding" % v)
         self.head, self.arms = groups[0][1], groups[1:]
 
     def sheet(self):
@@ -223,10 +220,6 @@ class Writer:
             raise Bad(t.line, "%s is none of %s" % (t, ", ".join(words)))
         return words.index(t.head)
 
-    def binder(self, t):
-        self.binders.append((self.number(t), t.line))
-        return self.number(t)
-
     def binding(self, t):
         v, name, kind, span = takes(t, "number", "name", "name", "span")
         if self.number(v) in self.ids:
@@ -243,7 +236,7 @@ class Writer:
     def part(self, t, depth):
         if t.head == "Path":
             v, elements = takes(t, "number", "element*")
-            path = [1, self.binder(v)]
+            path = [1, self.number(v)]
         else:
             (elements,) = takes(t, "element*")
             path = [0]
@@ -251,7 +244,7 @@ class Writer:
 
     def element(self, t, depth):
         span, v, prop = takes(t, "span", "number?", "expression?")
-        ws = [1 if t.head == "Node" else 2] + self.span(span) + [len(v)] + [self.binder(x) for x in v]
+        ws = [1 if t.head == "Node" else 2] + self.span(span) + [len(v)] + [self.number(x) for x in v]
         return ws + [len(prop)] + self.each(self.expr, prop, depth)
 
     def marked(self, ts, depth):
@@ -346,7 +339,7 @@ class Writer:
             return [13 if keys else 4] + self.span(span) + [len(ps)] + self.each(self.projection, ps) + self.each(self.order_by, keys)
         if head == "Unwind":
             span, v, one = takes(t, "span", "number", "expression")
-            return [5] + self.span(span) + [self.binder(v)] + self.expr(one, 1)
+            return [5] + self.span(span) + [self.number(v)] + self.expr(one, 1)
         if head in OPENINGS:
             span, parts = takes(t, "span", "part*")
             return [OPENINGS[head]] + self.span(span) + self.pattern(parts, 1)
