@@ -24,7 +24,7 @@ use Rattle.clause_walk.specs.Clauses.{body_at}
 pub more : {i j : ℕ} {c : Context} {w w' : Walk} {G : Goer} (r : Result (Unit {0}) Refusal) → i ≤ j → Passes i c w w' G r → Passes j c w w' G r
 more (Ok u) l x =
     let y = x.passes in
-    record { still = x.still; passes = record { from = y.from; fit = λ k f. y.fit k (lower (omega arith) (omega arith) f); goes = y.goes } }
+    record { still = x.still; passes = record { from = y.from; fit = λ k f. y.fit k (lower (omega arith) (omega arith) (omega arith) f); goes = y.goes } }
 more (Err e) l x = record { still = x.still; passes = x.passes }
 
 module _ {c : Context} {w : Walk} (m : Mode) (a b : ℕ) where

@@ -1,41 +1,40 @@
--- What clauses do to scopes, where names are resolved: a yield is bound as in any such mode (`yield-as`, `yields`, `yield-below`), an
+-- What clauses do to scopes, where names are resolved: a yield is bound as in any such mode (`yield-as`, `yields`, `yield-listed`), an
 -- Unwind's variable (`unwind-as`, `unwound`, `costs-ready`), and a Call's scope is opened (`call-as`).
 use Rattle.std.specs.Prelude.{Option, Some, None}
 use Rattle.std.specs.Option.{unwrap_or}
 use Prim.Native.Nat.{ℕ, zero, suc, ◌+◌, ◌<◌, ◌≤◌}
 use native.Mathlib.Omega.{arith}
 use native.Mathlib.Numerals.{add-one}
-use mathlib.Core.Path.{◌≡◌, refl, ap, sym, ◌∙◌}
-use mathlib.Core.Bool.{true}
-use mathlib.Core.List.{List, [], ◌∷◌}
-use Rattle.scope.specs.Graph.{unwind_scope, call_scope}
+use mathlib.Core.Path.{◌≡◌, refl, ap, sym}
+use mathlib.Core.Bool.{Bool, true}
+use mathlib.Core.List.{List, []}
+use Rattle.scope.specs.Graph.{unwind_scope, call_scope, indexed}
 use Rattle.heads.specs.Got.{Got, ok, no, bind, word_in, any_word}
 use Rattle.clauses.specs.Read.{alias_of, read_yield}
 use Rattle.clauses.specs.Tree.{Yield, yield}
 use Rattle.clauses.specs.Write.{alias_word}
 use Rattle.tables.specs.Row.{value_kind}
-use Rattle.semantics.specs.World.{World, yield_name, name_of, row_name}
+use Rattle.semantics.specs.World.{World, yield_name, name_of}
 use Rattle.semantics.specs.Resolve.{enter, bind_name, bind_anew}
 use Rattle.semantics.specs.Kinds.{general}
-use Rattle.fused.specs.Fused.{Both, Mode, Go, unresolving, rounds, step, noting}
+use Rattle.fused.specs.Fused.{Both, Mode, Go, unresolving, rounds, step}
 use Rattle.fused.specs.Clauses.{within, yielded, yield_go, unwind_go, call_go}
 use Rattle.steps.specs.Memory.{names_in, world_at}
-use Rattle.steps.specs.Hold.{Costs, Steps, Ready, ShownTo, on_names, name_in}
+use Rattle.steps.specs.Hold.{Fits, Costs, Steps, Ready, Binds, Placed, on_names}
 use Rattle.steps.specs.declared.Walk.{Walk}
 use Rattle.steps.specs.declared.context.Context.{Context}
 use Rattle.steps.proofs.Held.{lower, as-steps, more-costs, then-steps}
-use Rattle.steps.proofs.Shown.{name-as}
 use Rattle.clause_parts.specs.Passes.{counted_at}
 use Rattle.clause_parts.proofs.Cleared.{names-step}
 use Rattle.clause_walk.specs.Clauses.{names_alone, yield_at, yields_at, unwind_at, unwound_at, call_at}
 
 -- ---- yields, where names are resolved
-yields-as : (w : World) (t : ℕ) (m : Mode) (a b : ℕ) (s : Both) (r : List ℕ) → m.resolves ≡ true → yield_go w t names_alone a b s r ≡ yield_go w t m a b s r
+yields-as : (w : World) (names : ℕ) (m : Mode) (a b : ℕ) (s : Both) (r : List ℕ) → m.resolves ≡ true → yield_go w names names_alone a b s r ≡ yield_go w names m a b s r
 unfolding yield_go
-yields-as w t m a b s r q = go (read_yield t r)
+yields-as w names m a b s r q = go (read_yield names r)
   where
-    go : (g : Got Yield) → bind g (λ y r2. ok (yielded w t names_alone a b y s) r2) ≡ bind g (λ y r2. ok (yielded w t m a b y s) r2)
-    go (ok (yield x alias v) r2) = rw (names-step m (bind_anew w a b (yield_name x alias) v value_kind) s q, names-step names_alone (bind_anew w a b (yield_name x alias) v value_kind) s refl)
+    go : (g : Got Yield) → bind g (λ y r2. ok (yielded w names names_alone a b y s) r2) ≡ bind g (λ y r2. ok (yielded w names m a b y s) r2)
+    go (ok (yield x alias v) r2) = rw (names-step m (bind_anew w a b (indexed (yield_name x alias)) v value_kind) s q, names-step names_alone (bind_anew w a b (indexed (yield_name x alias)) v value_kind) s refl)
     go (no e) = refl
 
 pub rounds-as : (one two : Go) → ((s : Both) (r : List ℕ) → one s r ≡ two s r) → (n : ℕ) (s : Both) (r : List ℕ) → rounds n one s r ≡ rounds n two s r
@@ -53,9 +52,9 @@ module _ (c : Context) (m : Mode) (a b : ℕ) (id : ℕ → ℕ) (s : Both) (r :
   unfolding unwind_go
   unwind-as = go (any_word r)
     where
-      go : (g : Got ℕ) → bind g (λ v r1. within (world_at c id) (names_in c) (unresolving m) general (noting (world_at c id) (v ∷ []) (step m (λ y. bind_name (name_of (world_at c id) v) v value_kind (enter unwind_scope a b y)) [] s)) r1)
+      go : (g : Got ℕ) → bind g (λ v r1. within (world_at c id) (names_in c) (unresolving m) general (step m (λ y. bind_name (name_of (world_at c id) v) v value_kind (enter unwind_scope a b y)) [] s) r1)
           ≡ bind g (λ v r1. within (world_at c id) (names_in c) (unresolving m) general (unwound_at c a b v id s) r1)
-      go (ok v r1) = ap (λ (u : Both). within (world_at c id) (names_in c) (unresolving m) general (noting (world_at c id) (v ∷ []) u) r1) (names-step m (λ y. bind_name (name_of (world_at c id) v) v value_kind (enter unwind_scope a b y)) s q)
+      go (ok v r1) = ap (λ (u : Both). within (world_at c id) (names_in c) (unresolving m) general u r1) (names-step m (λ y. bind_name (name_of (world_at c id) v) v value_kind (enter unwind_scope a b y)) s q)
       go (no e) = refl
 
   -- a Call
@@ -72,16 +71,12 @@ module _ (c : Context) (m : Mode) (a b : ℕ) (id : ℕ → ℕ) (s : Both) (r :
       go (no e) = refl
 
 -- a step or a walk may begin after a step
-pub costs-ready : {c : Context} {w w1 : Walk} {F : (ℕ → ℕ) → Both → Both} {j e i : ℕ} → e + i ≤ j → Ready j c w → Costs e e c w w1 F → Ready i c w1
-costs-ready {i = i} l h x = record { fine = h.fine; fit = x.fit i i (lower (omega arith) (omega arith) h.fit) }
+pub costs-ready : {c : Context} {w w1 : Walk} {F : (ℕ → ℕ) → Both → Both} {j e i : ℕ} → e + i ≤ j → Ready j c w → Costs e e e c w w1 F → Ready i c w1
+costs-ready {i = i} l h x = record { fine = h.fine; fit = x.fit i i i (lower (omega arith) (omega arith) (omega arith) h.fit) }
 
--- the scope is opened, the row is noted, and the name is bound
-pub unwound : {c : Context} {w w1 w2 w3 : Walk} {a b v x : ℕ} {r : Option (ℕ × ℕ)} → ShownTo (names_in c) ((world_at c (λ y. y)).row v) r → x ≡ name_in r → Steps 1 c w w1 (λ id. on_names (enter unwind_scope a b)) → Steps 0 c w1 w2 (λ id. noting (world_at c id) (v ∷ [])) →
-    Costs 1 3 c w2 w3 (λ id. on_names (bind_name x v value_kind)) → Steps 4 c w w3 (unwound_at c a b v)
-unfolding name_of
-unwound {c} {v = v} {x} shows q y n b =
-    let z : x ≡ row_name ((world_at c (λ y. y)).row v) = q ∙ rw shows.same (name-as ((world_at c (λ y. y)).row v)) in
-    as-steps _ (more-costs (omega arith) (omega arith) (then-steps (then-steps y n) b)) (λ id s. rw z)
+-- the scope is opened, the place of the name is found, and the name is bound there
+pub unwound : {c : Context} {w w1 w2 w3 : Walk} {a b v x : ℕ} {again : Bool} → Steps 1 c w w1 (λ id. on_names (enter unwind_scope a b)) → Placed c v w1 w2 x → Binds c w2 w3 x v value_kind again → Steps 4 c w w3 (unwound_at c a b v)
+unwound y p b = as-steps _ (more-costs (omega arith) (omega arith) (omega arith) (then-steps (then-steps y p.costs) b.costs)) (λ id s. rw (p.name id))
 
 -- ---- a yield
 -- the name that is bound, as the code chooses it
@@ -90,26 +85,29 @@ unfolding yield_name
 yields x None p = p
 yields x (Some y) p = p
 
--- the name that is bound is in range
-pub yield-below : (x y n names : ℕ) → n ≤ names → x < n → y < n + 1 → yield_name x (alias_of y) < names
+-- the name that is bound is one of the sheet's
+yield-below : (x y n : ℕ) → x < n → y < n + 1 → yield_name x (alias_of y) < n
 unfolding yield_name
-yield-below x zero n names l h k = omega arith
-yield-below x (suc y) n names l h k = omega arith
+yield-below x zero n h k = omega arith
+yield-below x (suc y) n h k = omega arith
+
+pub yield-listed : {c : Context} {w : Walk} {e t u x y r : ℕ} → Fits e t u c w → r ≡ yield_name x (alias_of y) → x < names_in c → y < names_in c + 1 → r < w.rowless.listed
+yield-listed {c} {x = x} {y} f q h k = omega (arith, q, yield-below x y (names_in c) h k, f.listed)
 
 pub yield-as : (c : Context) (a b : ℕ) (id : ℕ → ℕ) (s : Both) (r : List ℕ) →
-    yield_at c a b id s r ≡ bind (word_in 0 (names_in c) r) (λ x r1. bind (word_in 0 (names_in c + 1) r1) (λ y r2. bind (any_word r2) (λ v r3. ok (on_names (bind_anew (world_at c id) a b (yield_name x (alias_of y)) v value_kind) s) r3)))
+    yield_at c a b id s r ≡ bind (word_in 0 (names_in c) r) (λ x r1. bind (word_in 0 (names_in c + 1) r1) (λ y r2. bind (any_word r2) (λ v r3. ok (on_names (bind_anew (world_at c id) a b (indexed (yield_name x (alias_of y))) v value_kind) s) r3)))
 unfolding yield_go read_yield
 yield-as c a b id s r = rw (add-one (names_in c)) (first (word_in 0 (names_in c) r))
   where
-    third : (x y : ℕ) (g : Got ℕ) → bind (bind g (λ v r3. ok (yield x (alias_of y) v) r3)) (λ y r2. ok (yielded (world_at c id) (names_in c) names_alone a b y s) r2) ≡ bind g (λ v r3. ok (on_names (bind_anew (world_at c id) a b (yield_name x (alias_of y)) v value_kind) s) r3)
+    third : (x y : ℕ) (g : Got ℕ) → bind (bind g (λ v r3. ok (yield x (alias_of y) v) r3)) (λ y r2. ok (yielded (world_at c id) (names_in c) names_alone a b y s) r2) ≡ bind g (λ v r3. ok (on_names (bind_anew (world_at c id) a b (indexed (yield_name x (alias_of y))) v value_kind) s) r3)
     third x y (ok v r) = refl
     third x y (no e) = refl
 
-    second : (x : ℕ) (g : Got ℕ) → bind (bind g (λ y r2. bind (any_word r2) (λ v r3. ok (yield x (alias_of y) v) r3))) (λ y r2. ok (yielded (world_at c id) (names_in c) names_alone a b y s) r2) ≡ bind g (λ y r2. bind (any_word r2) (λ v r3. ok (on_names (bind_anew (world_at c id) a b (yield_name x (alias_of y)) v value_kind) s) r3))
+    second : (x : ℕ) (g : Got ℕ) → bind (bind g (λ y r2. bind (any_word r2) (λ v r3. ok (yield x (alias_of y) v) r3))) (λ y r2. ok (yielded (world_at c id) (names_in c) names_alone a b y s) r2) ≡ bind g (λ y r2. bind (any_word r2) (λ v r3. ok (on_names (bind_anew (world_at c id) a b (indexed (yield_name x (alias_of y))) v value_kind) s) r3))
     second x (ok y r) = third x y (any_word r)
     second x (no e) = refl
 
     first : (g : Got ℕ) → bind (bind g (λ x r1. bind (word_in 0 (suc (names_in c)) r1) (λ y r2. bind (any_word r2) (λ v r3. ok (yield x (alias_of y) v) r3)))) (λ y r2. ok (yielded (world_at c id) (names_in c) names_alone a b y s) r2)
-        ≡ bind g (λ x r1. bind (word_in 0 (suc (names_in c)) r1) (λ y r2. bind (any_word r2) (λ v r3. ok (on_names (bind_anew (world_at c id) a b (yield_name x (alias_of y)) v value_kind) s) r3)))
+        ≡ bind g (λ x r1. bind (word_in 0 (suc (names_in c)) r1) (λ y r2. bind (any_word r2) (λ v r3. ok (on_names (bind_anew (world_at c id) a b (indexed (yield_name x (alias_of y))) v value_kind) s) r3)))
     first (ok x r) = second x (word_in 0 (suc (names_in c)) r)
     first (no e) = refl

@@ -42,15 +42,15 @@ module _ (P : List ℕ → Both → List ℕ → Got (Both × List ℕ)) (R : Go
   after-word (ok a r) = after-expr a (E r)
   after-word (no e) = refl
 
-module _ (w : World) (t : ℕ) (m : Mode) (f : Both → Both) where
+module _ (w : World) (names : ℕ) (m : Mode) (f : Both → Both) where
   abbrev one : Go
-  one s r = bind (word_in 0 (suc t) r) (λ a r1. within w t m general s r1)
+  one s r = bind (word_in 0 (suc names) r) (λ a r1. within w names m general s r1)
 
-  outputs-as : (n : ℕ) (xs : List ℕ) (s : Both) (r : List ℕ) → bind (projections_go w t aliased m n xs s r) (λ x r2. ok (f x.0) r2) ≡ bind (rounds n one s r) (λ u r2. ok (f u) r2)
+  outputs-as : (n : ℕ) (xs : List ℕ) (s : Both) (r : List ℕ) → bind (projections_go w names aliased m n xs s r) (λ x r2. ok (f x.0) r2) ≡ bind (rounds n one s r) (λ u r2. ok (f u) r2)
   unfolding projections_go rounds
   outputs-as zero xs s r = refl
   outputs-as (suc n) xs s r =
-      after-word (projections_go w t aliased m n) (rounds n one) f (outputs-as n) (within w t m general s) (λ a. xs ++ alias_in (alias_of a)) (word_in 0 (suc t) r)
+      after-word (projections_go w names aliased m n) (rounds n one) f (outputs-as n) (within w names m general s) (λ a. xs ++ alias_in (alias_of a)) (word_in 0 (suc names) r)
 
 -- ---- a RETURN
 -- what is walked from outside the scope, and then its scope is current

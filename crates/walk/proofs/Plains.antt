@@ -153,11 +153,11 @@ unfolding rest_go rounds
 simple-rest w E m f c u s r h =
     rw (h.inner w E m s r, h.items) (ends (row_go (E m) (kids_of f) (settings w.is_id f c) s r) (tail_of m f u) (h.tail m u))
 
-pub plain-expr : (w : World) (t : ℕ) (d : ℕ) (m : Mode) (code a : ℕ) (c : Setting) (s : Both) (r p : List ℕ) → 0 < shape code → a ≤ limit code → read_form t r ≡ ok (headed code a) p → expr_go w t (suc d) m c s r ≡ row_go (expr_go w t d m) (parts_of (shape code) a) (settings w.is_id (headed code a) c) (head_of w m (headed code a) c s) p
+pub plain-expr : (w : World) (names : ℕ) (d : ℕ) (m : Mode) (code a : ℕ) (c : Setting) (s : Both) (r p : List ℕ) → 0 < shape code → a ≤ limit code → read_form names r ≡ ok (headed code a) p → expr_go w names (suc d) m c s r ≡ row_go (expr_go w names d m) (parts_of (shape code) a) (settings w.is_id (headed code a) c) (head_of w m (headed code a) c s) p
 unfolding expr_go
-plain-expr w t d m code a c s r p h l q =
+plain-expr w names d m code a c s r p h l q =
     let k = law code a h l in
-    rw (q, ← k.kids) (simple-rest w (expr_go w t d) m (headed code a) c s (head_of w m (headed code a) c s) p k.simple)
+    rw (q, ← k.kids) (simple-rest w (expr_go w names d) m (headed code a) c s (head_of w m (headed code a) c s) p k.simple)
 
 -- ---- where the head does nothing
 abbrev empty : List Finding → Bool
