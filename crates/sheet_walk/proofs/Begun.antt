@@ -1,5 +1,5 @@
--- Where both walks begin, whatever they held before: they stand at the head with nothing visible and nothing said, and the Root is said
--- where it is wanted (`begins`).
+-- Where both walks begin, whatever they held before: they stand at the head with nothing visible and nothing said, each name of the sheet has its
+-- place, and the Root is said where it is wanted (`begins`).
 use Prim.Native.Nat.{ℕ, ◌+◌, ◌/◌, ◌<◌}
 use native.Mathlib.Omega.{arith}
 use mathlib.Core.Path.{◌≡◌, refl, ap, sym, ◌∙◌}
