@@ -10,11 +10,12 @@ use borrow.Author.Tests.{lt-ltb, le-ltb}
 use lib.Dec.{eqb}
 use lib.ListN.{length}
 use Rattle.expr.proofs.Inverse.{never}
-use Rattle.scope.specs.Graph.{scope}
+use Rattle.scope.specs.Graph.{scope, name}
 use Rattle.scope.specs.Flat.{parent_of}
-use Rattle.semantics.specs.Log.{Finding, finding, found, bound, write, Event, open', bind, carry, answer, find, finds_in, logs}
+use Rattle.finding.specs.Logged.{logged, logged_at}
+use Rattle.semantics.specs.Log.{Finding, found, bound, write, Event, open', bind, carry, answer, find, finds_in, logs}
 use Rattle.steps.specs.Said.{answered, event_of, event_at, events, findings, kept}
-use Rattle.lines.specs.Given.{finding_at, findings_in}
+use Rattle.lines.specs.Given.{findings_in}
 
 -- a log of which findings alone are kept
 kept-finds : (l : List Event) → kept false l ≡ map find (finds_in l)
@@ -27,16 +28,16 @@ kept-finds (answer a ∷ l) = kept-finds l
 kept-finds (find f ∷ l) = ap (λ k. find f ∷ k) (kept-finds l)
 
 -- six words that are a finding as an event are that finding
-is-find : (id : ℕ → ℕ) (tag a b c d e : ℕ) (f : Finding) → event_of id tag a b c d e ≡ find f → finding tag a b c d e ≡ f
-is-find id tag a b c d e f q = go (eqb tag 1) (eqb tag 2) (eqb tag 3) (eqb tag 4) (eqb tag 5) q
+is-find : (id : ℕ → ℕ) (tag a b c d e : ℕ) (f : Finding) → event_of id tag a b c d e ≡ find f → logged tag a b c d e ≡ f
+is-find id tag a b c d e f q = go (eqb tag 1) (eqb tag 2) (eqb tag 3) (eqb tag 4) (eqb tag 5) (logged tag a b c d e) q
   where
-    go : (i j k m n : Bool) → cond i (open' (scope a (parent_of b) c d)) (cond j (bind false false (bound a b c d)) (cond k (bind false true (bound a b c d)) (cond m (answer (write a (found a b 0))) (cond n (answer (write (id a) (answered b c d e))) (find (finding tag a b c d e)))))) ≡ find f → finding tag a b c d e ≡ f
-    go true j k m n q = never (cc)
-    go false true k m n q = never (cc)
-    go false false true m n q = never (cc)
-    go false false false true n q = never (cc)
-    go false false false false true q = never (cc)
-    go false false false false false q = cc
+    go : (i j k m n : Bool) (x : Finding) → cond i (open' (scope a (parent_of b) c d)) (cond j (bind false false (bound a (name e b) c d)) (cond k (bind false true (bound a (name e b) c d)) (cond m (answer (write a (found a b 0))) (cond n (answer (write (id a) (answered b c d e))) (find x))))) ≡ find f → x ≡ f
+    go true j k m n x q = never (cc)
+    go false true k m n x q = never (cc)
+    go false false true m n x q = never (cc)
+    go false false false true n x q = never (cc)
+    go false false false false true x q = never (cc)
+    go false false false false false x q = cc
 
 -- from the front
 fronted : (id : ℕ → ℕ) (n front : ℕ) (l : List ℕ) (fs : List Finding) → n ≤ front → events id n l ≡ map find fs → findings_in front n l ≡ reverse fs
@@ -47,7 +48,7 @@ fronted id (suc n) front l [] h e = never (cc)
 fronted id (suc n) front l (f ∷ fs) h e =
     let one : event_at id l (n * 6) ≡ find f = cc in
     let rest : events id n l ≡ map find fs = cc in
-    let same : finding_at l (n * 6) ≡ f = is-find id _ _ _ _ _ _ f one in
+    let same : logged_at l (n * 6) ≡ f = is-find id _ _ _ _ _ _ f one in
     rw (lt-ltb n front h, same, fronted id n front l fs (omega arith) rest) (sym (reverse-cons f fs))
 
 -- and then from the end
@@ -56,8 +57,8 @@ unfolding findings_in findings
 backed front zero l = rw (add-zero front) (sym (append-nil (findings_in front front l)))
 backed front (suc j) l =
     let z : front + j - front ≡ j = omega arith in
-    rw (add-suc front j, le-ltb (front + j) front (omega arith), z, backed front j l, reverse-cons (finding_at l (length l - suc j * 6)) (findings j l))
-    (append_assoc (findings_in front front l) (reverse (findings j l)) (finding_at l (length l - suc j * 6) ∷ []))
+    rw (add-suc front j, le-ltb (front + j) front (omega arith), z, backed front j l, reverse-cons (logged_at l (length l - suc j * 6)) (findings j l))
+    (append_assoc (findings_in front front l) (reverse (findings j l)) (logged_at l (length l - suc j * 6) ∷ []))
 
 finds-append : (a b : List Event) → finds_in (a ++ b) ≡ finds_in a ++ finds_in b
 unfolding logs

@@ -98,7 +98,7 @@ fn list_in(s: &[u8], warns: bool, scratch: &mut Scratch, page: &mut [u8]) -> Res
 
 // With scratch, all zeros: sixteen words for each of a sheet's words, 8 besides, and five for each binder that it may have.
 fn list(s: &[u8], warns: bool, scratch: &mut [u32], page: &mut [u8]) -> Result<usize, Refusal>
-    requires { (scratch_for (length (words s.now)) ≤ length scratch.old) × AllZero scratch.old }
+    requires { (scratch_for (length (words s.now)) ≤ length scratch.old) × ((length scratch.old ≤ 65536) × AllZero scratch.old) }
     ensures { WritesAsWord (listing warns s.now) page.old page.new result }
 {
     let n = count(s);
