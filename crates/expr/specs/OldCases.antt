@@ -1,7 +1,7 @@
 -- Expressions 25 in each place of an expression, counted. Edits of the count are refused here.
-use Rattle.std.specs.Prelude.{ℕ, ◌≡◌, refl, List, [], ◌∷◌, map, None}
+use Rattle.std.specs.Prelude.{◌≡◌, refl, [], ◌∷◌, map, None}
 use Rattle.heads.specs.declared.Form.TheVariants.{Leaf, Two, MapProjection}
-use Rattle.expr.specs.Tree.{Expr, node, predicate, comprehension, Exprs, done, more, mark, Steps, end, part, elem}
+use Rattle.expr.specs.Tree.{Expr, node, predicate, comprehension, done, more, mark, Steps, end, part, elem}
 use Rattle.expr.specs.Olds.{olds_e}
 
 -- one of them, and any other

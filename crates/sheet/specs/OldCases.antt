@@ -1,5 +1,5 @@
 -- Expressions 25 of whole sheets, counted: head and arms. Edits of the count are refused here.
-use Rattle.std.specs.Prelude.{ℕ, ◌≡◌, refl, List, [], ◌∷◌}
+use Rattle.std.specs.Prelude.{◌≡◌, refl, List, [], ◌∷◌}
 use Rattle.expr.specs.Olds.{olds_e}
 use Rattle.clauses.specs.Tree.{Clause, Arm, arm}
 use Rattle.clauses.specs.Olds.{olds_c, olds_cs, olds_a, olds_as}

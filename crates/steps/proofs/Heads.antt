@@ -5,11 +5,10 @@
 -- `found_name`; of one that is no use, `hushed-use`; then E1001, `missed-use`, `star-use`, `seen-use`. A head by its act: `by-act`, with `none-counted`; its
 -- cost: `some_cost`; after its parts, `closed-stays`, `closed-fits`, `closed-frame`, `closed-holds`.
 use Rattle.std.specs.Prelude.{Option, None, Some}
-use Prim.Native.Nat.{ℕ, zero, suc, ◌+◌, ◌≤◌, ◌<◌}
+use Prim.Native.Nat.{ℕ, zero, suc, ◌≤◌, ◌<◌}
 use lib.Dec.{eqb}
 use lib.ListN.{get_or}
 use native.Mathlib.Nat.{add-zero}
-use native.Mathlib.Numerals.{add-one}
 use native.Mathlib.Omega.{arith}
 use mathlib.Core.Path.{◌≡◌, refl, ap, sym, subst, ◌∙◌}
 use mathlib.Core.Bool.{Bool, true, false, cond, ◌&&◌}

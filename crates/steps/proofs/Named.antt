@@ -2,21 +2,20 @@
 -- (`same-named`), so what is visible is sought by its place (`lookup-named`, `binds-named`), the sheet's names by their indices (`named-index`,
 -- `lookup-index`); entries keep their names (`named-grows`) and their
 -- places (`below-more`, `below-less`).
-use Rattle.std.specs.Prelude.{Option, None, Some}
 use Prim.Native.Nat.{ℕ, zero, suc, ◌+◌, ◌-◌, ◌<◌, ◌≤◌}
 use native.Mathlib.Omega.{arith}
 use mathlib.Core.Path.{◌≡◌, refl, ap, sym, subst, ◌∙◌}
-use mathlib.Core.Bool.{Bool, true, false, cond, ◌&&◌, ◌||◌}
+use mathlib.Core.Bool.{Bool, true, false, cond}
 use mathlib.Core.List.{List, [], ◌∷◌}
 use lib.Dec.{T, eqb, ltb}
-use borrow.Author.Tests.{eqb-true, eqb-false, ne_eqb, ltb-true, ltb-false}
+use borrow.Author.Tests.{eqb-true, eqb-false, ltb-true, ltb-false}
 use Rattle.scope.specs.Graph.{Name, name, indexed, generated, same_name}
-use Rattle.semantics.specs.Resolve.{Hit, hit, Seen, seen, lookup, binds}
+use Rattle.semantics.specs.Resolve.{Seen, seen, lookup, binds}
 use Rattle.theorems.proofs.Names.{same→eq, same_refl}
 use Rattle.rowless.specs.Rowless.{variable_at, named, places, Sound, Grows, Still}
 use Rattle.rowless.specs.declared.Rowless.{Rowless}
 use Rattle.visible.specs.Visible.{seens}
-use Rattle.steps.specs.Named.{name_of, as_named, Below}
+use Rattle.steps.specs.Named.{as_named, Below}
 
 pub unmoved-idle : {r : Rowless} → Still r r
 unmoved-idle = record { hung = refl; listed = refl; slots = refl; room = refl }

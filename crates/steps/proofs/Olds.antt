@@ -1,5 +1,5 @@
 -- Laws of expressions 25: one shows nothing, whichever walk looks (`old-head`), so it is counted and no more (`counts-old`).
-use Prim.Native.Nat.{ℕ, ◌+◌, ◌≤◌}
+use Prim.Native.Nat.{ℕ, ◌+◌}
 use borrow.Author.Tests.{eqb-true}
 use native.Mathlib.Omega.{arith}
 use mathlib.Core.Path.{◌≡◌, refl, ap, sym}

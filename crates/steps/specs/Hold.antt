@@ -1,6 +1,5 @@
 -- How both walks' state stands in the walk of the code, and what a step does to it.
 use Rattle.std.specs.Prelude.{ℕ, suc, ◌+◌, ◌*◌, ◌<◌, ◌≤◌, ◌≡◌, Bool, true, false, not, ◌&&◌, List, [], ◌∷◌, eqb, length, get_or, Option, None, Some}
-use Rattle.scope.specs.Answer as scopes
 use Rattle.scope.specs.Graph.{comprehension_scope, indexed}
 use Rattle.scope.specs.declared.Name.{Name}
 use Rattle.heads.specs.declared.Form.{Form}

@@ -1,5 +1,5 @@
 -- Names of variables without a row, computed. An edit of their text is refused here.
-use Rattle.std.specs.Prelude.{◌≡◌, refl, List, [], ◌∷◌, map}
+use Rattle.std.specs.Prelude.{◌≡◌, refl, [], ◌∷◌, map}
 use Rattle.words.specs.Decimal.{low_digits, width_within, width, decimal}
 use Rattle.tables.specs.VarName.{var_name}
 

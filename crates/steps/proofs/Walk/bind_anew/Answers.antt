@@ -1,6 +1,6 @@
 -- The name is bound, and E1002 follows where the scope binds it already and warnings are on (`anew`, `anew-not`, `anew-no`).
 use native.Mathlib.Omega.{arith}
-use mathlib.Core.Path.{ap, ◌∙◌}
+use mathlib.Core.Path.{ap}
 use Rattle.rowless.specs.Rowless.{places}
 use Rattle.steps.proofs.Numbers.{row-number}
 use Rattle.steps.proofs.Shown.{places_small}
