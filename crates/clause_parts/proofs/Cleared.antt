@@ -1,7 +1,7 @@
 -- Of the visible names the first `top` stay (`cut_still`, `cut_fits`, `cut_holds`; they descend as all of them did: `below-descends`), or none
 -- (`cleared-fits`, `cleared`: an arm, a WITH); a step in a mode that resolves names is one of names alone (`names-step`).
 use Rattle.std.specs.Prelude.{None}
-use Prim.Native.Nat.{ℕ, zero, suc, ◌+◌, ◌-◌, ◌*◌, ◌≤◌}
+use Prim.Native.Nat.{ℕ, zero, suc, ◌+◌, ◌-◌, ◌≤◌}
 use native.Mathlib.Omega.{arith}
 use mathlib.Core.Path.{◌≡◌, refl, ap, subst, sym}
 use mathlib.Core.Bool.{Bool, true, false}
