@@ -19,7 +19,6 @@ use Rattle.clauses.specs.Read.{max_depth}
 use Rattle.clauses.specs.Well.{Each, WellMany, WellClause}
 use Rattle.tables.specs.Row.{Row, row}
 use Rattle.sheet.specs.Statement.{Statement}
-use Rattle.sheet.specs.Read.{any_binder}
 use Rattle.sheet.specs.Write.{WellRow, WellStatement}
 use Rattle.semantics.specs.Log.{Finding, finding}
 use Rattle.semantics.specs.World.{World, world_of}
@@ -159,7 +158,7 @@ module _ (warns : Bool) (st : Statement) (rows : Each (WellRow (length st.names)
   mutual
     unfolding kinds_e WellE world_of
 
-    gives-E : (t : Expr) (room : ℕ) (c : Setting) → WellE (any_binder size) t room → Known st.names c → Gives st.names (kinds_e w t c)
+    gives-E : (t : Expr) (room : ℕ) (c : Setting) → WellE size t room → Known st.names c → Gives st.names (kinds_e w t c)
     gives-E (var v) room c h g = gives_row st.names c (w.row v) g (row_in size v st.bindings rows)
     gives-E (unresolved x) room c h g = nil
     gives-E (node f es) room c h g =
@@ -167,29 +166,29 @@ module _ (warns : Bool) (st : Statement) (rows : Each (WellRow (length st.names)
     gives-E (predicate s) room c h g = join (gives-type st.names c 7 g (omega arith)) (gives-S s (room - 1) h.2)
     gives-E (comprehension a b s es) room c h g = join (gives-S s (room - 1) h.3) (gives-Es es 0 (room - 1) plain h.6 (tt, tt))
 
-    gives-Es : (t : Exprs) (kind room : ℕ) (p : Pair) → Wells (any_binder size) kind t room → Both st.names p → Gives st.names (kinds_es w t p)
+    gives-Es : (t : Exprs) (kind room : ℕ) (p : Pair) → Wells size kind t room → Both st.names p → Gives st.names (kinds_es w t p)
     gives-Es done kind room p h g = nil
     gives-Es (more e es) kind room (both c d) h g = join (gives-E e room c h.0 g.0) (gives-Es es kind room (both d d) h.1 (g.1, g.1))
     gives-Es (mark m es) kind room p h g = gives-Es es kind room p h.2 g
 
-    gives-S : (t : Steps) (room : ℕ) → WellS (any_binder size) t room → Gives st.names (kinds_s w t)
+    gives-S : (t : Steps) (room : ℕ) → WellS size t room → Gives st.names (kinds_s w t)
     gives-S end room h = nil
     gives-S (part p s) room h = join (gives-path st.names (row_for w p) (row-for p)) (gives-S s room h.2)
     gives-S (elem k a b v es s) room h =
         join (gives-elem st.names k a b (row_for w v) h.0.0 h.0.1 (row-for v)) (join (gives-Es es 0 room plain h.5 (tt, tt)) (gives-S s room h.6))
 
-  gives-C : (t : Clause) → WellClause (any_binder size) t → Gives st.names (kinds_c w t)
+  gives-C : (t : Clause) → WellClause size t → Gives st.names (kinds_c w t)
   unfolding kinds_c WellClause WellMany WellPattern
   gives-C (opening o a b s) h = gives-S s max_depth h.2.1
-  gives-C (reading r a b es) h = gives-Es es (kind_of r) max_depth plain (reading-well (any_binder size) r es h.1) (tt, tt)
+  gives-C (reading r a b es) h = gives-Es es (kind_of r) max_depth plain (reading-well size r es h.1) (tt, tt)
   gives-C (with' a b ps f ks) h =
-      join (gives-Es (exprs ps f) 0 max_depth plain (row-well (any_binder size) ps f h.1.1 h.4) (tt, tt)) (gives-Es (keys_of ks) 0 max_depth plain (keys-well (any_binder size) ks h.5) (tt, tt))
+      join (gives-Es (exprs ps f) 0 max_depth plain (row-well size ps f h.1.1 h.4) (tt, tt)) (gives-Es (keys_of ks) 0 max_depth plain (keys-well size ks h.5) (tt, tt))
   gives-C (return a b ps ks) h =
-      join (gives-Es (exprs ps done) 0 max_depth plain (row-well (any_binder size) ps done h.1.1 (done-well (any_binder size))) (tt, tt)) (gives-Es (keys_of ks) 0 max_depth plain (keys-well (any_binder size) ks h.2) (tt, tt))
-  gives-C (unwind a b v e) h = gives-E e max_depth general h.3 tt
-  gives-C (call a b es ys) h = gives-Es es 0 max_depth plain (reading-well (any_binder size) clause.delete es h.1) (tt, tt)
+      join (gives-Es (exprs ps done) 0 max_depth plain (row-well size ps done h.1.1 (done-well size)) (tt, tt)) (gives-Es (keys_of ks) 0 max_depth plain (keys-well size ks h.2) (tt, tt))
+  gives-C (unwind a b v e) h = gives-E e max_depth general h.2 tt
+  gives-C (call a b es ys) h = gives-Es es 0 max_depth plain (reading-well size clause.delete es h.1) (tt, tt)
 
-  gives-Cs : (ts : List Clause) → Each (WellClause (any_binder size)) ts → Gives st.names (kinds w ts)
+  gives-Cs : (ts : List Clause) → Each (WellClause size) ts → Gives st.names (kinds w ts)
   unfolding kinds Each
   gives-Cs [] h = nil
   gives-Cs (t ∷ ts) h = join (gives-C t h.0) (gives-Cs ts h.1)

@@ -16,7 +16,6 @@ use Rattle.clauses.specs.Read.{max_depth}
 use Rattle.clauses.specs.Well.{Each, WellAlias, WellYield, WellMany, WellClause, WellArm}
 use Rattle.tables.specs.Row.{path_kind, value_kind, Row, row}
 use Rattle.sheet.specs.Statement.{Statement}
-use Rattle.sheet.specs.Read.{any_binder}
 use Rattle.sheet.specs.Write.{WellRow, WellStatement}
 use Rattle.semantics.specs.Log.{Finding, Event, open', bind, carry, answer, find, finds_in, logs}
 use Rattle.semantics.specs.World as Walk
@@ -106,7 +105,7 @@ module _ (warns : Bool) (st : Statement) (rows : Each (WellRow (length st.names)
     mutual
       unfolding resolve WellE
 
-      fine-E : (t : Expr) (room : ℕ) (s : State) → WellE (any_binder size) t room → Says s → Says (resolve w' t s)
+      fine-E : (t : Expr) (room : ℕ) (s : State) → WellE size t room → Says s → Says (resolve w' t s)
       fine-E (var v) room s h k = fine-var v (w'.row v) s k
       fine-E (unresolved x) room s h k = fine-visit (hushed x) x (lookup (indexed x) s.visible) s h.1 k
       fine-E (node f es) room s h k = fine-Es es 0 (room - 1) s h.5 k
@@ -115,24 +114,24 @@ module _ (warns : Bool) (st : Statement) (rows : Each (WellRow (length st.names)
           let t = enter comprehension_scope a b s in
           fine-Es es 0 (room - 1) (bind_pattern w' p t) h.6 (fine-S p (room - 1) t h.3 (cons tt k))
 
-      fine-Es : (t : Exprs) (kind room : ℕ) (s : State) → Wells (any_binder size) kind t room → Says s → Says (resolves w' t s)
+      fine-Es : (t : Exprs) (kind room : ℕ) (s : State) → Wells size kind t room → Says s → Says (resolves w' t s)
       fine-Es done kind room s h k = k
       fine-Es (more e es) kind room s h k = fine-Es es kind room (resolve w' e s) h.1 (fine-E e room s h.0 k)
       fine-Es (mark m es) kind room s h k = fine-Es es kind room s h.2 k
 
-      fine-S : (t : Steps) (room : ℕ) (s : State) → WellS (any_binder size) t room → Says s → Says (bind_pattern w' t s)
+      fine-S : (t : Steps) (room : ℕ) (s : State) → WellS size t room → Says s → Says (bind_pattern w' t s)
       fine-S end room s h k = k
       fine-S (part p r) room s h k = fine-S r room (bind_path w' (variable p) s) h.2 (fine-path p s k)
       fine-S (elem j a b v es r) room s h k =
           let t = bind_elem w' j (variable v) s in
           fine-S r room (resolves w' es t) h.6 (fine-Es es 0 room t h.5 (fine-elem j v s k))
 
-  yield-name : (x : ℕ) (o : Option ℕ) → x < size → WellAlias (any_binder size) o → yield_name x o < size
+  yield-name : (x : ℕ) (o : Option ℕ) → x < size → WellAlias size o → yield_name x o < size
   unfolding yield_name WellAlias
   yield-name x None h g = h
   yield-name x (Some y) h g = g
 
-  fine-yields : (a b : ℕ) (ys : List Yield) (s : State) → Each (WellYield (any_binder size)) ys → Says s → Says (yields w a b ys s)
+  fine-yields : (a b : ℕ) (ys : List Yield) (s : State) → Each (WellYield size) ys → Says s → Says (yields w a b ys s)
   unfolding yields Each WellYield
   fine-yields a b [] s h k = k
   fine-yields a b (yield x y v ∷ ys) s h k =
@@ -148,27 +147,27 @@ module _ (warns : Bool) (st : Statement) (rows : Each (WellRow (length st.names)
   fine-binds [] s k = k
   fine-binds (pair x v ∷ ps) s k = fine-binds ps (bind_over true x v (Walk.kind_of w v) s) (cons tt k)
 
-  fine-C : (t : Clause) (s : State) → WellClause (any_binder size) t → Says s → Says (clause w t s)
+  fine-C : (t : Clause) (s : State) → WellClause size t → Says s → Says (clause w t s)
   unfolding clause WellClause WellMany WellPattern barrier fresh sort_by
   fine-C (opening o a b p) s h k = fine-S w.hushed p max_depth (enter (opens o) a b s) h.2.1 (cons tt k)
-  fine-C (reading r a b es) s h k = fine-Es w.hushed es (kind_of r) max_depth s (reading-well (any_binder size) r es h.1) k
+  fine-C (reading r a b es) s h k = fine-Es w.hushed es (kind_of r) max_depth s (reading-well size r es h.1) k
   fine-C (with' a b ps f ks) s h k =
       let c = carried_by w ps s.visible in
-      let r = fine-Es w.hushed (exprs ps f) 0 max_depth s (row-well (any_binder size) ps f h.1.1 h.4) k in
-      fine-Es w.hushed (keys_of ks) 0 max_depth _ (keys-well (any_binder size) ks h.5) (fine-binds c _ (cons tt (fine-carries c _ (cons tt r))))
+      let r = fine-Es w.hushed (exprs ps f) 0 max_depth s (row-well size ps f h.1.1 h.4) k in
+      fine-Es w.hushed (keys_of ks) 0 max_depth _ (keys-well size ks h.5) (fine-binds c _ (cons tt (fine-carries c _ (cons tt r))))
   fine-C (return a b ps ks) s h k =
       let t = leave s (enter return_scope a b s) in
-      let r = fine-Es w.hushed (exprs ps done) 0 max_depth t (row-well (any_binder size) ps done h.1.1 (done-well (any_binder size))) (cons tt k) in
-      fine-Es (λ x. is_in x (aliases ps)) (keys_of ks) 0 max_depth _ (keys-well (any_binder size) ks h.2) r
+      let r = fine-Es w.hushed (exprs ps done) 0 max_depth t (row-well size ps done h.1.1 (done-well size)) (cons tt k) in
+      fine-Es (λ x. is_in x (aliases ps)) (keys_of ks) 0 max_depth _ (keys-well size ks h.2) r
   fine-C (unwind a b v e) s h k = cons tt (cons tt k)
   fine-C (call a b es ys) s h k = fine-yields a b ys (enter call_scope a b s) h.2.1 (cons tt k)
 
-  fine-Cs : (ts : List Clause) (s : State) → Each (WellClause (any_binder size)) ts → Says s → Says (clauses w ts s)
+  fine-Cs : (ts : List Clause) (s : State) → Each (WellClause size) ts → Says s → Says (clauses w ts s)
   unfolding clauses Each
   fine-Cs [] s h k = k
   fine-Cs (t ∷ ts) s h k = fine-Cs ts (clause w t s) h.1 (fine-C t s h.0 k)
 
-  fine-As : (ts : List Arm) (s : State) → Each (WellArm (any_binder size)) ts → Says s → Says (arms w ts s)
+  fine-As : (ts : List Arm) (s : State) → Each (WellArm size) ts → Says s → Says (arms w ts s)
   unfolding arms Each WellArm WellMany
   fine-As [] s h k = k
   fine-As (arm a b cs ∷ ts) s h k = fine-As ts (clauses w cs (standing [] 0 s)) h.1 (fine-Cs cs (standing [] 0 s) h.0.1.1 k)
