@@ -1,5 +1,5 @@
 -- What the walk over a clause does.
-use Rattle.std.specs.Prelude.{ℕ, true, false, [], ◌∷◌}
+use Rattle.std.specs.Prelude.{ℕ, true, false, []}
 use Rattle.scope.specs.Graph.{unwind_scope}
 use Rattle.heads.specs.Got.{bind, flag}
 use Rattle.tables.specs.Row.{value_kind}
