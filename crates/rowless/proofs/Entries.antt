@@ -1,6 +1,6 @@
 -- Laws of the entries: one is found along its chain (`finds`), one more is added (`adds`), a place has its name (`named-listed`,
 -- `named-entry`), and a name gets its place (`place-new`).
-use Rattle.std.proofs.Common.{ℕ, suc, ◌≡◌, ◌≢◌, ◌+◌, ◌-◌, ◌*◌, ◌/◌, ◌^◌, ◌<◌, ◌≤◌, Bool, true, false, cond, List, length, get_or, set, refl, sym, ap, ◌∙◌, arith}
+use Rattle.std.proofs.Common.{ℕ, suc, ◌≡◌, ◌≢◌, ◌+◌, ◌-◌, ◌*◌, ◌/◌, ◌^◌, ◌<◌, ◌≤◌, Bool, true, false, cond, List, length, get_or, set, refl, sym, subst, ap, ◌∙◌, arith}
 use Rattle.std.specs.Prelude.{Option, None, Some}
 use Rattle.std.proofs.lemmas.List.{length-set, get_or-set_same, get_or-set_other}
 use borrow.Author.Count.{below_more}
@@ -8,10 +8,10 @@ use borrow.Author.Tests.{lt-ltb, le-ltb, ltb-false}
 use lib.Dec.{ltb}
 use Rattle.scope.specs.Graph.{indexed, generated}
 use Rattle.semantics.specs.World.{listed_name}
-use Rattle.rows.specs.Rows.{seek, number_of, Hangs}
-use Rattle.rows.proofs.Chains.{seek-le, seek_hit, seek-miss, chained-alike}
+use Rattle.rows.specs.Rows.{keyed, seek, number_of, Hangs}
+use Rattle.rows.proofs.Chains.{seek-le, seek_hit, seek-miss, none-chained, chained-alike}
 use Rattle.rowless.specs.Slot.{slot_of}
-use Rattle.rowless.specs.Rowless.{variable_at, place_at, named, places, most, Sound, Lacks, Right, Still, Finds, Room, Adds, Places}
+use Rattle.rowless.specs.Rowless.{variable_at, place_at, named, places, most, Sound, Lacks, Right, Still, Finds, Room, Chosen, Adds, Places}
 use Rattle.rowless.specs.declared.Rowless.{Rowless}
 
 pub finds : (r : Rowless) (v : ℕ) (o : Option ℕ) → number_of o ≡ seek (variable_at r.entries.now) v r.count → Finds r v o
@@ -19,9 +19,35 @@ finds r v (Some i) e =
     (omega (arith, seek-le (variable_at r.entries.now) v r.count), seek_hit (variable_at r.entries.now) v r.count i (sym e))
 finds r v None e = λ i h q. seek-miss (variable_at r.entries.now) v r.count i (sym e) h q
 
+-- where there is no entry, any multiplier does
+pub chosen : (r : Rowless) (k : ℕ) → r.count ≡ 0 → Sound r → Sound (record r { mult = k })
+chosen r k e s = record {
+  some = s.some;
+  small = s.small;
+  few = s.few;
+  room = s.room;
+  chained = rw e (none-chained (slot_of k (most r)) (variable_at r.entries.now) (most r) r.chains.now (omega (arith, s.chained.room)) (λ b h. omega (arith, s.chained.heads b h, seek-le (keyed (slot_of r.mult (most r)) (variable_at r.entries.now)) b r.count)));
+  apart = s.apart;
+  placed = s.placed;
+}
+
+pub re-room : {v x : ℕ} {old mid : Rowless} → Room v x old → Chosen old mid → Room v x mid
+re-room {v} {x} {old} {mid} r c = record {
+  sound = c.sound;
+  lacks = subst (λ (m : Rowless). Lacks m v) (sym c.same) r.lacks;
+  few = omega (arith, r.few, ap (λ (m : Rowless). m.count) c.same, ap most c.same);
+  placed = omega (arith, r.placed, ap places c.same);
+}
+
+pub re-adds : {v x : ℕ} {old mid new : Rowless} → Chosen old mid → Adds v x mid new → Adds v x old new
+re-adds {v} {x} {old} {mid} {new} c a = go mid.mult (subst (λ (m : Rowless). Adds v x m new) c.same a)
+  where
+    go : (k : ℕ) → Adds v x (record old { mult = k }) new → Adds v x old new
+    go k a = record { still = record { hung = a.still.hung; listed = a.still.listed; slots = a.still.slots; room = a.still.room }; listed = a.listed; count = a.count; sound = a.sound; variable = a.variable; place = a.place; variables = a.variables; places = a.places }
+
 -- one entry more, as the code writes it
 module _ (v x slot : ℕ) (old new : Rowless) (room : Room v x old) (still : Still old new) (listed : new.listed ≡ old.listed) (count : new.count ≡ suc old.count)
-    (hangs : Hangs (most old) slot old.count old.chains.now new.chains.now) (here : slot ≡ slot_of (most old) v)
+    (hangs : Hangs (most old) slot old.count old.chains.now new.chains.now) (mult : new.mult ≡ old.mult) (here : slot ≡ slot_of old.mult (most old) v)
     (written : new.entries.now ≡ set (set old.entries.now (old.count * 2) v) (old.count * 2 + 1) x) where
   abbrev n : ℕ
   n = old.count
@@ -71,7 +97,7 @@ module _ (v x slot : ℕ) (old new : Rowless) (room : Room v x old) (still : Sti
     small = rw slots sound.small;
     few = omega (arith, slots, room.few);
     room = omega (arith, slots, sound.room, still.room);
-    chained = rw (slots, count) (hangs.chained (slot_of (most old)) (variable_at new.entries.now) (rw variable here) (chained-alike (λ i h. sym (variables i h)) sound.chained));
+    chained = rw (slots, count, mult) (hangs.chained (slot_of old.mult (most old)) (variable_at new.entries.now) (rw variable here) (chained-alike (λ i h. sym (variables i h)) sound.chained));
     apart = λ i j l h. apart j (omega arith) i l;
     placed = λ i h. within i (omega arith);
   }

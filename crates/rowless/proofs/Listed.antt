@@ -82,7 +82,7 @@ module _ {names : List (List ℕ)} {old r : Rowless} where
           small = rw slots f.small;
           few = omega arith;
           room = omega (arith, f.room, still.room, slots);
-          chained = rw (slots, none) (none-chained (slot_of (most old)) (variable_at r.entries.now) (most old) r.chains.now (omega (arith, still.slots)) (rw same f.clear));
+          chained = rw (slots, none) (none-chained (slot_of r.mult (most old)) (variable_at r.entries.now) (most old) r.chains.now (omega (arith, still.slots)) (rw same f.clear));
           apart = λ i j l h. absurd (omega arith);
           placed = λ i h. absurd (omega arith);
         };

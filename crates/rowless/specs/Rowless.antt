@@ -37,7 +37,7 @@ pub record Sound (r : Rowless) : Type 0 where
   pub small : most r < 2 ^ 31
   pub few : r.count ≤ most r
   pub room : most r * 2 ≤ length r.entries.now
-  pub chained : Chained (slot_of (most r)) (most r) r.count (variable_at r.entries.now) r.chains.now
+  pub chained : Chained (slot_of r.mult (most r)) (most r) r.count (variable_at r.entries.now) r.chains.now
   pub apart : (i j : ℕ) → i < j → j < r.count → variable_at r.entries.now i ≡ variable_at r.entries.now j → ⊥
   pub placed : (i : ℕ) → i < r.count → place_at r.entries.now i < places r
 
@@ -85,6 +85,11 @@ pub record Adds (v x : ℕ) (old new : Rowless) : Type 0 where
   pub place : place_at new.entries.now old.count ≡ x
   pub variables : (i : ℕ) → i < old.count → variable_at new.entries.now i ≡ variable_at old.entries.now i
   pub places : (i : ℕ) → i < old.count → place_at new.entries.now i ≡ place_at old.entries.now i
+
+-- another multiplier, where there is no entry yet
+pub record Chosen (old new : Rowless) : Type 0 where
+  pub same : new ≡ record old { mult = new.mult }
+  pub sound : Sound new
 
 -- x is the place of the name of a variable without a row
 pub record Places (v : ℕ) (old new : Rowless) (x : ℕ) : Type 0 where

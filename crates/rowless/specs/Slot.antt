@@ -1,6 +1,10 @@
--- The slot of a variable, one of m: a product modulo 2^32, scaled down to m. Nothing is proved of it but that it is below m, so another hash can
+-- The slot of a variable, one of m: two products modulo 2^32, the first by a multiplier of the sheet's, scaled down to m. Nothing is proved of it but that it is below m, so another hash can
 -- take its place.
 use Rattle.std.specs.Prelude.{ℕ, ◌*◌, ◌/◌, ◌%◌, ◌^◌}
+use Rattle.std.specs.Int.Bits.{bit_xor}
 
-unfoldable pub slot_of : (m v : ℕ) → ℕ
-slot_of m v = v * 2654435769 % 2 ^ 32 * m / 2 ^ 32
+abbrev pub mixed : ℕ → ℕ
+mixed h = bit_xor h (h / 2 ^ 15)
+
+unfoldable pub slot_of : (mult m v : ℕ) → ℕ
+slot_of mult m v = mixed (v * mult % 2 ^ 32) * 2654435769 % 2 ^ 32 * m / 2 ^ 32

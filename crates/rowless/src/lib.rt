@@ -1,18 +1,21 @@
 // The places of names in the words of a walk: the sheet's names by their indices, then a place for each variable that has no row in the binding
 // table and whose name is none of the sheet's. Such variables are found by chains, as rows are: the lent words hold for each slot its newest entry
 // (its number + 1, or 0), then for each entry the one before it in its chain; an entry is a variable and the place of its name.
-// Which variables share a slot follows from their ids; only the time rests on it, never the answer.
+// Which variables share a slot follows from their ids and a multiplier, which the first entry brings: it is made from all words that there are,
+// so it differs from sheet to sheet. Only the time rests on it, never the answer.
 #![tactic(auto)]
 
 ghost use Rattle.std.specs.Prelude.{◌≡◌, ◌+◌, ◌*◌, ◌/◌, ◌^◌, ◌<◌, ◌≤◌, length};
+ghost use Rattle.words.specs.Words.{words};
 ghost use Rattle.scope.specs.Answer.{name_of};
 ghost use Rattle.tables.specs.Answer.{names_at};
 ghost use Rattle.rowless.specs.Slot.{slot_of};
-ghost use Rattle.rowless.specs.Rowless.{named, places, most, Sound, Finds, Room, Adds, Places, Fresh, Begins};
+ghost use Rattle.rowless.specs.Rowless.{named, places, most, Sound, Finds, Room, Chosen, Adds, Places, Fresh, Begins};
 
-use rows::{hang, newest_in};
+use rows::{hang, multiplier, newest_in};
 use scope::Name;
 use tables::{name_at, var_id};
+use words::{count, word};
 
 // The entries in lent words, how many there are, and how many names the sheet has.
 #[derive(Drop)]
@@ -21,16 +24,19 @@ pub struct Rowless<'a> {
     pub entries: &'a mut [u32],
     pub listed: u32,
     pub count: u32,
+    pub mult: u32,
 }
 
 // The slot of a variable, one of m.
 #[tactic(auto, unfolding(crate::specs::Slot::slot_of))]
-fn slot(v: u32, m: usize) -> usize
+fn slot(v: u32, m: usize, mult: u32) -> usize
     requires { (0 < m) × (m < 4294967296) }
-    ensures slot { result ≡ slot_of m v }
+    ensures slot { result ≡ slot_of mult m v }
     ensures below { result < m }
 {
-    (u64::from(v.wrapping_mul(2654435769)) * m as u64 / 4294967296) as usize
+    let product = v.wrapping_mul(mult);
+    let mixed = (product ^ (product >> 15)).wrapping_mul(2654435769);
+    (u64::from(mixed) * m as u64 / 4294967296) as usize
 }
 
 impl Rowless<'_> {
@@ -41,32 +47,43 @@ impl Rowless<'_> {
     {
         let m = self.chains.len() / 2;
         let is = |i| self.entries[i as usize * 2] == v;
-        newest_in(self.chains, m, slot(v, m), is)
+        newest_in(self.chains, m, slot(v, m, self.mult), is)
+    }
+
+    // Before the first entry the multiplier is made.
+    fn choose(&mut self, bytes: &[u8])
+        requires { (length (words bytes.now) < 2 ^ 32) × Sound self.old }
+        ensures { Chosen self.old self.new }
+    {
+        if self.count == 0 {
+            self.mult = multiplier(count(bytes) as u32, |i| word(bytes, i as usize));
+        }
     }
 
     // One entry more: the place of a variable's name.
-    fn add(&mut self, v: u32, place: u32)
-        requires { Room v place self.old }
+    fn add(&mut self, bytes: &[u8], v: u32, place: u32)
+        requires { (length (words bytes.now) < 2 ^ 32) × Room v place self.old }
         ensures { Adds v place self.old self.new }
     {
+        self.choose(bytes);
         let m = self.chains.len() / 2;
-        hang(self.chains, m, slot(v, m), self.count);
+        hang(self.chains, m, slot(v, m, self.mult), self.count);
         let i = self.count as usize * 2;
         self.entries[i] = v;
         self.entries[i + 1] = place;
         self.count += 1;
     }
 
-    // The place of the name of a variable without a row.
-    pub fn place(&mut self, v: u32) -> u32
-        requires { Sound self.old × ((self.old.count < most self.old) × (places self.old < 4294967295)) }
+    // The place of the name of a variable without a row. The multiplier is made from the bytes.
+    pub fn place(&mut self, bytes: &[u8], v: u32) -> u32
+        requires { (length (words bytes.now) < 2 ^ 32) × (Sound self.old × ((self.old.count < most self.old) × (places self.old < 4294967295))) }
         ensures { Places v self.old self.new result }
     {
         if let Some(i) = self.find(v) {
             return self.entries[i as usize * 2 + 1];
         }
         let place = self.listed + self.count;
-        self.add(v, place);
+        self.add(bytes, v, place);
         place
     }
 
@@ -88,7 +105,7 @@ impl Rowless<'_> {
 
     // Begins with the sheet's names, whose texts stand at these places of a section: those that have the text of a variable are its name.
     pub fn restart(&mut self, section: &[u8], names: &[u32])
-        requires { (length names.now < 4294967296) × Fresh (names_at section.now names.now) self.old }
+        requires { ((length (words section.now) < 2 ^ 32) × (length names.now < 4294967296)) × Fresh (names_at section.now names.now) self.old }
         ensures { Begins (names_at section.now names.now) self.old self.new }
     {
         self.listed = names.len() as u32;
@@ -96,7 +113,7 @@ impl Rowless<'_> {
         // By index: a name is given by its number.
         for i in 0..names.len() {
             if let Some(v) = var_id(name_at(section, names[i] as usize)) {
-                self.add(v, i as u32);
+                self.add(section, v, i as u32);
             }
         }
     }

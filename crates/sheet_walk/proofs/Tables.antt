@@ -179,6 +179,7 @@ module _ {s : List ℕ} {p : Places} {choice : Choice} {x : Index} {places ids c
         fine = fine;
         names = q.names;
         few = omega (arith, few, inside.rows);
+        short = rw q.texts (omega (arith, length-words (take (p.rows * 4) s), length-take (p.rows * 4) s, inside.short));
         apart = rw texts apart;
         before = rw texts (omega (arith, before, inside.rows));
         unhushed = λ x. rw q.hushed refl;

@@ -141,6 +141,7 @@ pub record Set (p : Places) (c : Context) : Type 0 where
   pub fine : Fine c
   pub names : memory.names_in c ≡ p.names
   pub few : p.names ≤ p.head
+  pub short : length (words c.texts.section.now) < 2 ^ 32
   pub apart : distinct name_in (texts_in c) ≡ true
   pub before : length (flat_map name_words (texts_in c)) ≤ p.head
   pub unhushed : passes.Unhushed c

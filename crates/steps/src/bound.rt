@@ -54,7 +54,7 @@ impl Walk<'_> {
     {
         match r {
             Some((x, _)) => x,
-            None => self.rowless.place(v),
+            None => self.rowless.place(context.section.bytes, v),
         }
     }
 

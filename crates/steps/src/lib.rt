@@ -11,7 +11,8 @@ mod kinds;
 mod log;
 mod mode;
 
-ghost use Rattle.std.specs.Prelude.{◌≡◌, ◌+◌, ◌<◌, length};
+ghost use Rattle.std.specs.Prelude.{◌≡◌, ◌+◌, ◌^◌, ◌<◌, length};
+ghost use Rattle.words.specs.Words.{words};
 ghost use Rattle.tables.specs.Answer.{names_at};
 ghost use Rattle.rowless.specs.Rowless.{most, Fresh};
 ghost use Rattle.steps.specs.Hold.{Restarts};
@@ -73,6 +74,7 @@ impl<'a> Walk<'a> {
                 entries,
                 listed: 0,
                 count: 0,
+                mult: 0,
             },
             cur: 0,
             last: 0,
@@ -95,7 +97,7 @@ impl<'a> Walk<'a> {
 impl Walk<'_> {
     // The walk begins anew at a word, with these names: all its other numbers are as `new` has them, but what waits at the levels.
     pub fn restart(&mut self, at: usize, texts: Texts)
-        requires { (length texts.places.now + most self.old.rowless < 4294967296) × Fresh (names_at texts.section.now texts.places.now) self.old.rowless }
+        requires { ((length (words texts.section.now) < 2 ^ 32) × (length texts.places.now + most self.old.rowless < 4294967296)) × Fresh (names_at texts.section.now texts.places.now) self.old.rowless }
         ensures { Restarts at (names_at texts.entry.section.now texts.entry.places.now) self.old self.new }
     {
         self.rowless.restart(texts.section, texts.places);

@@ -12,9 +12,9 @@ returns c =
     let r = c.args.self.now in
     let f = variable_at r.entries.now in
     finds r c.args.v c.newest_in.result
-    (c.newest_in.ensures (slot_of (most r)) f r.count (λ i. eqb (f i) c.args.v)
+    (c.newest_in.ensures (slot_of r.mult (most r)) f r.count (λ i. eqb (f i) c.args.v)
     (record {
       chained = c.requires.chained;
       said = λ i b l s. search rules;
-      inside = λ i q. ap (slot_of (most r)) (eqb-true _ _ q) ∙ sym c.slot.ensures.slot;
+      inside = λ i q. ap (slot_of r.mult (most r)) (eqb-true _ _ q) ∙ sym c.slot.ensures.slot;
     }))

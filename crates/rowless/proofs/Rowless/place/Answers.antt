@@ -3,4 +3,4 @@ use Rattle.rowless.proofs.Entries.{place-new}
 use Rattle.rowless.proofs.Rowless.place.Goals as goal
 
 pub returns : goal.returns
-returns c = place-new c.ranges.v.fits c.requires.0 c.in_default.ensures c.add.ensures
+returns c = place-new c.ranges.v.fits c.requires.1.0 c.in_default.ensures c.add.ensures

@@ -21,7 +21,7 @@ loop-i-init c =
 
 pub add-requires : goal.add-requires
 add-requires c =
-    room c.loop-i.i c.in-Some.v c.requires.1 c.loop-i.invariant (low _ _ _ c.loop-i-test.true) (text _ _ _ c.loop-i-test.true c.name_at.ensures ∙ c.in-Some.ensures)
+    (c.requires.0.0, room c.loop-i.i c.in-Some.v c.requires.1 c.loop-i.invariant (low _ _ _ c.loop-i-test.true) (text _ _ _ c.loop-i-test.true c.name_at.ensures ∙ c.in-Some.ensures))
 
 pub loop-i-preserved : goal.loop-i-preserved
 loop-i-preserved c =

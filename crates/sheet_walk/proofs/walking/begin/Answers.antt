@@ -3,7 +3,7 @@ use Rattle.sheet_walk.proofs.Begun.{begin-roomy, begin-few, begins}
 use Rattle.sheet_walk.proofs.walking.begin.Goals as goal
 
 pub restart-requires : goal.restart-requires
-restart-requires c = (begin-few c.requires, c.requires.fresh)
+restart-requires c = ((c.requires.set.short, begin-few c.requires), c.requires.fresh)
 
 pub say_wanted-requires : goal.say_wanted-requires
 say_wanted-requires c = rw c.restart.ensures.same (begin-roomy c.requires c.restart.new.self.rowless)

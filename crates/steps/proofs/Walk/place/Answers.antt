@@ -6,7 +6,7 @@ use Rattle.steps.proofs.Walk.place.Goals as goal
 
 pub place-requires : goal.place-requires
 place-requires c =
-    let p = c.requires.1 in (p.fit.numbered, (omega (arith, p.fit.rowless, p.fit.within, p.fit.binders), omega (arith, places_small p.fine p.fit)))
+    let p = c.requires.1 in (omega (arith, p.fine.short), (p.fit.numbered, (omega (arith, p.fit.rowless, p.fit.within, p.fit.binders), omega (arith, places_small p.fine p.fit))))
 
 pub returns-in-Some : goal.returns-in-Some
 returns-in-Some c =
