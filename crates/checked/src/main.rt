@@ -9,6 +9,7 @@ ghost use Rattle.records.specs.Checked.{answer_for, left_for};
 ghost use Rattle.checked.specs.Ran.{lent_with, marked, Ran};
 
 use checker::{Counts, Lists, findings_in};
+use entries::{BINDING_WIDTH, CARRIED_WIDTH, FINDING_WIDTH, RECORDED_WIDTH, SCOPE_WIDTH};
 use finding::{Finding, load_all};
 use records::check;
 use refusal::Refusal;
@@ -62,11 +63,11 @@ fn run(s: &[u8], n: usize, f: Finding, lists: &mut Lists<u32>) -> Result<Counts,
 
 // How many of the entries from a place on are the marker.
 fn markers(flat: &[u32], from: usize) -> usize {
-    let (entries, _) = flat.as_chunks::<7>();
+    let (entries, _) = flat.as_chunks::<FINDING_WIDTH>();
     entries
         .iter()
         .skip(from)
-        .filter(|entry| **entry == [MARK; 7])
+        .filter(|entry| **entry == [MARK; FINDING_WIDTH])
         .count()
 }
 
@@ -75,11 +76,11 @@ fn markers(flat: &[u32], from: usize) -> usize {
 fn report<W: Write>(out: &mut W, s: &[u8], n: usize) -> io::Result<()>
     requires { n ≤ 2048 }
 {
-    let mut scopes = [0u32; 8192];
-    let mut bindings = [0u32; 14336];
-    let mut carried = [0u32; 8192];
-    let mut recorded = [0u32; 10240];
-    let mut findings = [0u32; 14336];
+    let mut scopes = [0u32; 2048 * SCOPE_WIDTH];
+    let mut bindings = [0u32; 2048 * BINDING_WIDTH];
+    let mut carried = [0u32; 2048 * CARRIED_WIDTH];
+    let mut recorded = [0u32; 2048 * RECORDED_WIDTH];
+    let mut findings = [0u32; 2048 * FINDING_WIDTH];
     let mut lists = Lists {
         scopes: &mut scopes,
         bindings: &mut bindings,

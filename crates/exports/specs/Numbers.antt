@@ -5,6 +5,7 @@ use Rattle.scope.specs.Offset.{Offset, in', nowhere}
 use Rattle.scope.specs.Offset as offsets
 use Rattle.sheet.specs.Read.{Sheet, accepted}
 use Rattle.sheet.specs.Read as sheets
+use Rattle.finding.specs.Flat.{finding_width}
 use Rattle.checker.specs.Checked.{Lent, answer_in, left_in}
 use Rattle.checker.specs.declared.Counts.{Counts}
 
@@ -12,12 +13,12 @@ use Rattle.checker.specs.declared.Counts.{Counts}
 abbrev pub flat : (scopes bindings carried recorded findings : List ℕ) → Lent ℕ
 flat a b c d e = record { scopes = a; bindings = b; carried = c; recorded = d; findings = e }
 
--- what is answered, and what is left, where any warning number but 0 stands for on, and a finding has seven words
+-- what is answered, and what is left, where any warning number but 0 stands for on, and findings are flat words
 abbrev pub answer_by : ℕ → List ℕ → Lent ℕ → Sheet Counts
-answer_by warnings s l = answer_in (not (eqb warnings 0)) s l (length l.findings / 7)
+answer_by warnings s l = answer_in (not (eqb warnings 0)) s l (length l.findings / finding_width)
 
 abbrev pub left_by : ℕ → List ℕ → Lent ℕ → Lent ℕ
-left_by warnings s l = left_in (not (eqb warnings 0)) s l (length l.findings / 7)
+left_by warnings s l = left_in (not (eqb warnings 0)) s l (length l.findings / finding_width)
 
 -- 256 where the lists are filled
 abbrev pub checked_number : Sheet Counts → ℕ

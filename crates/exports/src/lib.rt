@@ -8,6 +8,7 @@ ghost use Rattle.scope.specs.Offset.{offset};
 ghost use Rattle.exports.specs.Numbers.{flat, answer_by, left_by, checked_number, with_counts, looked_number, with_found, offset_number};
 
 use checker::{Lists, check_words};
+use entries::FINDING_WIDTH;
 use scope::{Name, lookup, scope_at_offset};
 
 // The lists of a sheet and their five counts: 256, or the refusal's number. Eight parameters: a list each, as C has them.
@@ -26,7 +27,7 @@ pub extern "C" fn cenguatu_check(
     ensures lists { flat scopes.new bindings.new carried.new recorded.new findings.new ≡ left_by warnings sheet.now (flat scopes.old bindings.old carried.old recorded.old findings.old) }
     ensures counts { counts.new ≡ with_counts (answer_by warnings sheet.now (flat scopes.old bindings.old carried.old recorded.old findings.old)) counts.old }
 {
-    let room = findings.len() / 7;
+    let room = findings.len() / FINDING_WIDTH;
     let mut lists = Lists {
         scopes,
         bindings,
