@@ -1,4 +1,4 @@
--- What the check call answers and leaves, for any sheet, warning choice and lists (document 01, "What comes out"; causes 1 to 8).
+-- What the check call answers and leaves, for any sheet, warning choice and lists (document 01, "What comes out"; causes 1 to 6 and 8).
 use Rattle.refusal.specs.Number.{number_of}
 use Rattle.refusal.specs.declared.Refusal.{Refusal}
 use Rattle.std.specs.Prelude.{ℕ, ◌≡◌, Bool, cond, ◌&&◌, List, leb, length, Result, Ok, Err}

@@ -1,4 +1,4 @@
-// The check call: a sheet's scopes, bindings, carried names, recorded uses and findings, into lists that are lent; or a refusal, 1 to 8,
+// The check call: a sheet's scopes, bindings, carried names, recorded uses and findings, into lists that are lent; or a refusal (1 to 6, 8),
 // which alters none of them. Lists are flat words, an entry each: scopes 4 (kind, parent + 1 or 0, start, end), bindings 7 (scope, name,
 // variable, kind, 1 if it replaced one, the variable replaced or 0, the name's mark), carried 4 (barrier, name, variable, mark), recorded 5 (use id, 1
 // found or 0 unresolved, variable, kind, via_projection), findings 7 (code, start, end, name + 1 or 0, two details, mark). A name is an index of the

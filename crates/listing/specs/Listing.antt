@@ -1,4 +1,4 @@
--- The listing of a sheet's bytes, or its refusal: 1 to 7, and 8 where a list of 2,048 entries is too short for the answer (document 02, CR 2).
+-- The listing of a sheet's bytes, or its refusal: 1 to 6, and 8 where a list of 2,048 entries is too short for the answer (document 02, CR 2).
 use Rattle.std.specs.Prelude.{ℕ, Bool, ◌&&◌, List, leb, length}
 use Rattle.sheet.specs.Statement.{Statement}
 use Rattle.sheet.specs.Olds.{old_exists}

@@ -1,4 +1,4 @@
-// The listing of a sheet: its findings as text, a line each, at the front of lent bytes; or a refusal (1 to 8, 10), which alters none of
+// The listing of a sheet: its findings as text, a line each, at the front of lent bytes; or a refusal (1 to 6, 8, 10), which alters none of
 // them. The sheet is read and walked once, with scratch that is sized to it. No heap: scratch is one array, cut into the lists.
 // Sheet, choice and page go down as they came, and each function hands on the same promise: they differ in scratch alone.
 #![tactic(auto)]

@@ -1,4 +1,4 @@
--- What the check call answers and leaves where the findings go into a list of records (document 01, "What comes out"; causes 1 to 8).
+-- What the check call answers and leaves where the findings go into a list of records (document 01, "What comes out"; causes 1 to 6 and 8).
 use Rattle.std.specs.Prelude.{ℕ, Bool, cond, ◌&&◌, List, leb, length}
 use Rattle.words.specs.Words.{words}
 use Rattle.sheet.specs.Statement.{Statement}

@@ -14,7 +14,7 @@ use refusal::Refusal;
 // Flat words for as many findings as the largest sheet has words.
 const FLAT: usize = 2048 * FINDING_WIDTH;
 
-// The check call, warnings on or off: the lists' counts, or a refusal, 1 to 8, which alters none of them.
+// The check call, warnings on or off: the lists' counts, or a refusal, 1 to 6 and 8, which alters none of them.
 pub fn check(s: &[u8], warns: bool, lists: &mut Lists<Finding>) -> Result<Counts, Refusal>
     ensures still { IsStill lists.old lists.new }
     ensures answers { answered result ≡ answer_for warns s.now (lent lists.old) }
