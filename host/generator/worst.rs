@@ -44,7 +44,7 @@ pub const SORTED: [Family; 8] = [
 
 /// The same with stars and aliases. The listing refuses the first two with 8 from 4 KB on, and the last from 2 KB on, which has the largest
 /// answers that we know of, at 8 KB 43,307 bindings and 42,966 carried names.
-pub const STARRED: [Family; 7] = [
+pub const STARRED: [Family; 9] = [
     Family { name: "203 yields, 127 WITHs of a star", make: stars },
     Family { name: "254 computed aliases, 127 WITHs of a star", make: most_entries },
     Family { name: "3 yields, 250 WITHs of a star", make: few_carried },
@@ -52,6 +52,8 @@ pub const STARRED: [Family; 7] = [
     Family { name: "336 yields of one name, 90 WITHs of a star and the name", make: shadowing },
     Family { name: "168 yields, a WITH of 380 aliases of the last", make: aliased },
     Family { name: "341 paths without a row, 126 WITHs of a star", make: stars_without_rows },
+    Family { name: "130 yields, 55 WITHs of a star, 290 yields of one name", make: stars_and_one },
+    Family { name: "130 yields, 55 WITHs of a star, 130 nodes after a comprehension", make: stars_and_nodes },
 ];
 
 /// Sheets with many findings; at 8 KB they have 500.
@@ -358,6 +360,23 @@ fn aliased(share: Share) -> Vec<u8> {
 fn stars_without_rows(share: Share) -> Vec<u8> {
     let (count, stars) = (share.of(341), share.of(126));
     sheet(&with_star(1), Vec::new(), [paths(count, |n| n), ONE_STAR.repeat(stars as usize)].concat(), 1 + stars)
+}
+
+/// All but the first of the last yields replace its binding.
+fn stars_and_one(share: Share) -> Vec<u8> {
+    let (names, stars) = (share.of(130), share.of(55));
+    let head = [all_yielded(names), ONE_STAR.repeat(stars as usize), call(share.of(290), 1, 1)].concat();
+    sheet(&with_star(names), Vec::new(), head, 2 + stars)
+}
+
+/// A Match whose first node has a comprehension that binds one; the others are bound in the Match's scope, after an inner one.
+fn stars_and_nodes(share: Share) -> Vec<u8> {
+    let (names, stars, nodes) = (share.of(130), share.of(55), share.of(130));
+    let mut head = [all_yielded(names), ONE_STAR.repeat(stars as usize)].concat();
+    head.extend([1, 0, 9, 0, 1, 0, 1 + nodes]);
+    head.extend([1, 0, 9, 0, 1, 22, 0, 9, 0, 1, 0, 1, 1, 0, 9, 1, spread(0), 0, 8, 0]);
+    head.extend((1..=nodes).flat_map(|n| [1, 0, 9, 1, spread(n), 0]));
+    sheet(&with_star(names), Vec::new(), head, 2 + stars)
 }
 
 /// A RETURN of such projections.

@@ -1,6 +1,6 @@
 -- What walks store in the carried list. Where a walk is refused, only the list's length is claimed (`refused-takes`); a clause stores what it
 -- carries (`clause-takes`). A loop of n rounds, of which k were walked: whatever list the rounds that are left make, all of them make (`Filling`,
--- before the first round by `unfilled`, one round on by `filled`, after the last by `full`).
+-- one round on by `filled`, after the last by `full`).
 use Rattle.std.specs.Prelude.{Result, Ok, Err}
 use Rattle.std.specs.Result.{IsErr}
 use Prim.Native.Nat.{ℕ, suc, ◌+◌, ◌-◌, ◌*◌, ◌<◌, ◌≤◌}
@@ -92,9 +92,6 @@ no-round n one s t r rest l e = let z : ok s r ≡ ok t rest = rw l at e in cc
 pub record Filling (c : Context) (w₀ : Walk) (out₀ : List ℕ) (n : ℕ) (one : Goer) (w : Walk) (out : List ℕ) (k : ℕ) : Type 0 where
   pub kept : length out ≡ length out₀
   pub rest : (new : List ℕ) → Takes c w out new (λ id. rounds (n - k) (one id)) → Takes c w₀ out₀ new (λ id. rounds n (one id))
-
-pub unfilled : {c : Context} {w : Walk} {out : List ℕ} {n : ℕ} {one : Goer} → Filling c w out n one w out 0
-unfilled {n = n} = let z : n - 0 ≡ n = omega arith in record { kept = refl; rest = λ new x. rw z at x }
 
 module _ {c : Context} {w₀ : Walk} {out₀ : List ℕ} {n : ℕ} {one : Goer} {w : Walk} {out : List ℕ} {k : ℕ} (f : Filling c w₀ out₀ n one w out k) where
   pub filled : {w' : Walk} {out' : List ℕ} {u : Unit {0}} → k < n → Passes 0 c w w' one (Ok u) → Takes c w out out' one → Filling c w₀ out₀ n one w' out' (k + 1)

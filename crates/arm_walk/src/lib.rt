@@ -14,8 +14,9 @@ ghost use Rattle.arm_walk.specs.Taking.{Storing, Stores, Takes};
 
 use clause_parts::{next_any, next_word};
 use clause_walk::walk_clause;
-use entries::{CARRIED_WIDTH, put_carried};
+use entries::put_carried;
 use refusal::Refusal;
+use scope::CARRIED_WIDTH;
 use steps::{Context, Mode, Walk};
 
 // What a clause carried, stored behind `from` entries: all that is visible after it, by the scope before the current one.

@@ -9,10 +9,10 @@ ghost use Rattle.records.specs.Checked.{answer_for, left_for};
 ghost use Rattle.checked.specs.Ran.{lent_with, marked, Ran};
 
 use checker::{Counts, Lists, findings_in};
-use entries::{BINDING_WIDTH, CARRIED_WIDTH, FINDING_WIDTH, RECORDED_WIDTH, SCOPE_WIDTH};
 use finding::{Finding, load_all};
 use records::check;
 use refusal::Refusal;
+use scope::{BINDING_WIDTH, CARRIED_WIDTH, FINDING_WIDTH, RECORDED_WIDTH, SCOPE_WIDTH};
 use show::show_records;
 use std::io;
 use std::io::Write;

@@ -108,15 +108,17 @@ module _ {warns : Bool} {s was has : List ℕ} {x : Index} {a : Scratch} (h : He
       abbrev pub between : Lent ℕ
       between = record { scopes = old.scopes; bindings = old.bindings; carried = c; recorded = old.recorded; findings = old.findings }
 
-      pub fill-asks : 1 ≤ length a.held.now → Fitting (words s) x a between
+      pub fill-asks : 2 * length (words s) ≤ length a.held.now → Fitting (words s) x a between
       fill-asks v =
           let l = lengths in
           record {
             trailed = h.trailed;
+            short = h.short;
             named = h.named;
             stands = h.stands;
             lent = omega (arith, g.kept, carried-fits);
-            stamped = v;
+            few = omega (arith, h.few);
+            pairs = v;
             wide = h.wide;
             scopes = omega (arith, h.few, l.scopes);
             recorded = omega (arith, h.few, l.recorded);

@@ -8,6 +8,7 @@ use mathlib.Core.Bool.{Bool, true}
 use mathlib.Core.List.{List, [], map, reverse, reverse-reverse}
 use lib.ListN.{length, get_or, take, length-take, length-map, get_or-map}
 use Rattle.words.specs.Words.{words}
+use Rattle.words.proofs.Words.{length-words}
 use Rattle.words.specs.Fnv.{use_id}
 use Rattle.tables.specs.Name.{name_at}
 use Rattle.sheet.specs.Trailer.{places_of}
@@ -53,6 +54,7 @@ module _ (a : Scratch) {choice : Choice} {s was has : List ℕ} {x : Index} (r :
         statement = st;
         read = r.read;
         trailed = omega (arith, (walked s st r.read).whole);
+        short = omega (arith, (walked s st r.read).places.short, length-words s);
         named = named;
         log = ap (λ (id : ℕ → ℕ). reverse (events id a.walk.log.said a.walk.log.words.now)) (ids-are st r.uses) ∙ ap reverse (r.log ∙ ap (λ (b : Bool). kept b l) w) ∙ sym (written-reverse l);
         kinds = ap reverse r.kinds ∙ reverse-reverse _;

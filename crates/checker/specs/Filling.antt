@@ -35,12 +35,13 @@ fitting n made taken l room = (roomy (each n) l && leb n room) && (enough made (
 abbrev pub uses_in : (ws ids : List ℕ) → List ℕ
 uses_in ws ids = take (places_of ws).names ids
 
--- Of an accepted sheet, in the definition's words, oldest first: it has a trailer, and its names' use ids are there; all events and findings; how
--- many entries two of the lists need; and `has` has what is carried, if `was` had room.
+-- Of an accepted sheet, in the definition's words, oldest first: it has a trailer and at most 2,048 words, and its names' use ids are there; all
+-- events and findings; how many entries two of the lists need; and `has` has what is carried, if `was` had room.
 pub record Heard (warns : Bool) (s : List ℕ) (a : Scratch) (was has : List ℕ) (x : Index) : Type 0 where
   pub statement : Statement
   pub read : read_sheet s ≡ accepted statement
   pub trailed : 10 ≤ length (words s)
+  pub short : length (words s) ≤ 2048
   pub named : (places_of (words s)).names ≤ length a.ids.now
   pub log : all_in (id_in (uses_in (words s) a.ids.now)) a.walk.log ≡ written (log warns statement)
   pub kinds : all_told a.walk.log ≡ kinds (world_of warns statement) statement.head
@@ -64,13 +65,16 @@ Bound r list taken l old new k =
     let all = woven_in r.index (words r.bytes.now) l taken list in
     (id : ℕ → ℕ) → length (all id) * binding_width ≤ length old → Holds binding_words old new k (all id)
 
--- so much stands in the log and in the carried list, and the lists that are filled as it comes have room for it
+-- so much stands in the log and in the carried list, and the lists that are filled as it comes have room for it, and `held` for stamps and for
+-- chains of as many entries
 pub record Fitting (ws : List ℕ) (x : Index) (a : Scratch) (l : Lent ℕ) : Type 0 where
   pub trailed : 10 ≤ length ws
+  pub short : length ws ≤ 2048
   pub named : (places_of ws).names ≤ length a.ids.now
   pub stands : Stands x ws a.chains.now
   pub lent : a.walk.taken * carried_width ≤ length l.carried
-  pub stamped : 1 ≤ length a.held.now
+  pub few : a.walk.log.said ≤ length ws
+  pub pairs : 2 * length ws ≤ length a.held.now
   pub wide : (a.walk.log.said + a.walk.log.told) * 6 ≤ length a.walk.log.words.now
   pub scopes : a.walk.log.said * scope_width ≤ length l.scopes
   pub recorded : a.walk.log.said * recorded_width ≤ length l.recorded

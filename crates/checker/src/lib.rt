@@ -15,10 +15,10 @@ ghost use Rattle.checker.specs.Room.{enough};
 ghost use Rattle.checker.specs.Filling.{fitting, Heard, Bindable, Bound, Fitting, Filling, Again};
 ghost use Rattle.checker.specs.Checked.{lent, IsStill, roomy, each, Answers, answered, answer_in, left_in, findings_in};
 
-use entries::{BINDING_WIDTH, CARRIED_WIDTH, FINDING_WIDTH, RECORDED_WIDTH, SCOPE_WIDTH};
 use lists_fill::{Carried, fill_all_findings, fill_bindings, fill_recorded, fill_scopes};
 use refusal::Refusal;
-use rows::{Index, Rows};
+use rows::{Index, Rows, multiplier};
+use scope::{BINDING_WIDTH, CARRIED_WIDTH, FINDING_WIDTH, RECORDED_WIDTH, SCOPE_WIDTH};
 use sheet_walk::{Choice, Scratch, run};
 use steps::{Log, Walk};
 use words::{count, word};
@@ -105,7 +105,7 @@ impl Lists<'_, u32> {
         (a & b) & (c & d)
     }
 
-    // All but the carried list, from what a run left and that list; the names' use ids stand in `ids`, and `held` is for stamps.
+    // All but the carried list, from what a run left and that list; the names' use ids stand in `ids`, and `held` is for stamps and then for chains.
     fn fill(&mut self, s: &[u8], index: Index, scratch: &mut Scratch) -> Counts
         requires { Fitting (words s.now) index scratch.old (lent self.old) }
         ensures still { IsStill self.old self.new }
@@ -124,8 +124,13 @@ impl Lists<'_, u32> {
             index,
         };
         let bindings = bind(rows, list, taken, log, stamps, self.bindings);
-        let names = word(s, count(s) - 9) as usize;
-        let recorded = fill_recorded(log, &ids[0..names], self.recorded);
+        let names = word(s, count(s) - 9);
+        let uses = &ids[0..names as usize];
+        // The multiplier is made from all ids that there are: those of the rows, and the names' use ids.
+        let mult = index
+            .mult
+            .wrapping_mul(multiplier(names, |i| uses[i as usize]));
+        let recorded = fill_recorded(log, uses, stamps, mult, self.recorded);
         let findings = fill_all_findings(log, self.findings);
         Counts {
             scopes,

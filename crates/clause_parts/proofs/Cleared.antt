@@ -1,15 +1,16 @@
--- Of the visible names the first `top` stay (`cut_still`, `cut_fits`, `cut_holds`; they descend as all of them did: `below-descends`), or none
--- (`cleared-fits`, `cleared`: an arm, a WITH); a step in a mode that resolves names is one of names alone (`names-step`).
+-- Of the visible names the first `top` stay (`cut_still`, `cut_fits`, `cut_holds`; they descend as all of them did: `below-descends`, and
+-- their places are in use: `below-lower`), or none (`cleared-fits`, `cleared`: an arm, a WITH); what the walk holds where others are visible is
+-- `standing-holds`; a step in a mode that resolves names is one of names alone (`names-step`).
 use Rattle.std.specs.Prelude.{None}
 use Prim.Native.Nat.{ℕ, zero, suc, ◌+◌, ◌-◌, ◌≤◌}
 use native.Mathlib.Omega.{arith}
 use mathlib.Core.Path.{◌≡◌, refl, ap, subst, sym}
 use mathlib.Core.Bool.{Bool, true, false}
 use mathlib.Core.List.{List, []}
-use Rattle.semantics.specs.Resolve.{State, standing}
+use Rattle.semantics.specs.Resolve.{Seen, State, standing}
 use Rattle.fused.specs.Fused.{Both, Mode, step, told}
 use Rattle.visible.specs.Visible.{seens, Descends}
-use Rattle.visible.specs.Stack.{Cut}
+use Rattle.visible.specs.Stack.{entries, Cut}
 use Rattle.visible.specs.declared.Visible.{Visible}
 use Rattle.visible.proofs.Names.{descends-above}
 use Rattle.rowless.specs.Rowless.{places}
@@ -35,10 +36,24 @@ pub below-descends : (n t u c : ℕ) (m : List ℕ) → t ≤ u → Descends c (
 below-descends n t u c m h d = lower-descends n t (u - t) u c m (omega arith) d
 
 -- and of one whose places are below n
-below-lower : (n k t u : ℕ) (m : List ℕ) → t ≤ u → Below n (seens k u m) → Below n (seens k t m)
+pub below-lower : (n k t u : ℕ) (m : List ℕ) → t ≤ u → Below n (seens k u m) → Below n (seens k t m)
 below-lower n k t u m h b =
     let z : u ≡ u - t + t = omega arith in
     below-less n k (u - t) t m (rw z at b)
+
+-- ---- where other names are visible, in another scope
+pub standing-holds : {id : ℕ → ℕ} {c : Context} {w : Walk} {v : Visible} {cur : ℕ} {l : List Seen} {s : Both} → as_named w.rowless (entries v) ≡ l → Holds id c w s → Holds id c (record w { visible = v; cur = cur }) (on_names (standing l cur) s)
+standing-holds e h =
+    record {
+      visible = e;
+      cur = refl;
+      last = h.last;
+      log = h.log;
+      kinds = h.kinds;
+      olds = h.olds;
+      counts = recounted refl refl h.counts;
+      uses = h.uses;
+    }
 
 -- ---- the first names stay visible
 module _ {w : Walk} {v : Visible} {top cur : ℕ} (p : Cut top w.visible v) where
@@ -50,17 +65,7 @@ module _ {w : Walk} {v : Visible} {top cur : ℕ} (p : Cut top w.visible v) wher
       refit f kept_still refl (subst (λ s. Below (places w.rowless) s) (sym p.same) (below-lower (places w.rowless) w.visible.names top w.visible.top w.visible.words.now h f.below)) p.sound (subst (λ s. Descends cur s) (sym p.same) d) l f.last f.count (omega (arith, f.stack, p.back)) f.rowless f.olds f.needs f.within
 
   kept_holds : {id : ℕ → ℕ} {c : Context} {s : Both} → Holds id c w s → Holds id c (record w { visible = v; cur = cur }) (on_names (standing (as_named w.rowless (seens w.visible.names top w.visible.words.now)) cur) s)
-  kept_holds h =
-      record {
-        visible = ap (λ l. as_named w.rowless l) p.same;
-        cur = refl;
-        last = h.last;
-        log = h.log;
-        kinds = h.kinds;
-        olds = h.olds;
-        counts = recounted refl refl h.counts;
-        uses = h.uses;
-      }
+  kept_holds h = standing-holds (ap (λ l. as_named w.rowless l) p.same) h
 
 module _ {w w' : Walk} {top cur : ℕ} (p : Left w w' top cur) where
   pub cut_still : Still w w'

@@ -1,29 +1,28 @@
 -- How far clauses have come (walk's Stage, of which nothing is said of what stays below). A walk of expressions passes (`forget`); a walk within
 -- goes on (`went`), is refused at its `?` (`fell`) or is the last one (`last_one`); a word is passed (`past`, `in_range`) or refused at its `?`
--- (`stopped`, `halted`; `no_word` in a walk that keeps what was visible), and an alias is the one that its word tells (`alias-read`); at the end stands the answer (`passed`, `refused`). In a loop one round
--- more was walked (`turn`), one was refused at its `?` (`fall`), or none is left (`over`); Stage's `begun` begins it. Other pairs may be held,
--- with as much room (`held_on`).
+-- (`stopped`, `halted`; `no_word` in a walk that keeps what was visible); at the end stands the answer (`passed`, `refused`). In a loop one
+-- round more was walked (`turn`), one was refused at its `?` (`fall`), or none is left (`over`); Stage's `begun` begins it. Other pairs may be
+-- held, with as much room (`held_on`).
 use Rattle.std.specs.Prelude.{Option, None, Some, Result, Ok, Err}
 use Rattle.std.specs.Result.{IsErr, IsErrAnd}
 use Prim.Native.Nat.{ℕ, ◌+◌, ◌<◌, ◌≤◌}
 use native.Mathlib.Omega.{arith}
-use mathlib.Core.Path.{◌≡◌, refl}
+use mathlib.Core.Path.{◌≡◌, refl, sym}
 use mathlib.Core.List.{List}
 use lib.ListN.{length, drop}
 use Rattle.refusal.specs.declared.Refusal.{Refusal}
-use Rattle.heads.specs.Got.{Got, ok, no, bind, word_in}
+use Rattle.heads.specs.Got.{ok, word_in}
 use Rattle.heads.proofs.Chain.{Chain, step, last}
-use Rattle.clauses.specs.Read.{alias_of}
-use Rattle.clauses.specs.Write.{alias_word}
 use Rattle.expr.proofs.Inverse.{word-gives}
 use Rattle.fused.specs.Fused.{Both, rounds}
 use Rattle.fused.specs.Fused as fused
+use Rattle.fused.proofs.Apart.{bind_ok}
 use Rattle.steps.specs.Memory.{words_in}
 use Rattle.steps.specs.declared.Walk.{Walk}
 use Rattle.steps.specs.declared.context.Context.{Context}
 use Rattle.steps.proofs.Held.{lower, still-then}
 use Rattle.walk.specs.Goes.{Goer, Refuses, Walked, rest_in}
-use Rattle.walk.proofs.Stage.{Rest, Stage, Went, Turning, placed, start, recast, read, stop, unrolled, ran, comes}
+use Rattle.walk.proofs.Stage.{Rest, Stage, Turning, recast, read, stop, unrolled, ran, comes}
 use Rattle.walk.proofs.Stage as stage
 use Rattle.clause_parts.specs.Passes.{Passes, Held, Next}
 
@@ -52,10 +51,6 @@ module _ {j : ℕ} {c : Context} {w₀ : Walk} {G : Goer} {free : ℕ} {w : Walk
   refused (Ok u) o g q = absurd q.1
 
 -- ---- a walk within
-bind_ok : (g : Got Both) → g ≡ bind g (λ u r. ok u r)
-bind_ok (ok u r) = refl
-bind_ok (no e) = refl
-
 module _ {j : ℕ} {c : Context} {w₀ : Walk} {G : Goer} {free : ℕ} {w : Walk} {i : ℕ} {H : Goer} {w' : Walk} where
   pub went : {K : Rest} {u : Unit {0}} (l : ℕ) → i + l ≤ free → Stage None j c w₀ G free w (λ id s t. step (H id t) (K id s)) → Passes i c w w' H (Ok u) → Stage None j c w₀ G l w' K
   went l h o x =
@@ -69,8 +64,8 @@ module _ {j : ℕ} {c : Context} {w₀ : Walk} {G : Goer} {free : ℕ} {w : Walk
   fell (Ok u) o x q = absurd q.1
 
   pub last_one : (r : Result (Unit {0}) Refusal) → i ≤ free → Stage None j c w₀ G free w (λ id s t. last (H id t)) → Passes i c w w' H r → Passes j c w₀ w' G r
-  last_one (Ok u) l o x = passed (went {K = λ id s v. last (ok v)} 0 (omega arith) (recast (λ id s t. step (H id t) (λ v. last (ok v))) o (λ id s t r. bind_ok (H id t r))) x)
-  last_one (Err e) l o x = fell {K = λ id s v. last (ok v)} (Err e) (recast (λ id s t. step (H id t) (λ v. last (ok v))) o (λ id s t r. bind_ok (H id t r))) x (refl, refl)
+  last_one (Ok u) l o x = passed (went {K = λ id s v. last (ok v)} 0 (omega arith) (recast (λ id s t. step (H id t) (λ v. last (ok v))) o (λ id s t r. sym (bind_ok (H id t r)))) x)
+  last_one (Err e) l o x = fell {K = λ id s v. last (ok v)} (Err e) (recast (λ id s t. step (H id t) (λ v. last (ok v))) o (λ id s t r. sym (bind_ok (H id t r)))) x (refl, refl)
 
 -- ---- a word
 pub in_range : {c : Context} {lo hi : ℕ} {w w' : Walk} {x : ℕ} → Next c lo hi w w' (Ok x) → (lo ≤ x) × (x < hi)
@@ -85,11 +80,6 @@ module _ {keep : Option ℕ} {j : ℕ} {c : Context} {w₀ : Walk} {G : Goer} {f
 
   pub stopped : {e : Refusal} → Next c lo hi w w' (Err e) → Refuses c w₀ G e
   stopped n = stop o n.got
-
--- the alias that was read
-pub alias-read : (a : Option ℕ) → alias_of (alias_word a) ≡ a
-alias-read None = refl
-alias-read (Some x) = refl
 
 -- its `?`, and in a walk that keeps what was visible
 module _ {c : Context} {w₀ : Walk} {G : Goer} {free : ℕ} {w : Walk} {lo hi : ℕ} {K : (ℕ → ℕ) → ℕ → Both → Both → Chain Both} {w' : Walk} {e : Refusal} (r : Result (Unit {0}) Refusal) where

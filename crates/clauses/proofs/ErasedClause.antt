@@ -90,12 +90,6 @@ module _ (names : ℕ) where
   unfolding erase_a WellArm
   erase-arm-well (arm a b cs) h = (omega arith, erase-many (WellClause names) erase_c erase-clause-well cs h.1)
 
-  pub erase-clauses-well : (cs : List Clause) → Each (WellClause names) cs → Each (WellClause names) (map erase_c cs)
-  erase-clauses-well = erase-each (WellClause names) erase_c erase-clause-well
-
-  pub erase-arms-well : (xs : List Arm) → Each (WellArm names) xs → Each (WellArm names) (map erase_a xs)
-  erase-arms-well = erase-each (WellArm names) erase_a erase-arm-well
-
   pub erase-clauses-words : (cs ds : List Clause) → Each (WellClause names) cs → Each (WellClause names) ds →
       flat_map write_clause (map erase_c cs) ≡ flat_map write_clause (map erase_c ds) → map erase_c cs ≡ map erase_c ds
   unfolding read_clause word_in

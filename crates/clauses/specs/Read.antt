@@ -30,10 +30,6 @@ module _ (names : ℕ) where
   unfoldable pub counted_exprs : List ℕ → Got Exprs
   counted_exprs ws = bind (any_word ws) (λ n r. times n clause_expr no_more r)
 
-  -- a flag, and an expression if it is 1
-  unfoldable pub filter_exprs : List ℕ → Got Exprs
-  filter_exprs ws = bind (flag ws) (λ g r. times g clause_expr no_more r)
-
   -- a count, and as many marks of a kind with their expressions
   unfoldable pub counted_marks : ℕ → List ℕ → Got Exprs
   counted_marks kind ws = bind (any_word ws) (λ n r. marks kind n clause_expr r)

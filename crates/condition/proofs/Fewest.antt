@@ -1,12 +1,11 @@
 -- The printed text of a tree is written as that tree, and has the fewest brackets of all texts that are: so no pair can be left out.
-use Prim.Native.Nat.{ℕ, zero, suc, ◌+◌, ◌/◌, ◌%◌, ◌<◌, ◌≤◌}
+use Prim.Native.Nat.{ℕ, suc, ◌+◌, ◌<◌, ◌≤◌}
 use native.Mathlib.Omega.{arith}
 use mathlib.Core.Path.{◌≡◌, refl, ap}
 use mathlib.Core.Bool.{Bool, true, false, cond}
 use mathlib.Core.List.{List, [], ◌∷◌, ◌++◌}
 use lib.Dec.{eqb, ltb}
-use borrow.Author.Tests.{ltb-false, le-ltb, eqb-true, ne_eqb}
-use Rattle.words.specs.Decimal.{low_digits}
+use borrow.Author.Tests.{ltb-false, le-ltb, eqb-true}
 use Rattle.condition.specs.Cond.{Cond, atom, unary, binary, binary_level, unary_level, left_level, binary_sign, unary_sign, bracketed, Well}
 use Rattle.condition.specs.Printed.{wrap, printed}
 use Rattle.condition.specs.Written.{Written, an-atom, a-unary, a-binary, in-brackets}
@@ -45,13 +44,6 @@ binary-none o h = eqb-true _ _ (all-below 20 (λ k. eqb (opens (binary_sign k)) 
 unary-none : (o : ℕ) → o < 2 → opens (unary_sign o) ≡ 0
 unfolding opens
 unary-none o h = eqb-true _ _ (all-below 2 (λ k. eqb (opens (unary_sign k)) 0) refl o h)
-
-digits-none : (k n : ℕ) → opens (low_digits k n) ≡ 0
-unfolding low_digits opens
-digits-none zero n = refl
-digits-none (suc k) n =
-    let d : eqb (48 + n % 10) 40 ≡ false = ne_eqb (48 + n % 10) 40 (λ e. omega arith) in
-    rw (opens-append, digits-none k (n / 10), d) refl
 
 wrap-opens : (b : Bool) (s : List ℕ) → opens (wrap b s) ≡ cond b 1 0 + opens s
 unfolding opens

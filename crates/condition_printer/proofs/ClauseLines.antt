@@ -60,9 +60,6 @@ module _ (ws : List ℕ) (names at k : ℕ) (old : List ℕ) (h : Ready (read_cl
       begun : Stage ws at k old [] q 15 old k
       begun = begin q 15 h (omega (arith, s.from)) s.within (omega (arith, s.from))
 
-      pub line-ready : Ready (read_expr names max_depth (drop q ws)) ws q k (length old)
-      line-ready = ready begun (read_expr names max_depth (drop q ws)) s.fine h.few
-
       module _ {x j : ℕ} {mid : List ℕ} (u : Put (read_expr names max_depth (drop q ws)) write_e (printed_at 0 q) ws q k old mid x j) where
         pub line-fits : j + 1 ≤ length mid
         line-fits = fits (part begun u condition behind condition-is) 1 1 (omega arith) (omega arith)
@@ -96,9 +93,6 @@ module _ (ws : List ℕ) (names at k : ℕ) (old : List ℕ) (h : Ready (read_ar
 
   pub arm-ready : Ready clauses ws (at + 3) k (length old)
   arm-ready = ready arm-begun clauses clauses-fine h.few
-
-  pub arm-inside : at + 3 ≤ length ws
-  arm-inside = an-arm.inside
 
   pub arm-put : {new : List ℕ} {next end : ℕ} → Put clauses (row_words write_clause) (text_of (in_row write_clause of_clause) (at + 3)) ws (at + 3) k old new next end → Put (read_arm names (drop at ws)) write_arm (text_of of_arm at) ws at k old new next end
   unfolding of_arm

@@ -14,11 +14,12 @@ use Rattle.std.specs.Prelude.{◌≢◌, Result, Ok, Err}
 use Rattle.std.specs.Result.{IsOk}
 use Rattle.refusal.specs.Number.{number_of}
 use Rattle.refusal.specs.declared.Refusal.{Refusal}
+use Rattle.heads.proofs.Reading.{was_read}
 use Rattle.expr.specs.Tree.{Expr, Exprs, done, more, kid_count}
 use Rattle.expr.specs.Read.{Reader, no_more, times}
 use Rattle.expr.specs.Write.{write_e}
 use Rattle.expr.proofs.Inverse.{Gives, gave, so, after, word-gives}
-use Rattle.expr.proofs.Accepted.{inverse, ok-left, refused, word-there}
+use Rattle.expr.proofs.Accepted.{ok-left, refused, word-there}
 use Rattle.expr.proofs.Written.{expr-gives, row_gives, written}
 use Rattle.clauses.specs.Kind.{code_of, Decodes}
 use Rattle.clauses.specs.declared.kind.ClauseKind.{ClauseKind}
@@ -172,7 +173,7 @@ module _ (ws : List ℕ) (names at : ℕ) (o : is_ok (read_clause names (drop at
 
     module _ (q : ℕ) (h : bare (counted (read_projection names) (drop (at + 3) ws)) ≡ ok tt (drop q ws)) where
       abbrev ps : List Projection
-      ps = (inverse (counted (read_projection names) (drop (at + 3) ws)) (drop q ws) h).0
+      ps = (was_read (counted (read_projection names) (drop (at + 3) ws)) h).0
 
       abbrev filtered : ℕ → List ℕ → Got Clause
       filtered g l = bind (times g P no_more l) (λ es r3. bind (keys_read names k r3) (λ ks r4. ok (with' (get_or ws (at + 1) 0) (get_or ws (at + 2) 0) ps es ks) r4))
@@ -184,7 +185,7 @@ module _ (ws : List ℕ) (names at : ℕ) (o : is_ok (read_clause names (drop at
       flag_is : (q < length ws) × ((get_or ws q 0 < 2) × (read_clause names (drop at ws) ≡ filtered (get_or ws q 0) (drop (q + 1) ws)))
       unfolding read_with
       flag_is =
-          let i = (inverse (counted (read_projection names) (drop (at + 3) ws)) (drop q ws) h).1 in
+          let i = (was_read (counted (read_projection names) (drop (at + 3) ws)) h).1 in
           let s = rw i at with-is in
           let w = word-there 0 2 ws q (ok-left (flag (drop q ws)) _ (rw s at o)) in
           (w.0, (((word-gives 0 2 (drop q ws)).given (get_or ws q 0) (drop (q + 1) ws) w.1).2, rw w.1 at s))

@@ -2,7 +2,7 @@
 use Prim.Native.Nat.{ℕ, suc, ◌+◌, ◌*◌, ◌-◌, ◌<◌, ◌≤◌}
 use native.Mathlib.Omega.{arith}
 use native.Mathlib.Numerals.{add-one}
-use mathlib.Core.Path.{◌≡◌, refl, sym, ap, ◌∙◌}
+use mathlib.Core.Path.{◌≡◌, sym, ap, ◌∙◌}
 use mathlib.Core.List.{List, ◌∷◌}
 use denote.Ref.{MutBor}
 use lib.ListN.{length, get_or, drop, set, length-set}
@@ -38,9 +38,6 @@ pub record Unwinding (limit : ℕ) (old new : Machine) : Type 0 where
   pub less : new.waiting ≤ old.waiting
   pub depth : new.depth ≡ old.depth
   pub lent : Lent old new
-
-pub begins : {limit : ℕ} {m : Machine} → Unwinding limit m m
-begins = record { same = refl; room = refl; less = omega arith; depth = refl; lent = record { name = refl; size = refl } }
 
 -- the top of the stack goes
 pops : (limit s k : ℕ) (l : List ℕ) (out : List ℕ) → s ≡ suc k → limit < get_or l (k * 2) 0 → unwind limit (stack_of s l) out ≡ unwind limit (stack_of k l) (15 ∷ (get_or l (k * 2 + 1) 0 ∷ out))

@@ -17,7 +17,7 @@ use Rattle.expr.specs.Read.{read_expr}
 use Rattle.expr.specs.Write.{write_e}
 use Rattle.expr.proofs.Accepted.{ok-inverse}
 use Rattle.expr.proofs.Written.{written}
-use Rattle.flat.proofs.Few.{a_word}
+use Rattle.expr.proofs.Least.{a_word}
 use Rattle.condition.specs.Cond.{Cond, unary, binary, binary_level, unary_level, left_level, binary_signs, binary_sign, unary_signs, unary_sign, atom_text}
 use Rattle.condition.specs.Printed.{wrap, printed}
 use Rattle.condition.proofs.Tables.{all-below}

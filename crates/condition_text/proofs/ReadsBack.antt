@@ -12,7 +12,7 @@ use Rattle.expr.specs.Read.{read_expr}
 use Rattle.expr.specs.Write.{write_e}
 use Rattle.expr.proofs.Accepted.{room-left}
 use Rattle.expr.proofs.Written.{written}
-use Rattle.flat.proofs.Few.{a_word}
+use Rattle.expr.proofs.Least.{a_word}
 use Rattle.condition.specs.Cond.{Cond, atom, unary, binary, Well}
 use Rattle.condition.specs.Printed.{printed}
 use Rattle.condition.specs.Written.{Reads}

@@ -2,3 +2,4 @@ pub mod Filling
 pub mod Adding
 pub mod Placing
 pub mod Stamping
+pub mod Chains

@@ -1,6 +1,5 @@
 -- What a lent list of flat words comes to have: its entries, and one more of them.
 use Rattle.std.specs.Prelude.{ℕ, suc, ◌+◌, ◌≤◌, ◌≡◌, Bool, cond, ◌&&◌, eqb, length, Option, None, Some}
-use Rattle.std.specs.List.{starts_with}
 use mathlib.Core.List.{List, [], ◌∷◌, ◌++◌, flat_map}
 use Rattle.scope.specs.Graph.{Name, same_name, Entry, entry}
 use Rattle.semantics.specs.Log.{Answer, found, missing}
@@ -28,9 +27,14 @@ unfoldable pub place : {A : Type 0} → (A → Bool) → List A → ℕ
 place fits [] = 0
 place fits (e ∷ es) = cond (fits e) 0 (suc (place fits es))
 
--- words that begin with a key
-abbrev pub begins : (key words : List ℕ) → Bool
-begins key words = starts_with eqb words key
+-- none fits
+abbrev pub Without : {A : Type 0} → (A → Bool) → List A → Type 0
+Without fits es = place fits es ≡ length es
+
+-- the number of the one that fits and is followed by none that does, or how many there are
+unfoldable pub last_place : {A : Type 0} → (A → Bool) → List A → ℕ
+last_place fits [] = 0
+last_place fits (e ∷ es) = cond (fits e && eqb (place fits es) (length es)) 0 (suc (last_place fits es))
 
 -- a binding of a name in a scope
 abbrev pub is_binding : ℕ → Name → Entry → Bool

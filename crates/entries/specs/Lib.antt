@@ -1,3 +1,4 @@
 pub mod Filled
 pub mod Adding
 pub mod Stamps
+pub mod Chains

@@ -1,24 +1,21 @@
 -- What is bound, kept in a few words, the stamps: the first is above the scope of every binding, and each name that the highest scope binds has
 -- a stamp equal to it. So most bindings are known to be new without a search.
-use Rattle.std.specs.Prelude.{ℕ, zero, suc, ◌+◌, ◌-◌, ◌*◌, ◌/◌, ◌%◌, ◌^◌, ◌<◌, ◌≤◌, ◌≡◌, List, [], ◌∷◌, length, min, get_or}
+use Rattle.std.specs.Prelude.{ℕ, zero, suc, ◌+◌, ◌-◌, ◌*◌, ◌/◌, ◌<◌, ◌≤◌, ◌≡◌, List, [], ◌∷◌, length, min, max, get_or}
 use Rattle.scope.specs.Flat.{binding_width, carried_width}
 use Rattle.scope.specs.Graph.{Name, name, Entry, entry, Carried}
 use Rattle.scope.specs.Answer.{name_of}
+use Rattle.rows.specs.Slot.{slot_of}
 use Rattle.semantics.specs.Log.{Bound, bound}
 use Rattle.semantics.specs.Lists.{put, puts}
 use Rattle.entries.specs.Filled.{binding_words, carried_words}
-use Rattle.entries.specs.Adding.{Holds, Becomes, after, place, is_binding}
+use Rattle.entries.specs.Adding.{Holds, Becomes, after, place, Without, is_binding}
 use Rattle.entries.specs.declared.Binding.{Binding}
 use Rattle.entries.specs.declared.Bindings.{Bindings}
-
--- The slot of an id, one of m: a product modulo 2^32, scaled down to m.
-unfoldable pub slot_of : (m v : ℕ) → ℕ
-slot_of m v = v * 2654435769 % 2 ^ 32 * m / 2 ^ 32
 
 -- The place of a name among so many stamps, which two names may share; nothing is proved of it, so another can take its place.
 unfoldable pub stamp_of : (len : ℕ) → Name → ℕ
 stamp_of len (name zero x) = suc x
-stamp_of len (name (suc m) v) = let half = min (len / 2) 4294967295 in len - half + slot_of half v
+stamp_of len (name (suc m) v) = let half = min (len / 2) 4294967295 in len - half + slot_of 1 (max half 1) v
 
 -- the stamp in the place of a name
 abbrev pub stamp : List ℕ → Name → ℕ
@@ -58,10 +55,16 @@ pub record Fits (a : Kept) : Type 0 where
   pub room : a.made * binding_width ≤ length a.list
   pub stamped : 1 ≤ length a.stamps
 
--- a list has these bindings, and the stamps know of them
+-- no two entries are of one scope and name
+unfoldable pub Once : List Entry → Type 0
+Once [] = Unit {0}
+Once (entry s x v k r ∷ es) = Without (is_binding s x) es × Once es
+
+-- a list has these bindings, each once, and the stamps know of them
 pub record Binds (old : List ℕ) (a : Kept) (es : List Entry) : Type 0 where
   pub list : Holds binding_words old a.list a.made es
   pub stamped : Stamped a.stamps es
+  pub once : Once es
 
 -- r is the place of a scope's name among m bindings
 pub record Finds (s : ℕ) (x : Name) (out stamps : List ℕ) (m r : ℕ) : Type 0 where

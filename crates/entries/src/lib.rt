@@ -1,31 +1,22 @@
 // One entry more in a lent flat list: a carried name as the last, and a binding or an answer where the first making gives the place and the
-// last one the value. Kinds are numbers, as the lists have them. A list and its number of entries are two parameters, as in crate lists_fill, which
-// says why.
+// last one the value. The place of a binding is found by stamps or a search, that of an answer along a chain of use ids. Kinds are numbers, as the
+// lists have them. Where a list needs nothing beside it, the list and its number of entries are two parameters, as in crate lists_fill, which says why.
 #![tactic(auto)]
 
 ghost use Rattle.std.specs.Prelude.{◌≡◌, true, [], ◌∷◌, ◌+◌, ◌*◌, ◌<◌, ◌≤◌, length, map};
 ghost use Rattle.std.proofs.lemmas.List.Edits.{sets};
-ghost use Rattle.scope.specs.Flat.{binding_width, entries_of, binding_of};
+ghost use Rattle.scope.specs.Flat.{binding_width, binding_of};
 ghost use Rattle.scope.specs.Graph.{carried};
 ghost use Rattle.scope.specs.Answer.{name_of};
 ghost use Rattle.semantics.specs.Log.{write};
 ghost use Rattle.semantics.specs.Lists.{note};
-ghost use Rattle.entries.specs.Filled.{recorded_width, recorded_words};
-ghost use Rattle.entries.specs.Adding.{Becomes, place, begins, is_binding, answer};
-ghost use Rattle.entries.specs.Stamps.{slot_of, stamp_of, Knows, Marks, Finds, Stores, Makes, Carries, Fits, IsStill, bound_of, kept};
+ghost use Rattle.entries.specs.Filled.{recorded_words};
+ghost use Rattle.entries.specs.Adding.{last_place, is_binding, answer};
+ghost use Rattle.entries.specs.Stamps.{stamp_of, Knows, Marks, Finds, Stores, Makes, Carries, Fits, IsStill, bound_of, kept};
+ghost use Rattle.entries.specs.Chains.{Sound, Room, Places, Notes};
 
-use scope::Name;
-
-// How many words an entry of each list has.
-pub const SCOPE_WIDTH: usize = 4;
-
-pub const BINDING_WIDTH: usize = 7;
-
-pub const CARRIED_WIDTH: usize = 4;
-
-pub const RECORDED_WIDTH: usize = 5;
-
-pub const FINDING_WIDTH: usize = 7;
+use rows::{hang, newest_in, slot};
+use scope::{BINDING_WIDTH, CARRIED_WIDTH, Name, RECORDED_WIDTH};
 
 // A binding of a name in a scope.
 #[derive(Clone, Copy, Debug, PartialEq, Eq)]
@@ -54,6 +45,17 @@ pub struct Bindings<'a> {
     pub stamps: &'a mut [u32],
 }
 
+// A lent list of recorded uses, how many are made in it, and the chains in which their ids hang, over so many slots. A multiplier tells which ids
+// share a slot; only the time rests on it, never the answer.
+#[derive(Drop)]
+pub struct Recorded<'a> {
+    pub list: &'a mut [u32],
+    pub made: u32,
+    pub chains: &'a mut [u32],
+    pub slots: usize,
+    pub mult: u32,
+}
+
 // An entry's words as the entry numbered i. Crates finding and steps store theirs by themselves: neither names this crate, the one stands below
 // it and the other beside it.
 pub fn set_entry<const W: usize>(out: &mut [u32], i: usize, entry: [u32; W])
@@ -75,41 +77,18 @@ pub fn put_carried(out: &mut [u32], n: u32, barrier: u32, name: Name, v: u32)
     set_entry(out, i, [barrier, name.word, v, name.mark]);
 }
 
-// The place of the first of m entries of W words that begins with a key, or m, and no None: there a new entry goes. By index: tried `position` over `as_chunks`, and nothing is known of a
-// closure over arrays of any length.
-fn place_of<const W: usize>(out: &[u32], m: usize, key: &[u32]) -> usize
-    requires { m * W ≤ length out.now }
-    ensures { (result ≤ m) × (result ≡ place (begins key.now) (entries_of W (λ words. words) m out.now)) }
+// The place of a scope's binding of a name, or how many there are. From the back, since what is replaced is among the last.
+fn place_of_name(bindings: &[[u32; BINDING_WIDTH]], scope: u32, name: Name) -> usize
+    ensures { result ≡ last_place (is_binding scope (name_of name)) (map binding_of bindings.now) }
 {
-    for i in 0..m {
-        if out[i * W..].starts_with(key) {
+    let Name { mark, word } = name;
+    for i in (0..bindings.len()).rev() {
+        let [of, called, _, _, _, _, marked] = bindings[i];
+        if scope == of && (mark == marked && word == called) {
             return i;
         }
     }
-    m
-}
-
-// The place of a scope's binding of a name, or how many there are. A search of its own: the name's mark is an entry's last word.
-fn place_of_name(bindings: &[[u32; BINDING_WIDTH]], scope: u32, name: Name) -> usize
-    ensures { result ≡ place (is_binding scope (name_of name)) (map binding_of bindings.now) }
-{
-    let Name { mark, word } = name;
-    bindings
-        .iter()
-        .position(|[of, called, _, _, _, _, marked]| {
-            scope == *of && (mark == *marked && word == *called)
-        })
-        .unwrap_or(bindings.len())
-}
-
-// The slot of an id, one of m.
-#[tactic(auto, unfolding(crate::specs::Stamps::slot_of))]
-fn slot(id: u32, m: usize) -> usize
-    requires { m < 4294967296 }
-    ensures slot { result ≡ slot_of m id }
-    ensures below { result ≤ m }
-{
-    (u64::from(id.wrapping_mul(2654435769)) * m as u64 / 4294967296) as usize
+    bindings.len()
 }
 
 // The place of a name among so many stamps: an index has the word of its number + 1, an id one in the upper half. Two names may have one place.
@@ -120,7 +99,7 @@ fn stamp_of(name: Name, len: usize) -> usize
         return name.word as usize + 1;
     }
     let half = (len / 2).min(u32::MAX as usize);
-    len - half + slot(name.word, half)
+    len - half + slot(name.word, half.max(1), 1)
 }
 
 // Whether the stamps tell that a scope doesn't bind a name: it is higher than any that binds, or the highest and the name's stamp is another.
@@ -218,12 +197,26 @@ fn answer_entry(id: u32, found: Option<Found>) -> [u32; RECORDED_WIDTH]
     }
 }
 
-// An answer in its place among m; how many there are then.
-pub fn put_answer(out: &mut [u32], m: usize, id: u32, found: Option<Found>) -> usize
-    requires { (m + 1) * recorded_width ≤ length out.old }
-    ensures { Becomes 1 recorded_words (note (write id (answer found))) out.old out.new m result }
-{
-    let i = place_of::<RECORDED_WIDTH>(out, m, &[id]);
-    set_entry(out, i, answer_entry(id, found));
-    if i < m { m } else { m + 1 }
+impl Recorded<'_> {
+    // The place of the entry with a use id, or where a new one goes.
+    fn place(&self, id: u32) -> u32
+        requires { Sound self.now }
+        ensures { Places self.now id result }
+    {
+        let is = |i| self.list[i as usize * RECORDED_WIDTH] == id;
+        newest_in(self.chains, self.slots, slot(id, self.slots, self.mult), is).unwrap_or(self.made)
+    }
+
+    // An answer put into the list.
+    pub fn put(&mut self, id: u32, found: Option<Found>)
+        requires { Room 1 self.old }
+        ensures { Notes 1 (note (write id (answer found))) self.old self.new }
+    {
+        let i = self.place(id);
+        set_entry(self.list, i as usize, answer_entry(id, found));
+        if i == self.made {
+            hang(self.chains, self.slots, slot(id, self.slots, self.mult), i);
+            self.made += 1;
+        }
+    }
 }

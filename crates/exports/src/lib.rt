@@ -8,8 +8,7 @@ ghost use Rattle.scope.specs.Offset.{offset};
 ghost use Rattle.exports.specs.Numbers.{flat, answer_by, left_by, checked_number, with_counts, looked_number, with_found, offset_number};
 
 use checker::{Lists, check_words};
-use entries::FINDING_WIDTH;
-use scope::{Name, lookup, scope_at_offset};
+use scope::{FINDING_WIDTH, Name, lookup, scope_at_offset};
 
 // The lists of a sheet and their five counts: 256, or the refusal's number. Eight parameters: a list each, as C has them.
 #[unsafe(no_mangle)]

@@ -1,9 +1,8 @@
 pub mod Rows
 pub mod Inverse
 pub mod Heads
-pub mod Split
 pub mod Accepted
-pub mod Repeats
+pub mod Least
 pub mod Sort
 pub mod ReadsBack
 pub mod Written

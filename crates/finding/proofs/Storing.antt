@@ -36,7 +36,7 @@ into-front fs flat n (suc k) h l =
     sym (set-append_left front (drop n fs) k (record_at flat k) (omega (arith, length_into (take n fs) flat k, length-take-le n fs l)))
     ∙ ap (λ (t : List Finding). set t k (record_at flat k)) (into-front fs flat n k (omega arith) l)
 
--- the record after six words is the record of what follows them
+-- the record after seven words is the record of what follows them
 module _ (a b c d e f g : ℕ) (l : List ℕ) where
   abbrev seven : List ℕ
   seven = a ∷ b ∷ c ∷ d ∷ e ∷ f ∷ g ∷ l

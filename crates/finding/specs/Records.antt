@@ -1,7 +1,7 @@
 -- Finding records, as their words are (Flat), and how they go into a lent list.
 use Rattle.std.specs.Prelude.{ℕ, zero, suc, ◌+◌, ◌*◌, List, [], ◌∷◌, ◌++◌, map, length, get_or, set, drop}
 use Rattle.std.proofs.lemmas.List.Edits.{sets}
-use Rattle.finding.specs.Flat.{name_word, mark_word, cited_by}
+use Rattle.finding.specs.Flat.{finding_width, name_word, mark_word, cited_by}
 use Rattle.semantics.specs.Log.{finding}
 use Rattle.semantics.specs.Log as log
 use Rattle.finding.specs.declared.Finding.{Finding}
@@ -28,13 +28,13 @@ six_at l p = get_or l p 0 ∷ get_or l (p + 1) 0 ∷ get_or l (p + 2) 0 ∷ get_
 -- the record at place i of a flat list, seven words a record
 abbrev pub record_at : List ℕ → ℕ → Finding
 record_at flat i = record {
-  code = get_or flat (i * 7) 0;
-  start = get_or flat (i * 7 + 1) 0;
-  end = get_or flat (i * 7 + 2) 0;
-  name = get_or flat (i * 7 + 3) 0;
-  one = get_or flat (i * 7 + 4) 0;
-  two = get_or flat (i * 7 + 5) 0;
-  mark = get_or flat (i * 7 + 6) 0;
+  code = get_or flat (i * finding_width) 0;
+  start = get_or flat (i * finding_width + 1) 0;
+  end = get_or flat (i * finding_width + 2) 0;
+  name = get_or flat (i * finding_width + 3) 0;
+  one = get_or flat (i * finding_width + 4) 0;
+  two = get_or flat (i * finding_width + 5) 0;
+  mark = get_or flat (i * finding_width + 6) 0;
 }
 
 -- fs with its first n entries the first n records of a flat list
@@ -49,7 +49,7 @@ words_of f = f.code ∷ f.start ∷ f.end ∷ f.name ∷ f.one ∷ f.two ∷ f.m
 -- a flat list with its first n records the first n of fs
 unfoldable pub out_of : List ℕ → List Finding → ℕ → List ℕ
 out_of flat fs zero = flat
-out_of flat fs (suc n) = sets (out_of flat fs n) (n * 7) (words_of (nth fs n))
+out_of flat fs (suc n) = sets (out_of flat fs n) (n * finding_width) (words_of (nth fs n))
 
 -- the records of findings at the front of a list, "entries past a count are untouched"
 unfoldable pub with_records : List Finding → List log.Finding → List Finding

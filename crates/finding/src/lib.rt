@@ -4,10 +4,11 @@
 ghost use Rattle.std.specs.Prelude.{◌≡◌, ◌+◌, ◌*◌, ◌≤◌, length};
 ghost use Rattle.std.proofs.lemmas.List.Edits.{sets};
 ghost use Rattle.scope.specs.Answer.{name_of};
+ghost use Rattle.finding.specs.Flat.{finding_width};
 ghost use Rattle.finding.specs.Records.{six_at, record_at, words_of, finding_by, into, out_of};
 ghost use Rattle.finding.specs.Logged.{logged_in, shadow_words, Cites};
 
-use scope::Name;
+use scope::{FINDING_WIDTH, LOGGED_WIDTH, Name};
 
 // Code, span, name + 1 or 0, two details, the name's mark: the words as a list has them. With the mark 1 the name is the id of a variable.
 #[derive(Clone, Copy, Debug, PartialEq, Eq)]
@@ -25,10 +26,10 @@ pub struct Finding {
 const SHADOW: u32 = 6;
 
 // The six words of a finding in a log.
-impl From<[u32; 6]> for Finding {
+impl From<[u32; LOGGED_WIDTH]> for Finding {
     ghost from_gives = { λ words finding. finding_by finding ≡ logged_in words };
 
-    fn from(words: [u32; 6]) -> Finding {
+    fn from(words: [u32; LOGGED_WIDTH]) -> Finding {
         let [code, a, b, c, d, e] = words;
         if code == SHADOW {
             return Finding {
@@ -54,7 +55,7 @@ impl From<[u32; 6]> for Finding {
 }
 
 // E1002 of a name in a log.
-pub fn shadow(name: Name, start: u32, end: u32) -> [u32; 6]
+pub fn shadow(name: Name, start: u32, end: u32) -> [u32; LOGGED_WIDTH]
     requires { Cites name }
     ensures { result ≡ shadow_words (name_of name) start end }
 {
@@ -64,16 +65,16 @@ pub fn shadow(name: Name, start: u32, end: u32) -> [u32; 6]
     }
 }
 
-impl From<Finding> for [u32; 7] {
+impl From<Finding> for [u32; FINDING_WIDTH] {
     ghost from_gives = { λ finding words. words ≡ words_of finding };
 
-    fn from(f: Finding) -> [u32; 7] {
+    fn from(f: Finding) -> [u32; FINDING_WIDTH] {
         [f.code, f.start, f.end, f.name, f.one, f.two, f.mark]
     }
 }
 
 // The six words of a log from p on.
-pub fn six_at(words: &[u32], p: usize) -> [u32; 6]
+pub fn six_at(words: &[u32], p: usize) -> [u32; LOGGED_WIDTH]
     requires { p + 6 ≤ length words.now }
     ensures { result ≡ six_at words.now p }
 {
@@ -82,10 +83,10 @@ pub fn six_at(words: &[u32], p: usize) -> [u32; 6]
 
 // The record at place i of a flat list, seven words a record.
 pub fn record_at(flat: &[u32], i: usize) -> Finding
-    requires { i * 7 + 7 ≤ length flat.now }
+    requires { (i + 1) * finding_width ≤ length flat.now }
     ensures { result ≡ record_at flat.now i }
 {
-    let at = i * 7;
+    let at = i * FINDING_WIDTH;
     Finding {
         code: flat[at],
         start: flat[at + 1],
@@ -99,18 +100,18 @@ pub fn record_at(flat: &[u32], i: usize) -> Finding
 
 // A record's seven words, stored at place i of a flat list.
 pub fn words_at(flat: &mut [u32], i: usize, f: Finding)
-    requires { i * 7 + 7 ≤ length flat.old }
-    ensures { flat.new ≡ sets flat.old (i * 7) (words_of f) }
+    requires { (i + 1) * finding_width ≤ length flat.old }
+    ensures { flat.new ≡ sets flat.old (i * finding_width) (words_of f) }
 {
-    let at = i * 7;
-    let words: [u32; 7] = f.into();
-    flat[at..at + 7].copy_from_slice(&words);
+    let at = i * FINDING_WIDTH;
+    let words: [u32; FINDING_WIDTH] = f.into();
+    flat[at..at + FINDING_WIDTH].copy_from_slice(&words);
 }
 
 // The first `count` entries become the flat list's records, and the rest is left as it was.
 #[tactic(auto, unfolding(crate::specs::Records::into))]
 pub fn store_all(list: &mut [Finding], flat: &[u32], count: usize)
-    requires { (count ≤ length list.old) × (count * 7 ≤ length flat.now) }
+    requires { (count ≤ length list.old) × (count * finding_width ≤ length flat.now) }
     ensures { list.new ≡ into list.old flat.now count }
 {
     for (i, record) in list[..count].iter_mut().enumerate() {
@@ -121,7 +122,7 @@ pub fn store_all(list: &mut [Finding], flat: &[u32], count: usize)
 // The other way: the flat list's first `count` records become those of the list. By place: a record's words are stored by theirs.
 #[tactic(auto, unfolding(crate::specs::Records::out_of))]
 pub fn load_all(flat: &mut [u32], list: &[Finding], count: usize)
-    requires { (count * 7 ≤ length flat.old) × (count ≤ length list.now) }
+    requires { (count * finding_width ≤ length flat.old) × (count ≤ length list.now) }
     ensures { flat.new ≡ out_of flat.old list.now count }
 {
     for i in 0..count {

@@ -1,5 +1,5 @@
 -- What a plain head is by its code: the tables of bits say which form it has, how many words it takes and how many parts follow.
-use Prim.Native.Nat.{ℕ, zero, suc, ◌+◌, ◌≤◌, ◌<◌}
+use Prim.Native.Nat.{ℕ, ◌+◌, ◌<◌}
 use native.Mathlib.Omega.{arith}
 use mathlib.Core.Path.{◌≡◌, refl, sym, subst}
 use mathlib.Core.Bool.{Bool, true, false, cond}
@@ -8,20 +8,9 @@ use borrow.Author.Tests.{ltb-true, eqb-true, eqb-false}
 use Rattle.heads.specs.Form.{shape_of, form_none, form_one}
 use Rattle.heads.specs.declared.Form.{Form}
 use Rattle.heads.specs.declared.Form.TheVariants.{Many}
+pub use Rattle.expr.proofs.Heads.{Each, ◌▹◌}
 use Rattle.expr.proofs.Inverse.{never}
-use Rattle.flat.specs.Plain.{plain_codes, quiet_codes, word_codes, bit_of, has, parts_of, Parts, Simple, Calm}
-
--- by cases on a number: at 0, and at those above
-pub record Each (P : ℕ → Type 0) : Type 0 where
-  pub at : (k : ℕ) → P k
-
-infixr 5 ◌▹◌
-pub ◌▹◌ : {P : ℕ → Type 0} → P zero → Each (λ k. P (suc k)) → Each P
-◌▹◌ {P} z s = record { at = go }
-  where
-    go : (k : ℕ) → P k
-    go zero = z
-    go (suc k) = s.at k
+use Rattle.flat.specs.Plain.{plain_codes, word_codes, bit_of, has, parts_of, Parts, Simple}
 
 -- a head of one word and one of two, of which Q holds with the number of its parts
 pub data Sort (Q : Form → ℕ → Type 0) (code : ℕ) : Type 0 where
@@ -40,9 +29,6 @@ has-below table code h = go (ltb code 26) refl h
 module _ {code : ℕ} (a : ℕ) where
   counts : Parts (Many code a) (0 + a)
   counts = let e : a ≡ 0 + a = omega arith in subst (λ (n : ℕ). Parts (Many code a) n) e Parts.many
-
-  calm-counts : Calm (Many code a) (0 + a)
-  calm-counts = let e : a ≡ 0 + a = omega arith in subst (λ (n : ℕ). Calm (Many code a) n) e Calm.many
 
 parted : Each (λ code. code < 26 → has plain_codes code ≡ true → (code ≡ 7 → ⊥) → (code ≡ 8 → ⊥) → Sort Parts code)
 unfolding shape_of form_none form_one
@@ -78,40 +64,6 @@ parted =
 pub parts-sort : (code : ℕ) → has plain_codes code ≡ true → (code ≡ 7 → ⊥) → (code ≡ 8 → ⊥) → Sort Parts code
 parts-sort code h = parted.at code (has-below plain_codes code h) h
 
-calmed : Each (λ code. code < 26 → has quiet_codes code ≡ true → Sort Calm code)
-unfolding shape_of form_none form_one
-calmed =
-    (λ p h. never (cc))
-    ▹ (λ p h. bare refl refl (λ a. Calm.leaf))  -- 1 Leaf
-    ▹ (λ p h. bare refl refl (λ a. Calm.leaf))  -- 2 Leaf
-    ▹ (λ p h. bare refl refl (λ a. Calm.leaf))  -- 3 Leaf
-    ▹ (λ p h. bare refl refl (λ a. Calm.leaf))  -- 4 Leaf
-    ▹ (λ p h. bare refl refl (λ a. Calm.leaf))  -- 5 Leaf
-    ▹ (λ p h. bare refl refl (λ a. Calm.leaf))  -- 6 Leaf
-    ▹ (λ p h. worded refl refl (λ a. Calm.variable))  -- 7 Var
-    ▹ (λ p h. worded refl refl (λ a. Calm.name))  -- 8 Unresolved
-    ▹ (λ p h. never (cc))  -- 9 Prop
-    ▹ (λ p h. never (cc))  -- 10 Two
-    ▹ (λ p h. never (cc))  -- 11 Slice
-    ▹ (λ p h. worded refl refl calm-counts)  -- 12 Many
-    ▹ (λ p h. worded refl refl calm-counts)  -- 13 Many
-    ▹ (λ p h. worded refl refl calm-counts)  -- 14 Many
-    ▹ (λ p h. never (cc))  -- 15 BinOp
-    ▹ (λ p h. never (cc))  -- 16 UnaryOp
-    ▹ (λ p h. never (cc))  -- 17 Case
-    ▹ (λ p h. bare refl refl (λ a. Calm.is-null))  -- 18 IsNull
-    ▹ (λ p h. bare refl refl (λ a. Calm.in_list))  -- 19 Two
-    ▹ (λ p h. never (cc))  -- 20 PatternPredicate
-    ▹ (λ p h. never (cc))  -- 21 ListComprehension
-    ▹ (λ p h. never (cc))  -- 22 PatternComprehension
-    ▹ (λ p h. never (cc))  -- 23 ListPredicate
-    ▹ (λ p h. never (cc))  -- 24 MapProjection
-    ▹ (λ p h. bare refl refl (λ a. Calm.leaf))  -- 25 Leaf
-    ▹ record { at = λ k p h. absurd (omega arith) }
-
-pub calm-sort : (code : ℕ) → has quiet_codes code ≡ true → Sort Calm code
-calm-sort code h = calmed.at code (has-below quiet_codes code h) h
-
 pub simple-sort : (code : ℕ) → has plain_codes code ≡ true → Sort Simple code
 unfolding shape_of form_one
 simple-sort code h = go (eqb code 7) refl (eqb code 8) refl
@@ -124,8 +76,3 @@ simple-sort code h = go (eqb code 7) refl (eqb code 8) refl
     go true e d f = subst (Sort Simple) (sym (eqb-true code 7 e)) (worded refl refl (λ a. Simple.variable))
     go false e true f = subst (Sort Simple) (sym (eqb-true code 8 f)) (worded refl refl (λ a. Simple.name))
     go false e false f = made (parts-sort code h (eqb-false code 7 e) (eqb-false code 8 f))
-
--- what counts parts is at most the word
-pub counted-most : (b : Bool) (a : ℕ) → cond b a 0 ≤ a
-counted-most true a = omega arith
-counted-most false a = omega arith

@@ -1,7 +1,6 @@
 -- With one level more of room a reading is the same, but where less room refuses it by cause 6.
 use Prim.Native.Nat.{ℕ, zero, suc}
 use mathlib.Core.Bool.{Bool, true, false}
-use mathlib.Core.Path.{◌≡◌}
 use mathlib.Core.List.{List, [], ◌∷◌}
 use Rattle.heads.specs.Got.{Got, ok, no, bind, next, bare, word_in, any_word}
 use Rattle.heads.specs.Form.{read_form, kids_of, items_of, has_pattern}
@@ -9,7 +8,6 @@ use Rattle.heads.specs.Head.{read_part, read_elem, mark_low, mark_high, mark_kid
 use Rattle.heads.specs.declared.Form.{Form}
 use Rattle.heads.proofs.Shapes.{Rest}
 use Rattle.expr.specs.Read.{Reader, RestE, RestS, no_more, times, marks, elem_one, elems, parts, pattern, maybe_pattern, after_form, read_expr}
-use Rattle.expr.proofs.Inverse.{never}
 
 -- the answer with more room, and the one with less
 pub data Deep {A : Type 0} : Got A → Got A → Type 0 where
@@ -37,11 +35,6 @@ deep-bare deep = deep
 pub deep-next : {h h' : Rest} (g : Got (Unit {0})) → ((r : List ℕ) → Deep (h r) (h' r)) → Deep (next g h) (next g h')
 deep-next (ok a r) f = f r
 deep-next (no c) f = same
-
--- what is read with less room is read the same with more
-pub deep-ok : {A : Type 0} {g h : Got A} {a : A} {r : List ℕ} → Deep g h → h ≡ ok a r → g ≡ ok a r
-deep-ok same e = e
-deep-ok deep e = never (cc)
 
 pub deep-times : (n : ℕ) {P P' : Reader} {K K' : RestE} → Deeper P P' → Deeper K K' → Deeper (times n P K) (times n P' K')
 unfolding times

@@ -101,10 +101,6 @@ pub record Skimmed (names : ℕ) (ws : List ℕ) (at room n p left d : ℕ) : Ty
 pub skim-begin : (names : ℕ) (ws : List ℕ) (at room n : ℕ) → at ≤ length ws → Skimmed names ws at room n at n room
 skim-begin names ws at room n h = record { same = record { tells = λ x. refl }; from = omega arith; within = h }
 
--- room ran out, or there are too many
-pub skim-deep : {A : Type 0} {ws : List ℕ} {at : ℕ} {f : List ℕ → Got A} → at ≤ length ws → Skims ws at f (Err Depth)
-skim-deep h = record { same = λ x. absurd (x refl); from = h; within = omega arith }
-
 module _ {names : ℕ} {ws : List ℕ} {at room n p left d : ℕ} (l : Skimmed names ws at room n p left d) where
   -- what the rest of the row gives
   skim-ends : (r : Result ℕ Refusal) → Ans ws p (bare (times left (read_expr names d) no_more (drop p ws))) (read_got ws r) (read_end ws r) → Skims ws at (times n (read_expr names room) no_more) r

@@ -1,22 +1,16 @@
--- Plain heads: at most one word follows the code, and then so many expressions in a row and nothing else. What the code sees of a head
--- without taking it apart.
-use Rattle.std.specs.Prelude.{ℕ, ◌+◌, ◌*◌, ◌/◌, ◌%◌, ◌^◌, ◌<◌, ◌≤◌, ◌≡◌, Bool, false, cond, ◌&&◌, ◌||◌, List, eqb, leb, ltb, length, get_or, drop, Option, None, Some, Result, Ok, Err}
+-- Plain heads: at most one word follows the code, and then so many expressions in a row and nothing else.
+use Rattle.std.specs.Prelude.{ℕ, ◌+◌, ◌*◌, ◌/◌, ◌%◌, ◌^◌, ◌<◌, ◌≤◌, ◌≡◌, Bool, false, cond, ◌&&◌, ◌||◌, List, eqb, leb, ltb, length, drop, Option, None, Some, Result, Ok, Err}
 use Rattle.heads.specs.Got.{ok, no}
 use Rattle.heads.specs.Form.{read_form, kids_of, items_of, has_pattern}
 use Rattle.heads.specs.declared.Form.{Form}
 use Rattle.heads.specs.declared.Form.TheVariants.{Leaf, Var, Unresolved, Prop, Two, Many, BinOp, UnaryOp, IsNull, ListComprehension, ListPredicate}
 use Rattle.refusal.specs.Number.{number_of}
 use Rattle.refusal.specs.declared.Refusal.{Refusal}
-use Rattle.flat.specs.declared.Plain.{Plain}
-use Rattle.flat.specs.declared.Plain.TheVariants as plain
 
--- Tables by code, a bit each, the bit of code 0 the lowest: the plain heads, the quiet ones, those that a word follows; those whose word
+-- Tables by code, a bit each, the bit of code 0 the lowest: the plain heads, those that a word follows; those whose word
 -- is the number of the parts or adds to it, is a name, is below 2. And by two bits each, the parts without that word.
 abbrev pub plain_codes : ℕ
 plain_codes = 44955646
-
-abbrev pub quiet_codes : ℕ
-quiet_codes = 34370046
 
 abbrev pub word_codes : ℕ
 word_codes = 10613632
@@ -70,38 +64,11 @@ pub data Simple : Form → ℕ → Type 0 where
   parts : {f : Form} {k : ℕ} → Parts f k → Simple f k
   other : {f : Form} → has_pattern f ≡ false → items_of f ≡ 0 → Simple f (kids_of f)
 
--- a plain head whose parts stand in the general setting of the kinds walk
-pub data Calm : Form → ℕ → Type 0 where
-  leaf : {code : ℕ} → Calm (Leaf code) 0
-  variable : {v : ℕ} → Calm (Var v) 0
-  name : {x : ℕ} → Calm (Unresolved x) 0
-  many : {code n : ℕ} → Calm (Many code n) n
-  is-null : Calm IsNull 1
-  in_list : Calm (Two 19) 2
-
 -- the words after a head, from p on
 pub record Ends (ws : List ℕ) (at p : ℕ) (r : List ℕ) : Type 0 where
   pub rest : r ≡ drop p ws
   pub longer : at < p
   pub within : p ≤ length ws
-
--- what was seen of a head that reads as f, with r left: any that the table has is told, and no other is
-abbrev pub Sees : List ℕ → ℕ → Form → List ℕ → Plain → Type 0
-Sees ws at f r (plain.Var x) = (f ≡ Var x) × Ends ws at (at + 2) r
-Sees ws at f r (plain.Name x) = (f ≡ Unresolved x) × Ends ws at (at + 2) r
-Sees ws at f r (plain.Parts p k) = Parts f k × Ends ws at p r
-Sees ws at f r plain.Rare = has plain_codes (get_or ws at 0) ≡ false
-
-abbrev pub Quiets : List ℕ → ℕ → Form → List ℕ → Option (ℕ × ℕ) → Type 0
-Quiets ws at f r (Some (p, k)) = Calm f k × Ends ws at p r
-Quiets ws at f r None = has quiet_codes (get_or ws at 0) ≡ false
-
--- Where a head reads at `at`, v is what is seen of it.
-pub record Seen (ws : List ℕ) (at : ℕ) (v : Plain) : Type 0 where
-  pub of : (names : ℕ) (f : Form) (r : List ℕ) → read_form names (drop at ws) ≡ ok f r → Sees ws at f r v
-
-pub record Calmed (ws : List ℕ) (at : ℕ) (v : Option (ℕ × ℕ)) : Type 0 where
-  pub of : (names : ℕ) (f : Form) (r : List ℕ) → read_form names (drop at ws) ≡ ok f r → Quiets ws at f r v
 
 -- such a head that reads, another one, or none that does
 abbrev pub PlainAt : List ℕ → ℕ → ℕ → Result (Option (ℕ × ℕ)) Refusal → Type 0

@@ -1,13 +1,11 @@
 // The codes of heads, by bits of numbers as the definition's tables have them.
 ghost use Rattle.std.specs.Prelude.{◌≡◌, true, false, ◌<◌};
 ghost use Rattle.std.specs.Option.{MatchOption};
-ghost use Rattle.flat.specs.Plain.{plain_codes, quiet_codes, word_codes, bit_of, has, counted, parts_of, is_out};
+ghost use Rattle.flat.specs.Plain.{plain_codes, word_codes, bit_of, has, counted, parts_of, is_out};
 
-// By code, a bit each: whether a head is plain, whether it is a quiet one, whether a word follows, whether that word is the number of the
+// By code, a bit each: whether a head is plain, whether a word follows, whether that word is the number of the
 // parts or adds to it, whether it is a name, whether it is below 2.
 const PLAIN: u32 = 0x2adf7fe;
-
-const QUIET: u32 = 0x20c71fe;
 
 const WORDS: u32 = 0xa1f380;
 
@@ -56,13 +54,6 @@ impl Code {
         ensures { MatchOption result (has plain_codes number ≡ false) (λ code. (code.number ≡ number) × (has plain_codes number ≡ true)) }
     {
         Code::of(PLAIN, number)
-    }
-
-    // The code of a quiet head.
-    pub fn quiet(number: u32) -> Option<Code>
-        ensures { MatchOption result (has quiet_codes number ≡ false) (λ code. (code.number ≡ number) × (has quiet_codes number ≡ true)) }
-    {
-        Code::of(QUIET, number)
     }
 
     // How many words follow it.

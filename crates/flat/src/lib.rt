@@ -5,10 +5,9 @@
 mod code;
 
 ghost use Rattle.std.specs.Prelude.{◌≡◌, ℕ, ◌<◌, ◌≤◌, length, drop};
-ghost use Rattle.words.specs.Words.{words};
 ghost use Rattle.heads.specs.Answer.{Reads, words_of};
 ghost use Rattle.expr.specs.Read.{reader_of, no_more, times};
-ghost use Rattle.flat.specs.Plain.{Seen, Calmed, PlainAt};
+ghost use Rattle.flat.specs.Plain.{PlainAt};
 ghost use Rattle.flat.specs.Skim.{Skims};
 
 use code::Code;
@@ -16,51 +15,8 @@ use heads::Section;
 use refusal::Refusal;
 use words::{count, word};
 
-// A plain head: a use of a variable or of a name, of two words, or parts, with where they begin and how many there are. Any other is rare.
-// It is what plain_at says of a head; no crate here calls plain_at or quiet_at.
-#[derive(Clone, Copy)]
-pub enum Plain {
-    Var(u32),
-    Name(u32),
-    Parts(usize, usize),
-    Rare,
-}
-
 // A row that is read flat has no more expressions than this.
 const MAX_ROW: usize = 8192;
-
-// What is seen of the head at `at`, where one reads.
-pub fn plain_at(s: &[u8], at: usize) -> Plain
-    requires { at ≤ length (words s.now) }
-    ensures { Seen (words s.now) at result }
-{
-    let number = word(s, at);
-    let p = at + 1;
-    let a = word(s, p);
-    if number == 7 {
-        return Plain::Var(a);
-    }
-    if number == 8 {
-        return Plain::Name(a);
-    }
-    match Code::plain(number) {
-        Some(code) => Plain::Parts(p + code.words(), code.parts(a)),
-        None => Plain::Rare,
-    }
-}
-
-// Where the parts of the head at `at` begin and how many there are, if one reads there, is plain, and its parts stand in the general
-// setting of the kinds walk.
-pub fn quiet_at(s: &[u8], at: usize) -> Option<(usize, usize)>
-    requires { at ≤ length (words s.now) }
-    ensures { Calmed (words s.now) at result }
-{
-    let number = word(s, at);
-    let p = at + 1;
-    let a = word(s, p);
-    let code = Code::quiet(number)?;
-    Some((p + code.words(), code.parts(a)))
-}
 
 // Any other head at `at`, read whole: where expressions follow it and nothing else, where they begin and how many there are.
 fn read_other(section: &Section, at: usize) -> Result<Option<(usize, usize)>, Refusal>

@@ -24,7 +24,7 @@ use Rattle.fused.proofs.ApartClauses.{counted-law}
 abbrev pub behind : List Seen → Both → Both
 behind B v = record { names = standing (v.names.visible ++ B) v.names.cur v.names; kinds = v.kinds; olds = v.olds }
 
-carry-last : (w : World) (ps : List Pair) (s : State) → (carry_all w ps s).last ≡ s.last
+pub carry-last : (w : World) (ps : List Pair) (s : State) → (carry_all w ps s).last ≡ s.last
 unfolding carry_all
 carry-last w [] s = refl
 carry-last w (pair x v ∷ ps) s = carry-last w ps (say (carry (carried s.cur x v)) s)

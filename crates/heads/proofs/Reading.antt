@@ -1,6 +1,6 @@
 -- Laws of readers run one after the other: what was read moves on, what was not is the definition's refusal, and the end of a reader
 -- that reads no more.
-use Rattle.std.proofs.Common.{◌≡◌, ◌∙◌, refl, ℕ, Bool, true, false, ◌<◌, ◌≤◌, List, length, drop, Result, Ok, Err, arith}
+use Rattle.std.proofs.Common.{◌≡◌, ◌∙◌, refl, ℕ, Bool, true, false, ◌≤◌, List, length, drop, Result, arith}
 use Rattle.std.specs.Prelude.{cond}
 use Rattle.std.specs.Result.{IsErr, IsErrAnd}
 use Rattle.refusal.specs.Number.{number_of}
@@ -11,7 +11,7 @@ use Rattle.words.proofs.Words.{drop-word, drop-none}
 use Rattle.heads.specs.Got.{Got, ok, no, bind, bare, counted}
 use Rattle.heads.specs.Form.{case_rest, comp_rest, read_form}
 use Rattle.heads.specs.Head.{read_maybe, read_part, read_elem}
-use Rattle.heads.specs.Answer.{Ans, got, end, longer, read_got, read_end}
+use Rattle.heads.specs.Answer.{Ans, got, end, read_got, read_end}
 
 -- what a `?` answers
 pub refused : {ws : List ℕ} {at : ℕ} {g : Got (Unit {0})} (e : Refusal) {p : ℕ} (r : Result ℕ Refusal) → IsErr r × IsErrAnd r (λ y. y ≡ e) → Ans ws at g (no (number_of e)) p → Ans ws at g (read_got ws r) (read_end ws r)
@@ -35,7 +35,7 @@ module _ {A B : Type 0} {ws : List ℕ} {at : ℕ} {g : Got A} (k : A → List �
   pub failed : (e : Refusal) {p : ℕ} (r : Result ℕ Refusal) → Ans ws at g (no (number_of e)) p → IsErr r × IsErrAnd r (λ y. y ≡ e) → Ans ws at (bare (bind g k)) (read_got ws r) (read_end ws r)
   failed e r a h = refused e r h (record { same = rw a.same; from = a.from; within = a.within })
 
-was_read : {B : Type 0} (g : Got B) {r : List ℕ} → bare g ≡ ok tt r → (x : B) × (g ≡ ok x r)
+pub was_read : {B : Type 0} (g : Got B) {r : List ℕ} → bare g ≡ ok tt r → (x : B) × (g ≡ ok x r)
 was_read (ok x s) e = (x, cc)
 was_read (no n) e = cc
 
@@ -71,10 +71,6 @@ module _ {A : Type 0} {ws : List ℕ} {at : ℕ} {h : Got A} {e : ℕ} (x y : Go
 
   pub otherwise : (b : Bool) → b ≡ false → Ans ws at y h e → Ans ws at (cond b x y) h e
   otherwise b f a = rw f a
-
-pub longer_from : {A : Type 0} {ws : List ℕ} {at p : ℕ} {g : Got A} (r : Result (A × ℕ) Refusal) → at < p → Ans ws p g (got ws r) (end ws r) → longer at r
-longer_from (Ok x) lt a = omega arith
-longer_from (Err e) lt a = tt
 
 -- `unfolding readers` opens the readers' definitions
 unfoldable pub readers : Unit {0}

@@ -37,13 +37,3 @@ module _ {A B : Type 0} where
   pub bind-bind : {C : Type 0} (g : Got A) (k : A → List ℕ → Got B) (l : B → List ℕ → Got C) → bind (bind g k) l ≡ bind g (λ a r. bind (k a r) l)
   bind-bind (ok a r) k l = refl
   bind-bind (no c) k l = refl
-
--- `next` and `bare` are binds
-module _ {A : Type 0} where
-  pub next-bind : (g : Got A) (h : Rest) → next g h ≡ bind g (λ a r. h r)
-  next-bind (ok a r) h = refl
-  next-bind (no c) h = refl
-
-  pub bare-end : (g : Got A) → bare g ≡ bind g (λ a r. ok tt r)
-  bare-end (ok a r) = refl
-  bare-end (no c) = refl

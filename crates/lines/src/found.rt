@@ -2,6 +2,7 @@
 ghost use Rattle.std.specs.Prelude.{ℕ, ◌*◌, ◌^◌, ◌<◌, ◌≤◌, length, get_or};
 
 use finding::{Finding, six_at};
+use scope::LOGGED_WIDTH;
 
 // So many findings, no more than a sheet has words, as flat words, six each (finding/specs/Logged): the first ones stand from the front of the words on, the others
 // from their end back. The words are the log's, which are lent (no heap), so front and count stand beside them; and so does how many expressions
@@ -29,9 +30,9 @@ impl<'a> Found<'a> {
         ensures value { result ≡ word_of self.now.front self.now.words.now i }
     {
         if i < self.front {
-            return i * 6;
+            return i * LOGGED_WIDTH;
         }
-        self.words.len() - (i - self.front + 1) * 6
+        self.words.len() - (i - self.front + 1) * LOGGED_WIDTH
     }
 
     pub fn nth(&self, i: usize) -> Finding

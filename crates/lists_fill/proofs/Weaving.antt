@@ -21,7 +21,7 @@ use Rattle.theorems.specs.Woven.{barrier_of, adopted, beyond, adopted_by, beyond
 use Rattle.steps.specs.Said.{events, event_at}
 use Rattle.entries.specs.Filled.{binding_words}
 use Rattle.entries.specs.Adding.{Holds}
-use Rattle.entries.specs.Stamps.{Kept, Fits, Stamped, Makes, bound_of}
+use Rattle.entries.specs.Stamps.{Kept, Fits, Stamped, Once, Makes, bound_of}
 use Rattle.entries.specs.declared.Binding.{Binding}
 use Rattle.entries.proofs.Filling.{filled-nil}
 use Rattle.entries.proofs.Stamping.{none_made, more-made, fits-still}
@@ -139,8 +139,8 @@ module _ (kind : ℕ → ℕ) where
 
 -- bindings put into a list that had none
 pub made-of-none : {bs : List Bound} {a b : Kept} → a.made ≡ 0 → Makes bs a b → length (puts bs []) * binding_width ≤ length a.list → Holds binding_words a.list b.list b.made (puts bs [])
-unfolding flat_map Stamped
-made-of-none {a = a} e h room = (h.holds a.list [] (record { list = record { count = e; wrote = sym (filled-nil a.list); kept = refl }; stamped = tt }) room).list
+unfolding flat_map Stamped Once
+made-of-none {a = a} e h room = (h.holds a.list [] (record { list = record { count = e; wrote = sym (filled-nil a.list); kept = refl }; stamped = tt; once = tt }) room).list
 
 -- The loop over n events: i are passed and c carried entries are met, whatever the use ids of names are.
 pub record Weaving (w : Carried) (found : List ℕ) (n : ℕ) (a b : Kept) (i c : ℕ) : Type 0 where

@@ -2,7 +2,7 @@
 // recorded uses with the first making giving the place and the last one the value. Each list has a loop and an adder of its own, as it has a
 // definition and a law of its own; kinds are numbers, as the lists have them. Loops go by index and not over chunks: tried, and it cost a law and
 // an answer file more. A list and its number of entries are two parameters: of a struct with both, each adder, each loop and each filler would have
-// to say besides that the list is the lent one still, as those of Bindings do.
+// to say besides that the list is the lent one still, as those of Bindings and Recorded do, which have more beside their lists.
 #![tactic(auto)]
 
 ghost use Rattle.std.specs.Prelude.{◌≡◌, [], ◌++◌, ℕ, ◌+◌, ◌*◌, ◌≤◌, length};
@@ -11,17 +11,18 @@ ghost use Rattle.semantics.specs.Log.{scope_of, bind_of, answer_of, find_of, sco
 ghost use Rattle.semantics.specs.Lists.{notes};
 ghost use Rattle.steps.specs.Said.{answered, event_at};
 ghost use Rattle.finding.specs.Flat.{finding_width, finding_words};
-ghost use Rattle.entries.specs.Filled.{scope_words, recorded_width, recorded_words};
+ghost use Rattle.entries.specs.Filled.{scope_words, recorded_words};
 ghost use Rattle.entries.specs.Adding.{Holds, Becomes, after, answer};
 ghost use Rattle.entries.specs.Stamps.{Makes, Fits, IsStill, kept};
-ghost use Rattle.lists_fill.specs.Said.{id_in, events_in, told_in, all_in, all_told};
+ghost use Rattle.entries.specs.Chains.{Room, Notes};
+ghost use Rattle.lists_fill.specs.Said.{id_in, events_in, told_in, all_in, all_told, Recordable};
 ghost use Rattle.lists_fill.specs.Adding.{said};
 ghost use Rattle.lists_fill.specs.Weaving.{barrier_in, Ready, Adopts, Weaves, bound_in, Weavable, Makings};
 
-use entries::{Binding, Bindings, CARRIED_WIDTH, Found, put_answer, set_entry};
+use entries::{Binding, Bindings, Found, Recorded, set_entry};
 use finding::{Finding, six_at, words_at};
-use rows::Rows;
-use scope::{Name, ScopeKind};
+use rows::{Rows, empty};
+use scope::{CARRIED_WIDTH, LOGGED_WIDTH, Name, ScopeKind};
 use steps::{Log, Sort};
 
 // The use id of no bytes.
@@ -52,10 +53,10 @@ fn found_if(flag: u32, variable: u32, kind: u32, via: u32) -> Option<Found>
     })
 }
 
-impl From<[u32; 6]> for Logged {
+impl From<[u32; LOGGED_WIDTH]> for Logged {
     ghost from_gives = { λ words logged. (id : ℕ → ℕ) → said id logged ≡ event_at id words 0 };
 
-    fn from(words: [u32; 6]) -> Logged {
+    fn from(words: [u32; LOGGED_WIDTH]) -> Logged {
         let [sort, a, b, c, d, e] = words;
         let binding = Binding {
             scope: a,
@@ -83,7 +84,7 @@ fn logged_at(found: &[u32], i: usize) -> Logged
     requires { (i + 1) * 6 ≤ length found.now }
     ensures { (id : ℕ → ℕ) → said id result ≡ event_at id found.now (i * 6) }
 {
-    Logged::from(six_at(found, i * 6))
+    Logged::from(six_at(found, i * LOGGED_WIDTH))
 }
 
 // The scope that an event opens, after m others; how many there are then.
@@ -252,27 +253,49 @@ fn use_of(uses: &[u32], name: u32) -> u32
 }
 
 // The answer that an event records, where a name's use id is known.
-fn add_answer(out: &mut [u32], m: usize, uses: &[u32], e: Logged) -> usize
-    requires { (m + 1) * recorded_width ≤ length out.old }
-    ensures { Becomes 1 recorded_words (notes (answer_of (said (id_in uses.now) e))) out.old out.new m result }
+fn add_answer(uses: &[u32], e: Logged, recorded: &mut Recorded)
+    requires { Room 1 recorded.old }
+    ensures { Notes 1 (notes (answer_of (said (id_in uses.now) e))) recorded.old recorded.new }
 {
     match e {
-        Logged::Variable(f) => put_answer(out, m, f.variable, Some(f)),
-        Logged::Name(name, found) => put_answer(out, m, use_of(uses, name), found),
-        _ => m,
+        Logged::Variable(f) => recorded.put(f.variable, Some(f)),
+        Logged::Name(name, found) => recorded.put(use_of(uses, name), found),
+        _ => (),
     }
 }
 
-// The recorded uses of all events.
-pub fn fill_recorded(log: &Log, uses: &[u32], out: &mut [u32]) -> usize
-    requires { (log.now.said * 6 ≤ length log.now.words.now) × (log.now.said * recorded_width ≤ length out.old) }
+// The answers that n events record.
+fn add_answers(found: &[u32], n: usize, uses: &[u32], recorded: &mut Recorded)
+    requires { (n * 6 ≤ length found.now) × Room n recorded.old }
+    ensures { Notes n (notes (answers_in (events_in (id_in uses.now) n found.now))) recorded.old recorded.new }
+{
+    for i in 0..n {
+        add_answer(uses, logged_at(found, i), recorded);
+    }
+}
+
+// The recorded uses of all events, with chains in lent words and a multiplier for their ids.
+pub fn fill_recorded(
+    log: &Log,
+    uses: &[u32],
+    chains: &mut [u32],
+    mult: u32,
+    out: &mut [u32],
+) -> usize
+    requires { Recordable log.now chains.old out.old }
     ensures { Holds recorded_words out.old out.new result (notes (answers_in (all_in (id_in uses.now) log.now)) []) }
 {
-    let mut m = 0;
-    for i in 0..log.said as usize {
-        m = add_answer(out, m, uses, logged_at(log.words, i));
-    }
-    m
+    let n = log.said as usize;
+    let slots = empty(chains, n);
+    let mut recorded = Recorded {
+        list: out,
+        made: 0,
+        chains,
+        slots,
+        mult,
+    };
+    add_answers(log.words, n, uses, &mut recorded);
+    recorded.made as usize
 }
 
 // k findings of the kind walk, which stand at the back, after m that there are; how many there are then. From
@@ -282,7 +305,7 @@ fn append_findings(found: &[u32], k: usize, out: &mut [u32], m: usize) -> usize
     ensures { Becomes k finding_words (after (told_in k found.now)) out.old out.new m result }
 {
     for i in 0..k {
-        let told = Finding::from(six_at(found, found.len() - (i + 1) * 6));
+        let told = Finding::from(six_at(found, found.len() - (i + 1) * LOGGED_WIDTH));
         words_at(out, m + i, told);
     }
     m + k

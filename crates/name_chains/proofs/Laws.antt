@@ -14,15 +14,16 @@ use Rattle.words.proofs.Words.{drop-word, drop-none, word_of, words_chunks}
 use Rattle.std.proofs.Math.ListN.{drop_of_length-le}
 use Rattle.std.proofs.Math.Seq.{drop-cons}
 use Rattle.tables.specs.Name.{name_at}
-use lib.ListN.{length, get_or, set, length-set}
+use lib.ListN.{length, get_or}
 use lib.Seq.{get_or-take, length-take-le, take-suc}
 use Rattle.tables.specs.Distinct.{same_bytes, name_in, fresh_after}
 use Rattle.std.specs.Prelude.{None, Some, Option, is_some}
-use Rattle.rows.specs.Rows.{newest, number_of, Hangs}
+use Rattle.tables.specs.Index.{number_of}
+use Rattle.rows.specs.Rows.{newest, Hangs, Emptied}
 use Rattle.rows.proofs.Chains.{none-chained, chained-alike}
 use Rattle.name_chains.specs.Slot.{hash_of, slot_of}
 use Rattle.tables.specs.Answer.{names_at}
-use Rattle.name_chains.specs.Hung.{text_in, itself, slot_in, Cleared, Hung}
+use Rattle.name_chains.specs.Hung.{text_in, itself, slot_in, Hung}
 
 pub slot-below : (mult m : ℕ) → 0 < m → (x : List ℕ) → slot_of mult m x < m
 unfolding slot_of
@@ -83,9 +84,9 @@ pub one_more : {slot : List ℕ → ℕ} {s places : List ℕ} {m n x : ℕ} {ol
 one_more {slot} {s} {places} w e a = record { below = w.below; chained = a.chained itself (slot_in slot s places) e w.chained }
 
 -- none yet
-pub none-hung : {m : ℕ} {old new : List ℕ} (mult : ℕ) (s places : List ℕ) → 0 < m → m ≤ length old → Cleared m old new → Hung (slot_of mult m) s places m 0 new
-none-hung {m} {old} {new} mult s places p h c =
-    record { below = slot-below mult m p; chained = none-chained itself (slot_in (slot_of mult m) s places) m new (omega (arith, c.kept)) c.zeros }
+pub none-hung : {m n : ℕ} {old new : List ℕ} (mult : ℕ) (s places : List ℕ) → Emptied n old new m → Hung (slot_of mult m) s places m 0 new
+none-hung {m} {new = new} mult s places c =
+    record { below = slot-below mult m c.empty.some; chained = none-chained itself (slot_in (slot_of mult m) s places) m new (omega (arith, c.empty.room)) c.empty.zeros }
 
 -- one more, four bytes
 pub next-word : (es : List (List ℕ)) (i : ℕ) → i < length es → map word_of (drop i es) ≡ word_of (get_or es i []) ∷ map word_of (drop (i + 1) es)

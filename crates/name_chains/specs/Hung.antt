@@ -1,5 +1,5 @@
 -- Names that hang in chains by the slots of their texts, in words: the chains of `rows`, with a name's slot for its key.
-use Rattle.std.specs.Prelude.{ℕ, ◌<◌, ◌≡◌, List, length, get_or}
+use Rattle.std.specs.Prelude.{ℕ, ◌<◌, List, get_or}
 use Rattle.tables.specs.Name.{name_at}
 use Rattle.rows.specs.Rows.{Chained}
 
@@ -14,11 +14,6 @@ itself b = b
 -- the slot of the name i
 abbrev pub slot_in : (List ℕ → ℕ) → (s places : List ℕ) → ℕ → ℕ
 slot_in slot s places i = slot (text_in s places i)
-
--- the first m words are zero
-pub record Cleared (m : ℕ) (old new : List ℕ) : Type 0 where
-  pub kept : length new ≡ length old
-  pub zeros : (b : ℕ) → b < m → get_or new b 0 ≡ 0
 
 -- the words hold the chains of the first n names
 pub record Hung (slot : List ℕ → ℕ) (s places : List ℕ) (m n : ℕ) (chains : List ℕ) : Type 0 where

@@ -10,9 +10,9 @@ ghost use Rattle.tables.specs.Distinct.{name_in, distinct};
 ghost use Rattle.tables.specs.Answer.{names_at, Roomy};
 ghost use Rattle.sheet.specs.Answer.{Tabled};
 ghost use Rattle.name_chains.specs.Slot.{folded, hash_of, slot_of};
-ghost use Rattle.name_chains.specs.Hung.{text_in, Cleared, Hung};
+ghost use Rattle.name_chains.specs.Hung.{text_in, Hung};
 
-use rows::{hang, multiplier, newest_in};
+use rows::{empty, hang, multiplier, newest_in};
 use tables::{are_read, distinct_names, name_at};
 use words::{count, word};
 
@@ -115,18 +115,10 @@ impl Names<'_> {
     }
 }
 
-// The first m words are cleared.
-fn clear(chains: &mut [u32], m: usize)
-    requires { m ≤ length chains.old }
-    ensures { Cleared m chains.old chains.new }
-{
-    chains[..m].fill(0);
-}
-
 // Whether no two of the names that stand at the places are the same. The lent words need one more than there are names, and hold anything at
 // first.
 pub fn distinct_by_chains(s: &[u8], places: &[u32], chains: &mut [u32]) -> bool
-    requires { (length places.now < 4294967295) × (length places.now < length chains.old) }
+    requires { (length places.now < 1073741823) × (length places.now < length chains.old) }
     ensures { result ≡ distinct name_in (names_at s.now places.now) }
 {
     let n = places.len();
@@ -138,10 +130,8 @@ pub fn distinct_by_chains(s: &[u8], places: &[u32], chains: &mut [u32]) -> bool
     };
     let slots = Slots {
         mult: multiplier(words, |i| word(s, i as usize)),
-        // One for each name, or as many as there is room for: a hash scaled down spreads over any number of slots.
-        count: n.clamp(1, chains.len() - n),
+        count: empty(chains, n),
     };
-    clear(chains, slots.count);
     let names = Names { bytes: s, places };
     names.distinct(slots, chains)
 }

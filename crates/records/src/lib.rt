@@ -7,9 +7,9 @@ ghost use Rattle.checker.specs.Checked.{lent, IsStill, answered};
 ghost use Rattle.records.specs.Checked.{answer_for, left_for};
 
 use checker::{Counts, Lists, check_words, findings_in};
-use entries::FINDING_WIDTH;
 use finding::{Finding, store_all};
 use refusal::Refusal;
+use scope::FINDING_WIDTH;
 
 // Flat words for as many findings as the largest sheet has words.
 const FLAT: usize = 2048 * FINDING_WIDTH;

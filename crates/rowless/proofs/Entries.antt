@@ -8,9 +8,10 @@ use borrow.Author.Tests.{lt-ltb, le-ltb, ltb-false}
 use lib.Dec.{ltb}
 use Rattle.scope.specs.Graph.{indexed, generated}
 use Rattle.semantics.specs.World.{listed_name}
-use Rattle.rows.specs.Rows.{keyed, seek, number_of, Hangs}
+use Rattle.tables.specs.Index.{number_of}
+use Rattle.rows.specs.Rows.{keyed, seek, Hangs}
 use Rattle.rows.proofs.Chains.{seek-le, seek_hit, seek-miss, none-chained, chained-alike}
-use Rattle.rowless.specs.Slot.{slot_of}
+use Rattle.rows.specs.Slot.{slot_of}
 use Rattle.rowless.specs.Rowless.{variable_at, place_at, named, places, most, Sound, Lacks, Right, Still, Finds, Room, Chosen, Adds, Places}
 use Rattle.rowless.specs.declared.Rowless.{Rowless}
 

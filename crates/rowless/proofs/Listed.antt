@@ -19,7 +19,7 @@ use Rattle.tables.proofs.Text.{padded-length}
 use Rattle.tables.proofs.VarNames.{spelt, injective}
 use Rattle.semantics.specs.World.{listed_name}
 use Rattle.rows.proofs.Chains.{none-chained}
-use Rattle.rowless.specs.Slot.{slot_of}
+use Rattle.rows.specs.Slot.{slot_of}
 use Rattle.rowless.specs.Rowless.{variable_at, place_at, most, Sound, Lacks, Still, Room, Adds, index_in, Fresh, Begins}
 use Rattle.rowless.specs.declared.Rowless.{Rowless}
 use Rattle.rowless.proofs.Entries.{named-listed}

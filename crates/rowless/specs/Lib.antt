@@ -1,2 +1,1 @@
-pub mod Slot
 pub mod Rowless

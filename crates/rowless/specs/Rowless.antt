@@ -9,7 +9,7 @@ use Rattle.tables.specs.Name.{name_words}
 use Rattle.tables.specs.VarName.{var_name}
 use Rattle.semantics.specs.World.{listed_name}
 use Rattle.rows.specs.Rows.{Chained}
-use Rattle.rowless.specs.Slot.{slot_of}
+use Rattle.rows.specs.Slot.{slot_of}
 use Rattle.rowless.specs.declared.Rowless.{Rowless}
 
 -- the variable of the entry i, and the place of its name

@@ -9,12 +9,11 @@ ghost use Rattle.std.specs.Prelude.{◌≡◌, ◌+◌, ◌*◌, ◌/◌, ◌^�
 ghost use Rattle.words.specs.Words.{words};
 ghost use Rattle.scope.specs.Answer.{name_of};
 ghost use Rattle.tables.specs.Answer.{names_at};
-ghost use Rattle.rowless.specs.Slot.{slot_of};
 ghost use Rattle.rowless.specs.Rowless.{named, places, most, Sound, Finds, Room, Chosen, Adds, Places, Fresh, Begins};
 
-use rows::{hang, multiplier, newest_in};
+use rows::{hang, multiplier, newest_in, slot};
 use scope::Name;
-use tables::{name_at, var_id};
+use tables::var_at;
 use words::{count, word};
 
 // The entries in lent words, how many there are, and how many names the sheet has.
@@ -25,18 +24,6 @@ pub struct Rowless<'a> {
     pub listed: u32,
     pub count: u32,
     pub mult: u32,
-}
-
-// The slot of a variable, one of m.
-#[tactic(auto, unfolding(crate::specs::Slot::slot_of))]
-fn slot(v: u32, m: usize, mult: u32) -> usize
-    requires { (0 < m) × (m < 4294967296) }
-    ensures slot { result ≡ slot_of mult m v }
-    ensures below { result < m }
-{
-    let product = v.wrapping_mul(mult);
-    let mixed = (product ^ (product >> 15)).wrapping_mul(2654435769);
-    (u64::from(mixed) * m as u64 / 4294967296) as usize
 }
 
 impl Rowless<'_> {
@@ -112,7 +99,7 @@ impl Rowless<'_> {
         self.count = 0;
         // By index: a name is given by its number.
         for i in 0..names.len() {
-            if let Some(v) = var_id(name_at(section, names[i] as usize)) {
+            if let Some(v) = var_at(section, names[i]) {
                 self.add(section, v, i as u32);
             }
         }

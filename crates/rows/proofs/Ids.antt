@@ -16,7 +16,8 @@ use Rattle.tables.proofs.Ids.{fresh-id}
 use Rattle.tables.proofs.Fresh.{both}
 use Rattle.std.specs.Prelude as code
 use Rattle.std.specs.Prelude.{None, Some, is_some}
-use Rattle.rows.specs.Rows.{id_at, seek, number_of}
+use Rattle.tables.specs.Index.{number_of}
+use Rattle.rows.specs.Rows.{id_at, seek}
 use Rattle.rows.proofs.Chains.{seek-le, seek_hit, seek-miss}
 
 -- the first row, and those after it

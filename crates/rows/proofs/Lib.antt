@@ -1,4 +1,3 @@
-pub mod Spread
 pub mod Chains
 pub mod Hanging
 pub mod Ids

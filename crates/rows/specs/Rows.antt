@@ -1,8 +1,9 @@
 -- A variable sought among the rows of the binding table, newest first, and the chains that find it.
 use Rattle.std.specs.Prelude.{ℕ, zero, suc, ◌+◌, ◌*◌, ◌<◌, ◌≤◌, ◌≡◌, Bool, true, cond, List, eqb, length, get_or, None, Some, Option}
 use Rattle.std.specs.Prelude as code
+use Rattle.tables.specs.Index.{number_of}
 use Rattle.tables.specs.Row.{Row, row}
-use Rattle.rows.specs.Slot.{slot_of, slots}
+use Rattle.rows.specs.Slot.{slot_of}
 
 -- the variable of the row i of those from the word `rows` on
 abbrev pub id_at : List ℕ → ℕ → ℕ → ℕ
@@ -16,11 +17,6 @@ newest test (suc t) = cond (test t) (suc t) (newest test t)
 -- so of those whose key is v
 abbrev pub seek : (ℕ → ℕ) → ℕ → ℕ → ℕ
 seek f v t = newest (λ i. eqb (f i) v) t
-
--- such an answer of the code's
-abbrev pub number_of : code.Option ℕ → ℕ
-number_of None = 0
-number_of (Some i) = suc i
 
 -- the row that such an answer tells of
 abbrev pub row_at : List ℕ → ℕ → Row
@@ -49,18 +45,28 @@ pub record Hangs (m x n : ℕ) (old new : List ℕ) : Type 0 where
   pub kept : length new ≡ length old
   pub chained : (g f : ℕ → ℕ) → x ≡ g (f n) → Chained g m n f old → Chained g m (suc n) f new
 
--- so over the slots of a multiplier and a shift
-pub record Hung (mult shift n : ℕ) (f : ℕ → ℕ) (tab : List ℕ) : Type 0 where
-  pub low : 21 ≤ shift
-  pub high : shift ≤ 31
-  pub chained : Chained (slot_of mult shift) (slots shift) n f tab
+-- so over m slots, by a multiplier
+pub record Hung (mult m n : ℕ) (f : ℕ → ℕ) (tab : List ℕ) : Type 0 where
+  pub some : 0 < m
+  pub small : m < 4294967296
+  pub chained : Chained (slot_of mult m) m n f tab
 
--- zeros for the slots, and room for n rows
-pub record Empty (shift n : ℕ) (tab : List ℕ) : Type 0 where
-  pub low : 21 ≤ shift
-  pub high : shift ≤ 31
-  pub room : slots shift + n ≤ length tab
-  pub zeros : (b : ℕ) → b < slots shift → get_or tab b 0 ≡ 0
+-- zeros for m slots, and room for n rows
+pub record Empty (m n : ℕ) (tab : List ℕ) : Type 0 where
+  pub some : 0 < m
+  pub small : m < 4294967296
+  pub room : m + n ≤ length tab
+  pub zeros : (b : ℕ) → b < m → get_or tab b 0 ≡ 0
+
+-- the first m words are zero
+pub record Cleared (m : ℕ) (old new : List ℕ) : Type 0 where
+  pub kept : length new ≡ length old
+  pub zeros : (b : ℕ) → b < m → get_or new b 0 ≡ 0
+
+-- m slots were cleared, for n keys
+pub record Emptied (n : ℕ) (old new : List ℕ) (m : ℕ) : Type 0 where
+  pub kept : length new ≡ length old
+  pub empty : Empty m n new
 
 -- the slot x has a chain, and each key in the chains can be asked for
 pub record Asks (may : ℕ → Type 0) (m x : ℕ) (tab : List ℕ) : Type 0 where

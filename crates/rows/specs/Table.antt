@@ -10,7 +10,7 @@ use Rattle.rows.specs.declared.Rows.{Rows}
 
 -- the chains of an index are those of all rows in these words
 abbrev pub HungBy : Index → (ws chains : List ℕ) → Type 0
-HungBy x ws chains = Hung x.mult x.shift x.count (id_at ws x.first) chains
+HungBy x ws chains = Hung x.mult x.slots x.count (id_at ws x.first) chains
 
 -- the row of a variable among the rows of an index, in these words
 abbrev pub row_by : Index → List ℕ → ℕ → Option Row

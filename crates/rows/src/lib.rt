@@ -1,45 +1,48 @@
 // The row of a variable in the binding table, by chains: rows whose variables have the same slot hang together. The lent words hold for each
 // slot its newest row (its number + 1, or 0), then for each row the one before it in its chain. The slot is a mixed hash with a multiplier
-// that the caller gives: which variables share a slot differs with it. Only the time rests on it, never the answer.
+// that the caller gives: which variables share a slot differs with it. Only the time rests on it, never the answer. Other keys hang in chains by
+// the same functions.
 #![tactic(auto)]
 
 ghost use Rattle.std.specs.Prelude.{ℕ, ◌≡◌, ◌+◌, ◌*◌, ◌%◌, ◌<◌, ◌≤◌, length};
 ghost use Rattle.words.specs.Words.{words};
-ghost use Rattle.rows.specs.Slot.{slots, slot_of};
+ghost use Rattle.rows.specs.Slot.{slot_of};
 ghost use Rattle.semantics.specs.World.{row_kind};
-ghost use Rattle.rows.specs.Rows.{id_at, seek, number_of, shown, Hung, Hangs, Asks, Newest, Empty};
+ghost use Rattle.tables.specs.Index.{number_of};
+ghost use Rattle.rows.specs.Rows.{id_at, seek, shown, Hung, Hangs, Asks, Newest, Empty, Cleared, Emptied};
 ghost use Rattle.rows.specs.Table.{row_in, Standing, Indexed};
 
 use tables::VarKind;
 use words::word;
 
-// How variables spread over slots: 2 to the power of 32 - shift of them.
-#[derive(Clone, Copy)]
-struct Slots {
-    mult: u32,
-    shift: u32,
-    ghost in_range: { (21 ≤ shift) × (shift ≤ 31) },
+// The slot of a key, one of m.
+#[tactic(auto, unfolding(crate::specs::Slot::slot_of))]
+pub fn slot(v: u32, m: usize, mult: u32) -> usize
+    requires { (0 < m) × (m < 4294967296) }
+    ensures slot { result ≡ slot_of mult m v }
+    ensures below { result < m }
+{
+    let product = v.wrapping_mul(mult);
+    let mixed = (product ^ (product >> 15)).wrapping_mul(2654435769);
+    (u64::from(mixed) * m as u64 / 4294967296) as usize
 }
 
-impl Slots {
-    // How many there are.
-    #[tactic(auto, using(crate::proofs::Spread::spread))]
-    fn count(self) -> usize
-        ensures { result ≡ slots self.shift }
-    {
-        (1u32 << (32 - self.shift)) as usize
-    }
+// Clears slots for n keys at the front of lent words, four for each key or as many as there is room for; how many they are.
+pub fn empty(chains: &mut [u32], n: usize) -> usize
+    requires { (n < 1073741823) × (n < length chains.old) }
+    ensures { Emptied n chains.old chains.new result }
+{
+    let m = (n * 4).clamp(1, chains.len() - n);
+    clear(chains, m);
+    m
+}
 
-    // The slot of a variable.
-    #[tactic(auto, using(crate::proofs::Spread::spread), unfolding(crate::specs::Slot::slot_of))]
-    fn of(self, variable: u32) -> usize
-        ensures slot { result ≡ slot_of self.mult self.shift variable }
-        ensures below { result < slots self.shift }
-    {
-        let product = variable.wrapping_mul(self.mult);
-        let mixed = (product ^ (product >> 15)).wrapping_mul(2654435769);
-        (mixed >> self.shift) as usize
-    }
+// The first m words are cleared.
+fn clear(chains: &mut [u32], m: usize)
+    requires { m ≤ length chains.old }
+    ensures { Cleared m chains.old chains.new }
+{
+    chains[..m].fill(0);
 }
 
 // The key n is hung up in its slot, one of m, after the n before it. The words and m stand beside each other, here and below: hanging up needs the
@@ -88,13 +91,13 @@ impl Run<'_> {
         word(self.bytes, self.first + row as usize * 5)
     }
 
-    // The newest row of a variable.
-    fn find(&self, slots: Slots, chains: &[u32], variable: u32) -> Option<u32>
-        requires { Hung slots.mult slots.shift self.now.count (id_at (words self.now.bytes.now) self.now.first) chains.now }
+    // The newest row of a variable, in chains over m slots.
+    fn find(&self, m: usize, mult: u32, chains: &[u32], variable: u32) -> Option<u32>
+        requires { Hung mult m self.now.count (id_at (words self.now.bytes.now) self.now.first) chains.now }
         ensures { number_of result ≡ seek (id_at (words self.now.bytes.now) self.now.first) variable self.now.count }
     {
         let is = |row| self.variable(row) == variable;
-        newest_in(chains, slots.count(), slots.of(variable), is)
+        newest_in(chains, m, slot(variable, m, mult), is)
     }
 }
 
@@ -118,29 +121,16 @@ pub fn multiplier<F: Fn(u32) -> u32>(n: u32, word: F) -> u32
     hash / 2 * 2 + 1
 }
 
-// Where the rows stand in the words of a sheet, how many they are, and how they spread over slots: a caller names both numbers, and their range is a
-// fact of `Slots`.
+// Where the rows stand in the words of a sheet, how many they are, and how they spread over slots: by a multiplier, over so many.
 #[derive(Clone, Copy, Debug, PartialEq, Eq)]
 pub struct Index {
     pub first: usize,
     pub count: u32,
     pub mult: u32,
-    pub shift: u32,
+    pub slots: usize,
 }
 
 impl Index {
-    // How the rows spread over slots.
-    fn slots(self) -> Slots
-        requires { (21 ≤ self.shift) × (self.shift ≤ 31) }
-        ensures mult { result.mult ≡ self.mult }
-        ensures shift { result.shift ≡ self.shift }
-    {
-        Slots {
-            mult: self.mult,
-            shift: self.shift,
-        }
-    }
-
     // The first so many of the rows.
     fn run(self, bytes: &[u8], count: u32) -> Run
         requires { self.first + count * 5 ≤ length (words bytes.now) }
@@ -157,19 +147,21 @@ impl Index {
 
     // Hangs up all the rows, where no two have the same variable; whether that is so.
     pub fn hang_rows(&self, bytes: &[u8], chains: &mut [u32]) -> bool
-        requires { (self.now.first + self.now.count * 5 ≤ length (words bytes.now)) × Empty self.now.shift self.now.count chains.old }
+        requires { (self.now.first + self.now.count * 5 ≤ length (words bytes.now)) × Empty self.now.slots self.now.count chains.old }
         ensures { Indexed self.now (words bytes.now) chains.old chains.new result }
     {
-        let slots = self.slots();
         let all = self.run(bytes, self.count);
         // By index: each row is sought among the i before it.
         for i in 0..self.count {
             let before = self.run(bytes, i);
             let variable = all.variable(i);
-            if before.find(slots, chains, variable).is_some() {
+            if before
+                .find(self.slots, self.mult, chains, variable)
+                .is_some()
+            {
                 return false;
             }
-            hang(chains, slots.count(), slots.of(variable), i);
+            hang(chains, self.slots, slot(variable, self.slots, self.mult), i);
         }
         true
     }
@@ -191,7 +183,7 @@ impl Rows<'_> {
         ensures { result ≡ shown (row_in self.now v) }
     {
         let run = self.index.run(self.bytes, self.index.count);
-        let i = run.find(self.index.slots(), self.chains, v)?;
+        let i = run.find(self.index.slots, self.index.mult, self.chains, v)?;
         let p = self.index.first + i as usize * 5;
         Some((word(self.bytes, p + 1), word(self.bytes, p + 2)))
     }

@@ -13,7 +13,7 @@ parent-of zero h = absurd (h refl)
 parent-of (suc w) h = ap Some (omega arith)
 
 -- what a scope answers depends on what the scopes below it answer, and on no others
-same-below : (s : ℕ) (b : Option ℕ) (goes_on : Bool) (p : Option ℕ) (f g : ℕ → Looked) → ((q : ℕ) → q < s → f q ≡ g q) → answer_at s b goes_on p f ≡ answer_at s b goes_on p g
+pub same-below : (s : ℕ) (b : Option ℕ) (goes_on : Bool) (p : Option ℕ) (f g : ℕ → Looked) → ((q : ℕ) → q < s → f q ≡ g q) → answer_at s b goes_on p f ≡ answer_at s b goes_on p g
 unfolding answer_at
 same-below s (Some v) goes_on p f g h = refl
 same-below s None false p f g h = refl

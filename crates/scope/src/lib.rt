@@ -16,9 +16,13 @@ ghost use Rattle.scope.specs.Offset.{offset, better, scope_at_offset};
 ghost use Rattle.scope.specs.Answer.{name_of, bound_as, looked_as, offset_as, best_as, scopes_in, bindings_in, carried_in};
 
 mod kind;
+mod widths;
 
 pub use kind::ScopeKind;
 use refusal::Refusal;
+pub use widths::{
+    BINDING_WIDTH, CARRIED_WIDTH, FINDING_WIDTH, LOGGED_WIDTH, RECORDED_WIDTH, SCOPE_WIDTH,
+};
 
 // A name: an index of the sheet with the mark 0, or the id of a variable with the mark 1.
 #[derive(Clone, Copy, Debug, PartialEq, Eq)]
@@ -30,9 +34,9 @@ pub struct Name {
 // The entries in use of the three lists.
 #[derive(Clone, Copy)]
 pub struct Graph<'a> {
-    pub scopes: &'a [[u32; 4]],
-    pub bindings: &'a [[u32; 7]],
-    pub carried: &'a [[u32; 4]],
+    pub scopes: &'a [[u32; SCOPE_WIDTH]],
+    pub bindings: &'a [[u32; BINDING_WIDTH]],
+    pub carried: &'a [[u32; CARRIED_WIDTH]],
 }
 
 // What lookup finds: the variable of a name, and the scope that binds it.
@@ -151,7 +155,12 @@ pub fn lookup(
 
 // The scope i takes the place of the best so far, a scope's number and the width of its span, where it covers the offset and is no wider.
 #[tactic(auto, unfolding(crate::specs::Offset::better, crate::specs::Offset::covers, crate::specs::Offset::width))]
-fn better(o: u32, i: usize, entry: &[u32; 4], best: Option<(usize, u32)>) -> Option<(usize, u32)>
+fn better(
+    o: u32,
+    i: usize,
+    entry: &[u32; SCOPE_WIDTH],
+    best: Option<(usize, u32)>,
+) -> Option<(usize, u32)>
     ensures { best_as result ≡ better o i (scope_of entry.now) (best_as best) }
 {
     let [_, _, start, end] = *entry;
@@ -166,7 +175,7 @@ fn better(o: u32, i: usize, entry: &[u32; 4], best: Option<(usize, u32)>) -> Opt
 
 // The scope whose span covers an offset: ends included, empty spans skipped, the narrowest, then the highest number.
 #[tactic(auto, using(crate::proofs::Listed::next_listed, crate::proofs::Listed::none_listed), unfolding(crate::specs::Offset::narrowest, crate::specs::Offset::scope_at_offset))]
-fn narrowest(scopes: &[[u32; 4]], o: u32) -> Option<usize>
+fn narrowest(scopes: &[[u32; SCOPE_WIDTH]], o: u32) -> Option<usize>
     ensures { bound_as result ≡ scope_at_offset (map scope_of scopes.now) o }
 {
     let mut best = None;

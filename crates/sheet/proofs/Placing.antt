@@ -1,9 +1,10 @@
 -- Laws of where the sections stand: what the tests of causes 1 and 2 say of the trailer's words, and that what is accepted lies within
 -- the sheet.
+pub use Rattle.std.proofs.lemmas.Bool.{and_parts as both}
 use Prim.Native.Nat.{ℕ, ◌+◌, ◌%◌, ◌<◌, ◌≤◌}
 use native.Mathlib.Omega.{arith}
 use mathlib.Core.Path.{◌≡◌, refl, sym, subst}
-use mathlib.Core.Bool.{Bool, true, false, false≢true, ◌&&◌, and-false}
+use mathlib.Core.Bool.{Bool, true, false, ◌&&◌, and-false}
 use mathlib.Core.List.{List}
 use borrow.Author.Tests.{leb-true, eqb-true, le-leb, lt-leb, eq-eqb}
 use lib.Dec.{leb, eqb}
@@ -15,10 +16,6 @@ use Rattle.sheet.specs.Read.{accepted, refused, unless, locate}
 use Rattle.sheet.specs.Answer.{sheet_of, InPlaces}
 use Rattle.sheet.specs.declared.trailer.Places.{Places}
 use Rattle.std.specs.Prelude.{Ok}
-
-pub both : (a b : Bool) → a && b ≡ true → (a ≡ true) × (b ≡ true)
-both true b e = (refl, e)
-both false b e = absurd (false≢true e)
 
 -- cause 1's test
 pub record Sized (s : List ℕ) : Type 0 where

@@ -1,15 +1,13 @@
 -- What an accepted sheet gives the walks: its sections stand in order, and its names, bindings, head and arms are the statement's.
-use Prim.Native.Nat.{ℕ, ◌+◌, ◌*◌, ◌≤◌}
+use Prim.Native.Nat.{ℕ, ◌+◌, ◌*◌}
 use native.Mathlib.Omega.{arith}
 use mathlib.Core.Path.{◌≡◌, ◌∙◌}
-use mathlib.Core.List.{List, [], ◌++◌, flat_map, append-nil}
-use lib.ListN.{length, take, drop, length-take, length-drop}
-use lib.Seq.{take-take}
+use mathlib.Core.List.{List, [], flat_map, append-nil}
+use lib.ListN.{length, take, length-take, length-drop}
 use Rattle.words.specs.Words.{words}
 use Rattle.words.proofs.Words.{length-words}
 use Rattle.heads.specs.Got.{ok, many}
 use Rattle.clauses.specs.Read.{read_clause, read_arm}
-use Rattle.clauses.specs.Well.{Each}
 use Rattle.clauses.proofs.WrittenClause.{many-gives}
 use Rattle.tables.specs.Row.{row_words}
 use Rattle.sheet.specs.Trailer.{places_of, section}
@@ -22,7 +20,6 @@ use Rattle.sheet.proofs.Placing.{within}
 use Rattle.sheet.proofs.Reading.{row_gives, rows-read}
 use Rattle.sheet.proofs.NameBytes.{names-give}
 use Rattle.sheet.proofs.Accepted.{TwoTables, Sections, accepted-words}
-use Rattle.sheet.proofs.WrittenSheet.{cut}
 
 -- what is known of a sheet s whose sections stand at p, and which holds the statement st
 pub record WalkedSheet (s : List ℕ) (p : Places) (st : Statement) : Type 0 where
@@ -35,7 +32,6 @@ pub record WalkedSheet (s : List ℕ) (p : Places) (st : Statement) : Type 0 whe
   pub named : length st.names ≡ p.names
   pub bindings : length st.bindings ≡ p.bindings
   pub rows : section (words s) p.rows p.head ≡ flat_map row_words st.bindings
-  pub rows_well : Each (WellRow p.names) st.bindings
   -- the head and the arms
   pub head_read : many (read_clause p.names) p.clauses (section (words s) p.head p.tail) ≡ ok st.head []
   pub arms_read : many (read_arm p.names) p.arms (section (words s) p.tail p.trailer) ≡ ok st.arms []
@@ -56,18 +52,9 @@ module _ (s : List ℕ) (p : Places) (st : Statement) where
         named = names.2;
         bindings = rows.2;
         rows = rows.0 ∙ append-nil _;
-        rows_well = rows.1;
         head_read = x.head_read;
         arms_read = x.arms_read;
       }
-
-  -- the bindings, where what is read ends at the word `to`
-  pub table-words : WalkedSheet s p st → (to : ℕ) → p.rows + p.bindings * 5 ≤ to → drop p.rows (take to (words s)) ≡ flat_map row_words st.bindings ++ drop p.head (take to (words s))
-  table-words w to h =
-      let part = take to (words s) in
-      let head : p.head ≤ to = omega arith in
-      cut part p.rows p.head (omega arith) (omega (arith, length-take to (words s)))
-      ∙ rw (take-take p.head to (words s) head, w.rows)
 
 pub walked : (s : List ℕ) (st : Statement) → read_sheet s ≡ accepted st → WalkedSheet s (places_of (words s)) st
 walked s st e =

@@ -1,7 +1,6 @@
 -- A section that is walked. Its context is the sheet's, cut to its end (`cut_to` is one): the World and the tables are the same, so the
--- definition's head and arms are what is walked (`head-is`, `arms-are`), and it asks no more than the sheet's does (`ready-in`, `held-in`,
--- `clear-in`).
--- What the walk over the section's words says of the section: it is refused (`walks-fell`, at a `?`), or reaches the end or not
+-- definition's head and arms are what is walked (`head-is`, `arms-are`), and it asks no more than the sheet's does (`asks-in`).
+-- What the walk over the section's words says of the section: it is refused (`walks-no`; `walks-fell` at a `?`), or reaches the end or not
 -- (`walks-to`). From one section to the next: `stands_on`.
 use Prim.Native.Nat.{ℕ, ◌*◌, ◌/◌, ◌<◌, ◌≤◌}
 use native.Mathlib.Omega.{arith}
@@ -150,7 +149,7 @@ module _ {c c' : Context} {w : Walk} {carried carried' : List ℕ} {from to : �
     walks x d = record { still = x.still; lent = tk.kept; done = d; takes = takes_all }
 
     -- the cause that stopped the walk
-    walks-no : {e : Refusal} → Passes 0 c' w w' G (Err e) → Walks c to w carried w' carried' W (Err e)
+    pub walks-no : {e : Refusal} → Passes 0 c' w w' G (Err e) → Walks c to w carried w' carried' W (Err e)
     walks-no x = walks x (λ id u h. from-here id u ∙ ap used_up (x.passes.same id u (cut-holds k h)))
 
     pub walks-fell : {e : Refusal} (r : Result (Unit {0}) Refusal) → Passes 0 c' w w' G (Err e) → IsErr r × IsErrAnd r (λ y. y ≡ e) → Walks c to w carried w' carried' W r
@@ -211,14 +210,17 @@ module _ {p : Places} {c : Context} (h : Set p c) where
     inside : to ≤ length (words_in c)
     inside = omega (arith, below, trailer-long)
 
-    pub ready-in : {w : Walk} {from : ℕ} → Standing from to c w → Ready 0 c' w
+    ready-in : {w : Walk} {from : ℕ} → Standing from to c w → Ready 0 c' w
     ready-in st = record { fine = cut-fine k inside h.fine; fit = st.fit c' k }
 
-    pub held-in : {held marks : List ℕ} (mode : fused.Mode) → mode.resolves ≡ true → Lent p c held marks → Held c' held mode
+    held-in : {held marks : List ℕ} (mode : fused.Mode) → mode.resolves ≡ true → Lent p c held marks → Held c' held mode
     held-in mode r x = record { room = omega (arith, x.pairs, inside, cut-long k inside); resolves = r; unhushed = λ y. rw k.hushed (h.unhushed y) }
 
-    pub clear-in : {held marks : List ℕ} → Lent p c held marks → Clear c' marks
+    clear-in : {held marks : List ℕ} → Lent p c held marks → Clear c' marks
     clear-in x = record { room = rw k.names x.clear.room; clear = x.clear.clear }
+
+    pub asks-in : {held marks : List ℕ} {w : Walk} {from : ℕ} (mode : fused.Mode) → mode.resolves ≡ true → Lent p c held marks → Standing from to c w → (Held c' held mode × Clear c' marks) × Ready 0 c' w
+    asks-in mode r x st = ((held-in mode r x, clear-in x), ready-in st)
 
 -- the end of a section is the beginning of the next
 pub stands_on : {p : Places} {c : Context} {w₀ w : Walk} → Beginning p c w₀ → Lasting w₀ w → Standing p.tail p.tail c w → Standing p.tail p.trailer c w

@@ -1,5 +1,6 @@
 -- Head and arms one after the other are the whole walk over a sheet: the cause of the head, at its `?` (`head-fell`), or of the arms (`arms-fell`),
 -- and else both walks are done, and what they carry is in the list (`both-done`; `arms-told` for either answer of the arms).
+-- What the walk over the head's words says of the head is `head-to`; where it is accepted, the arms begin (`arms-stand`).
 use Prim.Native.Nat.{ℕ}
 use native.Mathlib.Omega.{arith}
 use mathlib.Core.Path.{◌≡◌, refl, subst, ◌∙◌}
@@ -10,6 +11,7 @@ use Rattle.refusal.specs.declared.Refusal.{Refusal}
 use Rattle.refusal.proofs.Handed.{handed}
 use Rattle.words.proofs.Words.{length-words}
 use Rattle.sheet.specs.Read.{accepted}
+use Rattle.sheet.specs.Answer.{sheet_of, reached}
 use Rattle.sheet.specs.declared.trailer.Places.{Places}
 use Rattle.semantics.specs.Log.{carry_of, carries_in}
 use Rattle.theorems.specs.Needs.{carried_in}
@@ -21,9 +23,11 @@ use Rattle.steps.specs.Hold.{Still}
 use Rattle.steps.proofs.Named.{unmoved-then}
 use Rattle.steps.specs.declared.Walk.{Walk}
 use Rattle.steps.specs.declared.context.Context.{Context}
-use Rattle.arm_walk.specs.Taking.{Carries}
-use Rattle.sheet_walk.specs.Parts.{Set, Uses, Ends, Walks, head_in, arms_in, Lasting, Begins, WalksAll}
-use Rattle.sheet_walk.proofs.Section.{cut_to, is-cut}
+use Rattle.clause_parts.specs.Passes.{Passes}
+use Rattle.arm_walk.specs.Clauses.{both_walks, clauses_at}
+use Rattle.arm_walk.specs.Taking.{Carries, Takes}
+use Rattle.sheet_walk.specs.Parts.{Set, Standing, Uses, Ends, Walks, head_in, arms_in, Lasting, Beginning, Begins, WalksAll}
+use Rattle.sheet_walk.proofs.Section.{cut_to, is-cut, tail-long, head-is, walks-to, stands_on}
 
 -- nothing is carried before the head
 carries-none : (p : Places) (old : List ℕ) → Carries old old (begun p).names.log
@@ -39,6 +43,15 @@ lasts x y =
       log = y.log.lent ∙ x.log;
       wrote = y.log.size ∙ x.wrote;
     }
+
+-- the head's words were walked
+module _ {p : Places} {c : Context} {w w1 w2 : Walk} {carried carried2 : List ℕ} {a : Unit {0}} (b : Beginning p c w) (g : Begins p c w w1) (tk : Takes (cut_to p.tail c) w1 carried carried2 (clauses_at (cut_to p.tail c) both_walks p.clauses))
+    (x : Passes 0 (cut_to p.tail c) w1 w2 (clauses_at (cut_to p.tail c) both_walks p.clauses) (Ok a)) where
+  pub head-to : (r : Result (Unit {0}) Refusal) → sheet_of r ≡ reached w2.at p.tail → Walks c p.tail w1 carried w2 carried2 (head_in p c) r
+  head-to = walks-to (is-cut p.tail c) g.stands (head-is b.set (is-cut p.tail c)) tk (tail-long b.set) x
+
+  pub arms-stand : {u : Unit {0}} → sheet_of (Ok u) ≡ reached w2.at p.tail → Standing p.tail p.trailer c w2
+  arms-stand {u} e = let y = head-to (Ok u) e in stands_on b (lasts g.lasting y.still) y.done.stands
 
 module _ {p : Places} {c : Context} {w w1 : Walk} {carried : List ℕ} (b : Begins p c w w1) {w2 : Walk} {carried2 : List ℕ} where
   pub head-fell : {e : Refusal} (r : Result (Unit {0}) Refusal) → Walks c p.tail w1 carried w2 carried2 (head_in p c) (Err e) → IsErr r × IsErrAnd r (λ y. y ≡ e) → WalksAll p c w carried w2 carried2 r

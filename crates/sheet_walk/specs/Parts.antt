@@ -1,5 +1,5 @@
 -- What the parts of a run ask and leave: the tables of names and bindings, the sections of head and arms, and the walks over a whole sheet. Only
--- contracts need these.
+-- contracts and their proofs need these.
 use Rattle.std.specs.Prelude.{ℕ, ◌+◌, ◌*◌, ◌^◌, ◌<◌, ◌≤◌, ◌≡◌, true, false, List, [], ◌∷◌, map, length, get_or, take, drop, Option, None, Some, Result, Ok, Err}
 use Rattle.words.specs.Words.{words}
 use Rattle.words.specs.Fnv.{use_id}
@@ -20,7 +20,6 @@ use Rattle.sheet.specs.declared.trailer.Places.{Places}
 use Rattle.fused.specs.Fused.{Both}
 use Rattle.fused.specs.Sheet.{begun, head_go, arms_go, sheet_go}
 use Rattle.fused.proofs.ApartStatement.{HasTables, world_by}
-use Rattle.rows.specs.Slot.{slots}
 use Rattle.rows.specs.Table.{row_by, Stands}
 use Rattle.rows.specs.declared.Index.{Index}
 use Rattle.rowless.specs.Rowless.{most, Fresh, Still as Unmoved}
@@ -36,11 +35,11 @@ use Rattle.sheet_walk.specs.declared.Choice.{Choice}
 
 -- ---- the tables
 
--- a shift for n bindings: four of the five words of each, and eight more, pay for its slots
-pub record Shift (n r : ℕ) : Type 0 where
-  pub low : 21 ≤ r
-  pub high : r ≤ 31
-  pub room : slots r ≤ n * 4 + 8
+-- as many slots for n bindings as four of the five words of each, and eight more, pay for
+pub record Slots (n r : ℕ) : Type 0 where
+  pub some : 0 < r
+  pub small : r < 4294967296
+  pub room : r ≤ n * 4 + 8
 
 -- zeros for the chains of w words
 pub record Clear (w : ℕ) (chains : List ℕ) : Type 0 where

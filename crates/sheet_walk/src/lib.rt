@@ -56,8 +56,8 @@ fn walk_sheet(
     ensures kept { length held.new ≡ length held.old }
     ensures walks { WalksBy s.now p choice index places.now ids.now chains.now walk.old carried.old walk.new carried.new result }
 {
-    let context = context_of(s, p, choice, index, places, ids, chains);
-    walk_all(walk, &context, p, held, marks, carried)
+    let mut context = context_of(s, p, choice, index, places, ids, chains);
+    walk_all(walk, &mut context, p, held, marks, carried)
 }
 
 // The whole sheet: where its bindings stand, and how they hang. The carried list has what is carried where it has room for it.

@@ -5,7 +5,7 @@ ghost use Rattle.words.specs.Words.{words};
 ghost use Rattle.tables.specs.Answer.{Roomy};
 ghost use Rattle.sheet.specs.Answer.{InPlaces, Tabled};
 ghost use Rattle.sheet.specs.Read.{locate, accepted};
-ghost use Rattle.sheet_walk.specs.Parts.{Shift, Clear, RowedAs, HungAs, Settling, Settles, ReadsAs};
+ghost use Rattle.sheet_walk.specs.Parts.{Slots, Clear, RowedAs, HungAs, Settling, Settles, ReadsAs};
 
 use crate::Choice;
 use heads::Section;
@@ -17,16 +17,12 @@ use steps::{Context, Texts};
 use tables::index_of;
 use words::word;
 
-// The shift of a hash for n bindings: 8, 64 or 256 slots.
-#[tactic(auto, unfolding(rows::specs::Slot::slots))]
-fn shift_for(n: u32) -> u32
-    ensures { Shift n result }
+// How many slots n bindings have: two for each, and eight.
+fn slots_for(n: u32) -> usize
+    requires { n ≤ 2048 }
+    ensures { Slots n result }
 {
-    match n {
-        0..14 => 29,
-        14..62 => 26,
-        _ => 24,
-    }
+    n as usize * 2 + 8
 }
 
 // The names: where they stand and their use ids; whether they are right. The last words are scratch.
@@ -40,14 +36,14 @@ fn names_of(s: &[u8], p: Places, places: &mut [u32], ids: &mut [u32], held: &mut
 
 // The n bindings from the word `rows` on, hung up, where no two have the same variable.
 fn hang(s: &[u8], chains: &mut [u32], rows: usize, n: u32) -> Option<Index>
-    requires { (rows + n * 5 + 8 ≤ length (words s.now)) × Clear (length (words s.now)) chains.old }
+    requires { ((rows + n * 5 + 8 ≤ length (words s.now)) × (n ≤ 2048)) × Clear (length (words s.now)) chains.old }
     ensures { HungAs (words s.now) rows n chains.old chains.new result }
 {
     let index = Index {
         first: rows,
         count: n,
         mult: multiplier(n, |row| word(s, rows + row as usize * 5)),
-        shift: shift_for(n),
+        slots: slots_for(n),
     };
     index.hang_rows(s, chains).then_some(index)
 }

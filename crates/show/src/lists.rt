@@ -1,6 +1,6 @@
 // The lists of a sheet as text on a writer: each after a line of its name and count, an entry a line, fields between blanks.
 use checker::{Lists, check_words};
-use entries::{BINDING_WIDTH, CARRIED_WIDTH, FINDING_WIDTH, RECORDED_WIDTH, SCOPE_WIDTH};
+use scope::{BINDING_WIDTH, CARRIED_WIDTH, FINDING_WIDTH, RECORDED_WIDTH, SCOPE_WIDTH};
 use std::io::Write;
 use std::{fmt, io};
 

@@ -10,7 +10,7 @@ use native.Mathlib.Omega.{arith}
 use mathlib.Core.Path.{◌≡◌, refl, ap, sym, subst, ◌∙◌}
 use mathlib.Core.Bool.{Bool, true, false, cond}
 use mathlib.Core.List.{List, [], ◌∷◌}
-use lib.ListN.{length, get_or, drop}
+use lib.ListN.{length, drop}
 use Rattle.semantics.specs.Log.{Finding, Event, find}
 use Rattle.semantics.specs.Resolve.{say}
 use Rattle.theorems.specs.Needs.{made_one, carried_one, made, carried_in}
@@ -26,7 +26,7 @@ use Rattle.steps.specs.Memory.{words_in, named_in}
 use Rattle.steps.specs.Named.{Below}
 use Rattle.steps.specs.Said as said
 use Rattle.steps.specs.Said.{kept_one, kept, event_by, finding_by, Roomy, Says, Tells}
-use Rattle.steps.specs.Hold.{Fine, Fits, Counted, Holds, Frame, Still, Costs, Steps, Ready, SaysIf, TellsIf, on_names, on_kinds, idle, logged}
+use Rattle.steps.specs.Hold.{Fine, Fits, Counted, Holds, Frame, Still, Costs, Steps, Ready, SaysIf, TellsIf, on_names, on_kinds, logged}
 use Rattle.steps.specs.declared.Walk.{Walk}
 use Rattle.steps.specs.declared.context.Context.{Context}
 use Rattle.steps.specs.declared.log.Log.{Log}
@@ -78,19 +78,19 @@ framed {w = w} {w1} {w2} y f g =
 pub frame-more : {i j : ℕ} {w w1 : Walk} → i ≤ j → Frame i w w1 → Frame j w w1
 frame-more h f = record { top = f.top; last = f.last; below = f.below; grows = f.grows; levels = λ d k. f.levels d (omega arith) }
 
--- a change that leaves the levels, what is visible and its places, and the last scope: `refl` four times
-pub framed-same : {room : ℕ} {w w1 : Walk} → w1.visible ≡ w.visible → w1.rowless ≡ w.rowless → w1.last ≡ w.last → w1.levels ≡ w.levels → Frame room w w1
-framed-same {w = w} {w1} p g q r =
+-- a change that leaves the levels, what is visible and its places, and the last scope: `refl` five times
+pub framed-same : {room : ℕ} {w w1 : Walk} → w1.visible ≡ w.visible → w1.rowless ≡ w.rowless → w1.last ≡ w.last → w1.left ≡ w.left → w1.later ≡ w.later → Frame room w w1
+framed-same {w = w} {w1} p g q r l =
     record {
       top = omega (arith, ap (λ (v : Visible). v.top) p);
       last = omega (arith, q);
       below = ap (λ (v : Visible). seens w.visible.names w.visible.top v.words.now) p;
       grows = subst (λ (m : Rowless). Grows w.rowless m) (sym g) grows-idle;
-      levels = λ d h. ap (λ l. get_or l d idle) r;
+      levels = λ d h. rw (r, l);
     }
 
 pub framed-idle : {room : ℕ} {w : Walk} → Frame room w w
-framed-idle = framed-same refl refl refl refl
+framed-idle = framed-same refl refl refl refl refl
 
 -- ---- room
 -- what fits after a change that leaves the places
@@ -239,7 +239,7 @@ module _ {c : Context} {w : Walk} {l : Log} {event : List ℕ} (p : Says event w
         at = refl;
         still = still;
         fit = λ i k n f. logged-fits {e = i} {t = k} {u = n} still (omega (arith, p.said, p.told)) (lower (omega arith) (omega arith) (omega arith) f) (omega arith) (omega arith) (omega arith);
-        frame = framed-same refl refl refl refl;
+        frame = framed-same refl refl refl refl refl;
         goes = λ id s h.
             record {
               visible = h.visible;
@@ -271,7 +271,7 @@ module _ {c : Context} {w : Walk} {l : Log} {one : List ℕ} (p : Tells one w.lo
         at = refl;
         still = still;
         fit = λ i k n f. logged-fits {e = i} {t = k} {u = n} still (omega (arith, p.said, p.told)) (lower (omega arith) (omega arith) (omega arith) f) (omega arith) (omega arith) (omega arith);
-        frame = framed-same refl refl refl refl;
+        frame = framed-same refl refl refl refl refl;
         goes = λ id s h.
             record {
               visible = h.visible;

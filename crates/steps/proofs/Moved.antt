@@ -116,7 +116,7 @@ makes c w l x v k y few logs kinds =
       still = still;
       fit = λ i k l f.
           refit f still refl f.below f.sound f.descends f.cur (omega (arith, f.last)) (omega (arith, f.count, few)) (omega (arith, f.stack)) (omega (arith, f.rowless)) (omega (arith, f.olds)) (omega (arith, f.needs)) f.within;
-      frame = framed-same refl refl refl refl;
+      frame = framed-same refl refl refl refl refl;
       goes = λ id s h.
           record {
             visible = h.visible;

@@ -1,20 +1,22 @@
 -- How both walks' state stands in the walk of the code, and what a step does to it.
-use Rattle.std.specs.Prelude.{ℕ, suc, ◌+◌, ◌*◌, ◌<◌, ◌≤◌, ◌≡◌, Bool, true, false, not, ◌&&◌, List, [], ◌∷◌, eqb, length, get_or, Option, None, Some}
+use Rattle.std.specs.Prelude.{ℕ, suc, ◌+◌, ◌*◌, ◌^◌, ◌<◌, ◌≤◌, ◌≡◌, Bool, true, false, not, ◌&&◌, List, [], ◌∷◌, eqb, length, get_or, Option, None, Some}
+use Rattle.words.specs.Words.{words}
 use Rattle.scope.specs.Graph.{comprehension_scope, indexed}
 use Rattle.scope.specs.declared.Name.{Name}
 use Rattle.heads.specs.declared.Form.{Form}
 use Rattle.heads.specs.declared.Form.TheVariants.{Leaf, Var, Unresolved, Prop, Two, Slice, Many, BinOp, UnaryOp, Case, IsNull, PatternPredicate, ListComprehension, PatternComprehension, ListPredicate, MapProjection}
+use Rattle.tables.specs.Answer.{names_at}
 use Rattle.tables.specs.Row.{path_kind, Row, row}
 use Rattle.semantics.specs.Log.{Finding, missing, write, answer, Event}
 use Rattle.semantics.specs.Log.{found as found_as}
 use Rattle.semantics.specs.World.{World, variable, name_of, kind_of}
-use Rattle.semantics.specs.Resolve.{Hit, hit, State, binds, say, enter, bind_name, use_var, bind_path}
+use Rattle.semantics.specs.Resolve.{Hit, hit, State, lookup, binds, say, enter, bind_name, bind_anew, bind_new, use_var, bind_path}
 use Rattle.semantics.specs.Kinds.{Setting, pattern_type, type_of, at_type, at_row, misplaced, row_for}
 use Rattle.theorems.specs.Needs.{made, carried_in}
 use Rattle.fused.specs.Fused.{Both, Mode, when, told, step, same, name_use}
 use Rattle.rows.specs.Rows.{shown}
 use Rattle.rows.specs.Table.{row_in, Standing}
-use Rattle.rowless.specs.Rowless.{named, places, most, Sound as Numbered, Right, Grows, Begins, Still as Unmoved}
+use Rattle.rowless.specs.Rowless.{named, places, most, Fresh, Sound as Numbered, Right, Grows, Begins, Still as Unmoved}
 use Rattle.visible.specs.Visible.{seens, Descends}
 use Rattle.visible.specs.Stack.{entries, Sound}
 use Rattle.visible.specs.Stack as stack
@@ -25,9 +27,9 @@ use Rattle.steps.specs.Named.{as_named, Below}
 use Rattle.steps.specs.Said.{kept, events_in, findings_in, Roomy, Says, Tells}
 use Rattle.steps.specs.Said as said
 use Rattle.rowless.specs.declared.Rowless.{Rowless}
-use Rattle.steps.specs.declared.Level.{Level}
 use Rattle.steps.specs.declared.Walk.{Walk}
 use Rattle.steps.specs.declared.context.Context.{Context}
+use Rattle.steps.specs.declared.context.Texts.{Texts}
 use Rattle.steps.specs.declared.mode.Setting.{Setting as Setting'}
 use Rattle.steps.specs.declared.mode.Setting.TheVariants.{General}
 use Rattle.steps.specs.declared.log.Log.{Log}
@@ -99,12 +101,13 @@ restarted at r w =
       taken = 0;
     }
 
--- what waits at a level
-abbrev pub idle : Level
-idle = record { left = 0; later = General }
+-- what waits at a level: how many expressions are left there, and the setting of those
+pub record Level : Type 0 where
+  pub left : ℕ
+  pub later : Setting'
 
 abbrev pub level_of : Walk → ℕ → Level
-level_of w d = get_or w.levels d idle
+level_of w d = record { left = get_or w.left d 0; later = get_or w.later d General }
 
 -- what was visible stays below what came, places keep their names, and the levels above `room` stay
 pub record Frame (room : ℕ) (w w' : Walk) : Type 0 where
@@ -242,10 +245,14 @@ act_of (PatternComprehension a b g) = Opens a b
 act_of (ListPredicate g) = Shows (type_at (type_of (ListPredicate g)))
 act_of (MapProjection n) = Shows (type_at (type_of (MapProjection n)))
 
+-- a use of a variable, in a setting
+abbrev pub var_step : World → Mode → ℕ → Setting → Both → Both
+var_step w m v c = step m (use_var w v (w.row v)) (at_row c (w.row v))
+
 -- what of it is done, of those that look
 abbrev pub acts : World → Mode → Setting → Act → Both → Both
 acts w m c (Shows t) = step m same (at_type c (type_number t))
-acts w m c (Uses v) = step m (use_var w v (w.row v)) (at_row c (w.row v))
+acts w m c (Uses v) = var_step w m v c
 acts w m c (Names x) = step m (name_use w x) []
 acts w m c (Opens a b) = step m (enter comprehension_scope a b) []
 
@@ -268,6 +275,14 @@ NamedIn slots (Opens a b) = Unit {0}
 
 abbrev pub Named : ℕ → Form → Type 0
 Named slots f = NamedIn slots (act_of f)
+
+-- a path's name is bound, where names are resolved
+abbrev pub path_name : World → Mode → ℕ → State → State
+path_name w m v = when m.resolves (bind_anew w 0 0 (name_of w v) v path_kind)
+
+-- a node's or a relationship's name is bound, where names are resolved, if it is not visible
+abbrev pub new_name : World → Mode → (v k : ℕ) → State → State
+new_name w m v k = when m.resolves (λ s. bind_new w (lookup (name_of w v) s.visible) (name_of w v) v k s)
 
 -- a part's path: its own binder
 abbrev pub path_step : World → Mode → Option ℕ → Both → Both
@@ -300,6 +315,10 @@ var_record m v k = when m.resolves (say (answer (write v (found_as v k 0))))
 abbrev pub name_record : World → ℕ → Option Hit → State → State
 name_record w x (Some (hit v o)) s = say (answer (write (w.id x) (found_as v (kind_of w v) o))) s
 name_record w x None s = say (answer (write (w.id x) missing)) s
+
+-- What beginning anew asks: the words of the texts' section and the places of all names can be counted in a u32, and the names are `Fresh`.
+abbrev pub Restartable : Texts → Walk → Type 0
+Restartable t w = ((length (words t.section.now) < 2 ^ 32) × (length t.places.now + most w.rowless < 4294967296)) × Fresh (names_at t.section.now t.places.now) w.rowless
 
 -- The walk begins anew at a word, with these names.
 pub record Restarts (at : ℕ) (names : List (List ℕ)) (w w' : Walk) : Type 0 where

@@ -3,28 +3,27 @@
 ghost use Rattle.std.specs.Prelude.{◌≡◌, ◌∷◌, [], suc, ◌<◌, ◌≤◌, Some};
 ghost use Rattle.scope.specs.Kind.{number_of};
 ghost use Rattle.tables.specs.Kind as kinds;
-ghost use Rattle.tables.specs.Row.{path_kind};
 ghost use Rattle.scope.specs.Graph.{indexed};
-ghost use Rattle.semantics.specs.World.{name_of};
-ghost use Rattle.semantics.specs.Resolve.{lookup, enter, bind_anew, bind_new, binds};
-ghost use Rattle.fused.specs.Fused.{elem_step, when};
+ghost use Rattle.semantics.specs.Resolve.{enter, bind_anew, binds};
+ghost use Rattle.fused.specs.Fused.{elem_step};
 ghost use Rattle.visible.specs.Stack.{entries, Sound};
 ghost use Rattle.rows.specs.Table.{row_in};
 ghost use Rattle.rowless.specs.Rowless.{named, places};
 ghost use Rattle.steps.specs.Modes.{mode_of};
 ghost use Rattle.steps.specs.Memory.{names_in, world_at};
 ghost use Rattle.steps.specs.Said.{Roomy};
-ghost use Rattle.steps.specs.Hold.{Binding, Ready, Able, Costs, Steps, Binds, Placed, SaysIf, SaysBound, TellsIf, Left, ShownTo, on_names, path_step, name_in, kind_in, misplaced_in};
+ghost use Rattle.steps.specs.Hold.{Binding, Ready, Able, Costs, Steps, Binds, Placed, SaysIf, SaysBound, TellsIf, Left, ShownTo};
+ghost use Rattle.steps.specs.Hold.{on_names, path_name, path_step, new_name, name_in, kind_in, misplaced_in};
 
 use crate::{Context, Mode, Sort, Walk};
 use finding::shadow;
 use heads::Elem;
-use scope::{Name, ScopeKind};
+use scope::{LOGGED_WIDTH, Name, ScopeKind};
 use tables::VarKind;
 
 impl Walk<'_> {
     // An event that is no finding, where every event is wanted.
-    pub fn say_wanted(&mut self, context: &Context, event: [u32; 6])
+    pub fn say_wanted(&mut self, context: &Context, event: [u32; LOGGED_WIDTH])
         requires { Roomy self.old.log }
         ensures { SaysIf context.now.wants event self.old self.new }
     {
@@ -143,7 +142,7 @@ impl Walk<'_> {
     // A path's name is bound, where names are resolved.
     fn bind_path_name(&mut self, context: &Context, r: Option<(u32, u32)>, v: u32, mode: Mode)
         requires { ShownTo (names_in context.now) (row_in context.now.rows v) r × Ready 3 context.now self.old }
-        ensures { Costs 2 3 3 context.now self.old self.new (λ id. on_names (when (mode_of mode).resolves (bind_anew (world_at context.now id) 0 0 (name_of (world_at context.now id) v) v path_kind))) }
+        ensures { Costs 2 3 3 context.now self.old self.new (λ id. on_names (path_name (world_at context.now id) (mode_of mode) v)) }
     {
         if mode.resolves {
             let x = self.place(context, v, r);
@@ -164,7 +163,7 @@ impl Walk<'_> {
     // A node's or a relationship's name is bound, where names are resolved, if it is not visible.
     fn bind_new(&mut self, context: &Context, r: Option<(u32, u32)>, v: u32, kind: u32, mode: Mode)
         requires { ShownTo (names_in context.now) (row_in context.now.rows v) r × Ready 3 context.now self.old }
-        ensures { Costs 1 3 3 context.now self.old self.new (λ id. on_names (when (mode_of mode).resolves (λ y. bind_new (world_at context.now id) (lookup (name_of (world_at context.now id) v) y.visible) (name_of (world_at context.now id) v) v kind y))) }
+        ensures { Costs 1 3 3 context.now self.old self.new (λ id. on_names (new_name (world_at context.now id) (mode_of mode) v kind)) }
     {
         if mode.resolves {
             let x = self.place(context, v, r);

@@ -19,8 +19,9 @@ pub struct Texts<'a> {
     pub places: &'a [u32],
 }
 
-// `texts` and `uses` have the text and the use id of each name. A name whose mark in `hushed` is 1 is no use; any other is one, also a name past the marks. `star` and
-// `ident` are the names `*` and `id`. Marks are words, 1 or 0: a listing cuts them from the one run of words that it works in. `warns` is the choice of warnings, `wants` whether every event is wanted and not findings alone.
+// `texts` and `uses` have the text and the use id of each name. A name whose mark in `hushed` is 1 is no use; any other is one, also a name past
+// the marks. `star` and `ident` are the names `*` and `id`. Marks are words, 1 or 0: a listing cuts them from the one run of words that it works
+// in. `warns` is the choice of warnings, `wants` whether every event is wanted and not findings alone.
 #[derive(Clone, Copy)]
 pub struct Context<'a> {
     pub section: Section<'a>,

@@ -2,15 +2,14 @@
 ghost use Rattle.std.specs.Prelude.{◌≡◌, ◌<◌, ◌≤◌, cond, get_or};
 ghost use Rattle.scope.specs.Graph.{indexed};
 ghost use Rattle.expr.specs.Olds.{old_in};
-ghost use Rattle.semantics.specs.Resolve.{lookup, use_var};
-ghost use Rattle.semantics.specs.Kinds.{no_type, leaf_types, at_type, at_row};
+ghost use Rattle.semantics.specs.Resolve.{lookup};
+ghost use Rattle.semantics.specs.Kinds.{no_type, leaf_types, at_type};
 ghost use Rattle.fused.specs.Fused.{step, same, name_use, head_of};
-ghost use Rattle.rows.specs.Table.{row_in};
 ghost use Rattle.visible.specs.Stack.{Sound};
 ghost use Rattle.steps.specs.Types.{type_number, type_at};
 ghost use Rattle.steps.specs.Modes.{mode_of, setting_of};
 ghost use Rattle.steps.specs.Memory.{names_in, world_at};
-ghost use Rattle.steps.specs.Hold.{Ready, Steps, Closed, act_of, cost_of, Named, on_names, var_record, name_record};
+ghost use Rattle.steps.specs.Hold.{Ready, Steps, Closed, act_of, cost_of, Named, on_names, var_step, var_record, name_record};
 
 use crate::{Context, Mode, Setting, Sort, Walk};
 use expr::Type;
@@ -79,7 +78,7 @@ impl Walk<'_> {
     // A use of a variable.
     pub fn use_var(&mut self, context: &Context, v: u32, mode: Mode, set: Setting)
         requires { Ready 2 context.now self.old }
-        ensures { Steps 2 context.now self.old self.new (λ id. step (mode_of mode) (use_var (world_at context.now id) v (row_in context.now.rows v)) (at_row (setting_of set) (row_in context.now.rows v))) }
+        ensures { Steps 2 context.now self.old self.new (λ id. var_step (world_at context.now id) (mode_of mode) v (setting_of set)) }
     {
         if context.is_quiet(mode, set) {
             return;

@@ -11,11 +11,9 @@ mod kinds;
 mod log;
 mod mode;
 
-ghost use Rattle.std.specs.Prelude.{◌≡◌, ◌+◌, ◌^◌, ◌<◌, length};
-ghost use Rattle.words.specs.Words.{words};
+ghost use Rattle.std.specs.Prelude.{◌≡◌};
 ghost use Rattle.tables.specs.Answer.{names_at};
-ghost use Rattle.rowless.specs.Rowless.{most, Fresh};
-ghost use Rattle.steps.specs.Hold.{Restarts};
+ghost use Rattle.steps.specs.Hold.{Restartable, Restarts};
 
 use clauses::MAX_DEPTH;
 pub use context::{Context, Texts, operator_settings, property_settings};
@@ -25,16 +23,9 @@ pub use mode::{Mode, Setting, Settings};
 use rowless::Rowless;
 use visible::Visible;
 
-// What is left of a row of expressions at a level, and the setting of those.
-#[derive(Clone, Copy, Debug, PartialEq, Eq)]
-pub struct Level {
-    pub left: u32,
-    pub later: Setting,
-}
-
 // Where both walks stand: the next word, what is visible and the places of its names, the current scope and the last one, what was said and told, how
-// many expressions 25 were read, how many bindings were made and how many names carried; and what waits at each level of a row, in an array,
-// since there is no heap: one for each room from 0 to the limit.
+// many expressions 25 were read, how many bindings were made and how many names carried; and what waits at each level of a row: how many
+// expressions are left there, and the setting of those. They are two arrays, since there is no heap, with a place for each room from 0 to the limit.
 #[derive(Drop)]
 pub struct Walk<'a> {
     pub at: usize,
@@ -46,7 +37,8 @@ pub struct Walk<'a> {
     pub olds: u32,
     pub made: u32,
     pub taken: u32,
-    pub levels: [Level; MAX_DEPTH as usize + 1],
+    pub left: [u32; MAX_DEPTH as usize + 1],
+    pub later: [Setting; MAX_DEPTH as usize + 1],
 }
 
 impl<'a> Walk<'a> {
@@ -86,10 +78,8 @@ impl<'a> Walk<'a> {
             olds: 0,
             made: 0,
             taken: 0,
-            levels: [Level {
-                left: 0,
-                later: Setting::General,
-            }; MAX_DEPTH as usize + 1],
+            left: [0; MAX_DEPTH as usize + 1],
+            later: [Setting::General; MAX_DEPTH as usize + 1],
         }
     }
 }
@@ -97,7 +87,7 @@ impl<'a> Walk<'a> {
 impl Walk<'_> {
     // The walk begins anew at a word, with these names: all its other numbers are as `new` has them, but what waits at the levels.
     pub fn restart(&mut self, at: usize, texts: Texts)
-        requires { ((length (words texts.section.now) < 2 ^ 32) × (length texts.places.now + most self.old.rowless < 4294967296)) × Fresh (names_at texts.section.now texts.places.now) self.old.rowless }
+        requires { Restartable texts self.old }
         ensures { Restarts at (names_at texts.entry.section.now texts.entry.places.now) self.old self.new }
     {
         self.rowless.restart(texts.section, texts.places);

@@ -2,6 +2,8 @@
 ghost use Rattle.std.specs.Prelude.{◌≡◌, ℕ, ◌+◌, ◌≤◌, length};
 ghost use Rattle.steps.specs.Said.{Sorts, Roomy, Put, Says, Tells};
 
+use scope::LOGGED_WIDTH;
+
 // The sorts of events by their first words; any other first word is a finding's code.
 #[derive(Clone, Copy, Debug, PartialEq, Eq)]
 pub enum Sort {
@@ -38,30 +40,30 @@ pub struct Log<'a> {
     pub told: u32,
 }
 
-fn put(words: &mut [u32], k: usize, entry: [u32; 6])
+fn put(words: &mut [u32], k: usize, entry: [u32; LOGGED_WIDTH])
     requires { k + 6 ≤ length words.old }
     ensures { Put k entry words.old words.new }
 {
-    words[k..k + 6].copy_from_slice(&entry);
+    words[k..k + LOGGED_WIDTH].copy_from_slice(&entry);
 }
 
 impl Log<'_> {
     // An event, or a finding of the name walk.
-    pub fn say(&mut self, event: [u32; 6])
+    pub fn say(&mut self, event: [u32; LOGGED_WIDTH])
         requires { Roomy self.old }
         ensures { Says event self.old self.new }
     {
-        let k = self.said as usize * 6;
+        let k = self.said as usize * LOGGED_WIDTH;
         put(self.words, k, event);
         self.said += 1;
     }
 
     // A finding of the kind walk.
-    pub fn tell(&mut self, finding: [u32; 6])
+    pub fn tell(&mut self, finding: [u32; LOGGED_WIDTH])
         requires { Roomy self.old }
         ensures { Tells finding self.old self.new }
     {
-        let k = self.words.len() - (self.told as usize + 1) * 6;
+        let k = self.words.len() - (self.told as usize + 1) * LOGGED_WIDTH;
         put(self.words, k, finding);
         self.told += 1;
     }

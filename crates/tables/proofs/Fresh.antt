@@ -1,4 +1,5 @@
 -- Laws of byte strings and names that are the same, and of names of which none stands among those before it.
+pub use Rattle.std.proofs.lemmas.Bool.{and_parts as both}
 use Prim.Native.Nat.{ℕ, ◌+◌, ◌<◌, ◌≤◌}
 use native.Mathlib.Numerals.{add-one}
 use native.Mathlib.Omega.{arith}
@@ -22,10 +23,6 @@ use Rattle.tables.proofs.Front.{front-more, take-map, get_d_map}
 pub is-not : (t : Bool) → (t ≡ true → ⊥) → t ≡ false
 is-not true h = absurd (h refl)
 is-not false h = refl
-
-pub both : (a b : Bool) → a && b ≡ true → (a ≡ true) × (b ≡ true)
-both true b e = (refl, e)
-both false b e = absurd (false≢true e)
 
 -- strings that are the same are equal: which comes first is no matter, and their lengths are equal
 pub same-eq : (a b : List ℕ) → same_bytes a b ≡ true → a ≡ b

@@ -1,17 +1,14 @@
--- Laws of the first n of a table, from i on: one more, and none; and of a table made of another.
+-- Laws of the first n of a table, from i on: one more; and of a table made of another.
 use Prim.Native.Nat.{ℕ, zero, suc, ◌+◌, ◌<◌, ◌≤◌}
 use native.Mathlib.Omega.{arith}
 use mathlib.Core.Path.{◌≡◌, refl, ap}
 use mathlib.Core.List.{List, [], ◌∷◌, map}
 use lib.ListN.{length, take, drop, get_or}
 use lib.Seq.{length-take-le, get_or-take}
-use Rattle.words.proofs.Words.{drop-word, drop-none}
+use Rattle.words.proofs.Words.{drop-word}
 
 pub front-more : (l : List ℕ) (n i : ℕ) → n ≤ length l → i < n → drop i (take n l) ≡ get_or l i 0 ∷ drop (i + 1) (take n l)
 front-more l n i h lt = rw (drop-word (take n l) i (omega (arith, length-take-le n l h)), get_or-take n l i 0 lt)
-
-pub front-none : (l : List ℕ) (n i : ℕ) → n ≤ length l → n ≤ i → drop i (take n l) ≡ []
-front-none l n i h le = drop-none (take n l) i (omega (arith, length-take-le n l h))
 
 module _ {A B : Type 0} (f : A → B) where
   pub take-map : (i : ℕ) (l : List A) → take i (map f l) ≡ map f (take i l)

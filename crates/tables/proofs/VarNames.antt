@@ -1,12 +1,15 @@
 -- Laws of the names of variables without a row. The digits of a number below 2 ^ 32 say it again, in the code's arithmetic (`say-decimal`); so no two
 -- such names are the same (`injective`), and a text that is one is the name of what its digits say (`said`).
-use Rattle.std.proofs.Common.{ℕ, zero, suc, ◌≡◌, ◌+◌, ◌*◌, ◌/◌, ◌%◌, ◌^◌, ◌<◌, ◌≤◌, Bool, true, false, cond, List, [], ◌∷◌, ◌++◌, map, length, take, drop, append-nil, refl, sym, ap, ◌∙◌, arith}
+-- The first four bytes of each are the same (`headed`).
+use Rattle.std.proofs.Common.{ℕ, zero, suc, ◌≡◌, ◌+◌, ◌*◌, ◌/◌, ◌%◌, ◌^◌, ◌<◌, ◌≤◌, Bool, true, false, cond, List, [], ◌∷◌, ◌++◌, length, take, drop, append-nil, refl, sym, ap, ◌∙◌, arith}
 use borrow.Author.Tests.{ltb-true, le-leb}
-use lib.Dec.{ltb}
+use lib.Dec.{ltb, leb}
+use lib.ListN.{length-drop}
 use Rattle.std.proofs.Math.Seq.{take-append_seam}
 use Rattle.words.specs.Decimal.{low_digits, width_within, width, decimal}
 use Rattle.words.specs.Front.{put_front, put_length}
 use Rattle.words.proofs.Digits.{length-decimal, width-le}
+use Rattle.tables.specs.Name.{text_at, length_at, name_at}
 use Rattle.tables.specs.VarName.{var_name}
 
 -- a digit behind a number, modulo 2 ^ 32
@@ -65,7 +68,30 @@ laid v r page out h l e =
     let five : 5 + length (decimal v) ≡ suc (suc (suc (suc (suc (length (decimal v)))))) = omega arith in
     (omega arith, rw (text, long, five, append-nil, take-append_seam (decimal v) (drop (length (decimal v)) page)) refl)
 
--- `__var0`, `__var7`, `__var10`
-cases : map var_name (0 ∷ 7 ∷ 10 ∷ []) ≡ (95 ∷ 95 ∷ 118 ∷ 97 ∷ 114 ∷ 48 ∷ []) ∷ (95 ∷ 95 ∷ 118 ∷ 97 ∷ 114 ∷ 55 ∷ []) ∷ (95 ∷ 95 ∷ 118 ∷ 97 ∷ 114 ∷ 49 ∷ 48 ∷ []) ∷ []
-unfolding var_name decimal width width_within low_digits
-cases = refl
+-- the first four bytes of a name that is a variable's stand where its text does
+four : (n : ℕ) (s r : List ℕ) (a b c d : ℕ) → take n s ≡ a ∷ b ∷ c ∷ d ∷ r → (4 ≤ length s) × (take 4 s ≡ a ∷ b ∷ c ∷ d ∷ [])
+four zero s r a b c d e = absurd (cc)
+four (suc zero) [] r a b c d e = absurd (cc)
+four (suc zero) (x ∷ s) r a b c d e = absurd (cc)
+four (suc (suc zero)) [] r a b c d e = absurd (cc)
+four (suc (suc zero)) (x ∷ []) r a b c d e = absurd (cc)
+four (suc (suc zero)) (x ∷ y ∷ s) r a b c d e = absurd (cc)
+four (suc (suc (suc zero))) [] r a b c d e = absurd (cc)
+four (suc (suc (suc zero))) (x ∷ []) r a b c d e = absurd (cc)
+four (suc (suc (suc zero))) (x ∷ y ∷ []) r a b c d e = absurd (cc)
+four (suc (suc (suc zero))) (x ∷ y ∷ z ∷ s) r a b c d e = absurd (cc)
+four (suc (suc (suc (suc n)))) [] r a b c d e = absurd (cc)
+four (suc (suc (suc (suc n)))) (x ∷ []) r a b c d e = absurd (cc)
+four (suc (suc (suc (suc n)))) (x ∷ y ∷ []) r a b c d e = absurd (cc)
+four (suc (suc (suc (suc n)))) (x ∷ y ∷ z ∷ []) r a b c d e = absurd (cc)
+four (suc (suc (suc (suc n)))) (x ∷ y ∷ z ∷ w ∷ s) r a b c d e = (omega arith, cc)
+
+pub headed : (s : List ℕ) (p v : ℕ) → name_at s p ≡ var_name v → (p + 8 ≤ length s) × (take 4 (drop (p + 4) s) ≡ 95 ∷ 95 ∷ 118 ∷ 97 ∷ [])
+unfolding name_at text_at
+headed s p v e = go (leb (p + 4 + length_at s p) (length s)) (spelt v _ e)
+  where
+    go : (b : Bool) → cond b (take (length_at s p) (drop (p + 4) s)) [] ≡ 95 ∷ 95 ∷ 118 ∷ 97 ∷ 114 ∷ decimal v → (p + 8 ≤ length s) × (take 4 (drop (p + 4) s) ≡ 95 ∷ 95 ∷ 118 ∷ 97 ∷ [])
+    go true e =
+        let k = four (length_at s p) (drop (p + 4) s) (114 ∷ decimal v) 95 95 118 97 e in
+        (omega (arith, k.0, length-drop (p + 4) s), k.1)
+    go false e = absurd (cc)

@@ -9,4 +9,4 @@ mod var_name;
 pub use kind::VarKind;
 pub use names::{are_read, distinct_names, index_of, name_at, scan_names};
 pub use rows::{Row, distinct_ids};
-pub use var_name::{VarName, var_id};
+pub use var_name::{VarName, var_at};

@@ -2,14 +2,14 @@
 // among those before it.
 ghost use Rattle.std.specs.Prelude.{◌≡◌, map, ◌+◌, ◌≤◌, length, drop};
 ghost use Rattle.words.specs.Fnv.{use_id};
-ghost use Rattle.heads.specs.Answer.{Ans, read_end};
+ghost use Rattle.heads.specs.Answer.{Ans, read_end, is_in};
 ghost use Rattle.tables.specs.Distinct.{name_in, distinct};
 ghost use Rattle.tables.specs.Index.{number_of, index_of};
-ghost use Rattle.tables.specs.Name.{all_zero, length_at, name_body, read_name, name_at};
-ghost use Rattle.tables.specs.Answer.{body_ends, text_got, name_ends, name_got, names_at, Roomy, Scanned, ReadWhole};
+ghost use Rattle.tables.specs.Name.{all_zero, length_at, name_body, read_name, text_at, name_at};
+ghost use Rattle.tables.specs.Answer.{body_ends, text_got, ending, Names, name_ends, name_got, names_at, Roomy, Scanned, ReadWhole};
 
 use refusal::Refusal;
-use words::{is_utf8, join, use_id};
+use words::{join, name_id, use_id};
 
 // The longest name.
 const MAX_NAME: u32 = 255;
@@ -21,11 +21,12 @@ fn all_zero(s: &[u8]) -> bool
     s.iter().all(|byte| *byte == 0)
 }
 
-// The n bytes of a name from at on, then its padding.
-fn read_body(s: &[u8], at: usize, n: u32) -> Result<usize, Refusal>
+// The n bytes of a name from at on, then its padding: where that ends, and the name's use id.
+fn read_body(s: &[u8], at: usize, n: u32) -> Result<(usize, u32), Refusal>
     requires { at ≤ length s.now }
-    ensures ends { body_ends s.now at n result }
-    ensures ans { Ans s.now at (name_body n (drop at s.now)) (text_got s.now at n result) (read_end s.now result) }
+    ensures ends { body_ends s.now at n (ending result) }
+    ensures names { Names (text_at s.now at n) result }
+    ensures ans { Ans s.now at (name_body n (drop at s.now)) (text_got s.now at n (ending result)) (read_end s.now (ending result)) }
 {
     if MAX_NAME < n {
         return Err(Refusal::Names);
@@ -40,10 +41,10 @@ fn read_body(s: &[u8], at: usize, n: u32) -> Result<usize, Refusal>
     if !all_zero(&s[e..q]) {
         return Err(Refusal::Names);
     }
-    if is_utf8(&s[at..e]) {
-        return Ok(q);
+    match name_id(&s[at..e]) {
+        Some(id) => Ok((q, id)),
+        None => Err(Refusal::Names),
     }
-    Err(Refusal::Names)
 }
 
 // The length of the name that stands at the byte p: a word, by its four bytes as the definition has it.
@@ -54,11 +55,12 @@ fn length_at(s: &[u8], p: usize) -> u32
     join(s[p], s[p + 1], s[p + 2], s[p + 3])
 }
 
-// The name whose length stands at the byte at.
-pub fn read_name(s: &[u8], at: usize) -> Result<usize, Refusal>
+// The name whose length stands at the byte at: where it ends, and its use id.
+pub fn read_name(s: &[u8], at: usize) -> Result<(usize, u32), Refusal>
     requires { at ≤ length s.now }
-    ensures ends { name_ends s.now at result }
-    ensures ans { Ans s.now at (read_name (drop at s.now)) (name_got s.now at result) (read_end s.now result) }
+    ensures ends { name_ends s.now at (ending result) }
+    ensures names { Names (name_at s.now at) result }
+    ensures ans { Ans s.now at (read_name (drop at s.now)) (name_got s.now at (ending result)) (read_end s.now (ending result)) }
 {
     if s.len() - at < 4 {
         return Err(Refusal::Names);
@@ -89,9 +91,9 @@ pub fn scan_names(s: &[u8], n: u32, tab: &mut [u32], ids: &mut [u32]) -> Result<
     let mut p = 0;
     // By index: n may be more than the tables hold; then reading a name fails before.
     for i in 0..n as usize {
-        let q = read_name(s, p)?;
+        let (q, id) = read_name(s, p)?;
         tab[i] = p as u32;
-        ids[i] = use_id(name_at(s, p));
+        ids[i] = id;
         p = q;
     }
     Ok(p)
@@ -105,6 +107,13 @@ pub fn are_read(s: &[u8], n: u32, tab: &mut [u32], ids: &mut [u32]) -> bool
     scan_names(s, n, tab, ids) == Ok(s.len())
 }
 
+// Whether an id is among these. No `contains`: that is a call of its own, made for long lists.
+fn has_id(ids: &[u32], id: u32) -> bool
+    ensures { result ≡ is_in id ids.now }
+{
+    ids.iter().any(|other| *other == id)
+}
+
 // The index of the first of the names with these places and use ids whose text is x: it has the id of x, so most sheets without x are told by the
 // ids.
 pub fn index_of(s: &[u8], places: &[u32], ids: &[u32], x: &[u8]) -> Option<u32>
@@ -112,7 +121,7 @@ pub fn index_of(s: &[u8], places: &[u32], ids: &[u32], x: &[u8]) -> Option<u32>
     requires used { ids.now ≡ map use_id (names_at s.now places.now) }
     ensures { number_of result ≡ index_of x.now (names_at s.now places.now) }
 {
-    if !ids.contains(&use_id(x)) {
+    if !has_id(ids, use_id(x)) {
         return None;
     }
     let i = places
@@ -129,7 +138,7 @@ pub fn distinct_names(s: &[u8], places: &[u32], ids: &[u32]) -> bool
 {
     // By index: each name is sought among the i before it.
     for i in 0..places.len() {
-        if ids[..i].contains(&ids[i]) {
+        if has_id(&ids[..i], ids[i]) {
             let x = name_at(s, places[i] as usize);
             if places[..i]
                 .iter()

@@ -1,7 +1,9 @@
 // The text of the name of a variable that has no row, and such a name by its text.
 ghost use Rattle.std.specs.Prelude.{◌≡◌, ◌≤◌, take};
+ghost use Rattle.tables.specs.Name.{name_at};
 ghost use Rattle.tables.specs.VarName.{var_name, VarId};
 
+use crate::names::name_at;
 use words::put_decimal;
 
 // The text, of which no more than 15 bytes are in use.
@@ -34,7 +36,7 @@ impl VarName {
 }
 
 // The variable whose name a text is.
-pub fn var_id(text: &[u8]) -> Option<u32>
+fn var_id(text: &[u8]) -> Option<u32>
     ensures { VarId text.now result }
 {
     let digits = text.strip_prefix(b"__var")?;
@@ -49,4 +51,19 @@ pub fn var_id(text: &[u8]) -> Option<u32>
         return Some(v);
     }
     None
+}
+
+// The variable of the name whose length stands at the byte p, if it is a variable's. Nearly all others are told by their first four bytes, before
+// the text is read.
+pub fn var_at(s: &[u8], p: u32) -> Option<u32>
+    ensures { VarId (name_at s.now p) result }
+{
+    let at = p as usize;
+    let Some(head) = s.get(at + 4..at + 8) else {
+        return None;
+    };
+    if head != b"__va".as_slice() {
+        return None;
+    }
+    var_id(name_at(s, at))
 }

@@ -185,7 +185,7 @@ named-seen x c (pair y v ∷ ps) vis e = let h = named-seen x c ps (seen y (hit 
     go true p q = absurd (let z : ◌≡◌ {A = ℕ} 0 1 = cc in omega arith)
     go false p q = (p, q)
 
-none_first : (a b : Bool) → (a || b) ≡ false → (a ≡ false) × (b ≡ false)
+pub none_first : (a b : Bool) → (a || b) ≡ false → (a ≡ false) × (b ≡ false)
 none_first true b e = absurd (true≢false e)
 none_first false b e = (refl, e)
 

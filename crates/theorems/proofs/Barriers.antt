@@ -8,12 +8,12 @@ use mathlib.Core.Path.{◌≡◌, refl, ◌∙◌, ap}
 use mathlib.Core.Bool.{Bool, true, false, cond, ◌&&◌, ◌||◌}
 use mathlib.Core.List.{List, [], ◌∷◌, ◌++◌, map, reverse, reverse-cons, append_assoc}
 use lib.Dec.{eqb, ltb, lt→ltb}
-use Rattle.scope.specs.Graph.{with_barrier, Scope, scope, Carried, carried, Name, same_name}
+use Rattle.scope.specs.Graph.{with_barrier, scope, Carried, carried, Name, same_name}
 use Rattle.scope.specs.Lookup.{carries}
 use Rattle.scope.specs.Lookup.{Looked, nothing, answer_at}
 use Rattle.clauses.specs.Tree.{exprs}
 use Rattle.sheet.specs.Statement.{Statement}
-use Rattle.semantics.specs.Log.{Event, open', carry, binds_in, carries_in, logs}
+use Rattle.semantics.specs.Log.{open', carry, binds_in, carries_in, logs}
 use Rattle.semantics.specs.World.{World, world_of}
 use Rattle.semantics.specs.Resolve.{Pair, pair, State, enter, barrier, log}
 use Rattle.semantics.specs.Lists.{pairs_at, scopes, bindings, carried_list}
@@ -21,7 +21,7 @@ use Rattle.theorems.specs.Site.{Site, in_head, in_arm, cut_of, Stands, entry, be
 use Rattle.theorems.specs.Uses.{seen_as}
 use Rattle.theorems.specs.Agree.{look, in_lists}
 use Rattle.theorems.proofs.Within.{Within, within-reverse, nil, inside, cons}
-use Rattle.theorems.proofs.Placed.{carry_at, carry-log, pre_log, split, tail-in, pre-opened, pairs-listed}
+use Rattle.theorems.proofs.Placed.{carry_at, carry-log, in-open, pre_log, split, tail-in, pre-opened, pairs-listed}
 use Rattle.theorems.proofs.Looks.{newest, look-stays, look-open}
 use Rattle.theorems.proofs.Keeps.{all_keep}
 use Rattle.theorems.proofs.Shows.{named, Shows, shown, count, resolves-A, clauses-A, root-A, arm-A}
@@ -48,10 +48,6 @@ unfolding answer_at
 passes_on s p true f h = rw (holds (ltb p s) (lt→ltb p s h)) refl
 passes_on s p false f h = refl
 
-in-open : {lo hi : ℕ} (s : Scope) {l : List Event} → Within lo hi l → Within lo hi (open' s ∷ l)
-unfolding inside
-in-open s h = cons tt h
-
 -- at the barrier
 barrier-gives : (w : World) (a b : ℕ) (cs : List Pair) (x : Name) {t : State} → Shows [] [] t → look (reverse (barrier w a b cs t).log) (suc t.last) x ≡ cond (named x cs) (seen_as x t.visible) nothing
 unfolding barrier newest named
@@ -65,7 +61,7 @@ barrier-gives w a b cs x {t} h =
     ∙ rw (no-binds (suc t.last) cs, carries_own (suc t.last) x cs)
     (passes_on (suc t.last) t.cur (named x cs) (λ q. look (l ++ o ∷ m) q x) (omega (arith, h.low)))
     ∙ ap (λ z. cond (named x cs) z nothing)
-    (look-stays l t.cur x (in-open (scope with_barrier (Some t.cur) a b) (carried-in t.last (suc t.last) cs (le_refl _))) h.low (omega (arith, count h.fine, h.low)) ∙ shown h x)
+    (look-stays l t.cur x (in-open {s = scope with_barrier (Some t.cur) a b} (carried-in t.last (suc t.last) cs (le_refl _))) h.low (omega (arith, count h.fine, h.low)) ∙ shown h x)
 
 module _ (warns : Bool) (s : Statement) where
   before-A : (p : Site) → Shows [] [] (before warns s p)

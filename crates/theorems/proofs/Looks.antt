@@ -1,18 +1,19 @@
 -- Lookup on the views of a log: what a scope answers is settled once the log has passed it, and climbing stays below its number.
 -- `look-by`: lookup from a scope by its parent's; `look-open`: from the scope that is opened between l and m; `look-stays`: what is said
 -- later in scopes above changes nothing. `newest` is what bindings give for a name in a scope (`newest-append`, in two pieces; `newest-out`,
--- none from other scopes); `carries-append`, carried names in two pieces; `answer-same`: an answer depends on the parents below alone.
+-- none from other scopes); `carries-append`, carried names in two pieces.
 use Rattle.std.specs.Prelude.{Option, None, Some}
 use Prim.Native.Nat.{ℕ, zero, suc, ◌≤◌, ◌<◌}
 use native.Mathlib.Omega.{arith}
 use mathlib.Core.Path.{◌≡◌, refl, sym, ◌∙◌, ap, ap₂, subst}
 use mathlib.Core.Bool.{Bool, true, false, cond, ◌&&◌, ◌||◌, or_assoc, or-false}
 use mathlib.Core.List.{List, [], ◌∷◌, ◌++◌}
-use lib.Dec.{T, eqb, ltb, eqb→eq, ltb→lt, lt→ltb}
+use lib.Dec.{T, eqb, ltb, eqb→eq, lt→ltb}
 use lib.ListN.{length}
 use Rattle.scope.specs.Graph.{with_barrier, Scope, scope, Entry, entry, Carried, carried, Name, same_name}
 use Rattle.scope.specs.Lookup.{bound_in, carries, parent_at, kind_at, passes}
-use Rattle.scope.specs.Lookup.{Looked, refused, answer_at, climb, lookup_in}
+use Rattle.scope.specs.Lookup.{answer_at, climb, lookup_in}
+use Rattle.scope.proofs.Climbing.{same-below}
 use Rattle.semantics.specs.Log.{Bound, bound, Event, open', scopes_in, binds_in, carries_in, opened, logs}
 use Rattle.semantics.specs.Lists.{put, puts}
 use Rattle.theorems.specs.Agree.{look}
@@ -126,18 +127,6 @@ unfolding kind_at
 kind-at [] m k p a b = refl
 kind-at (scope j o c d ∷ l) m k p a b = kind-at l m k p a b
 
--- What a scope answers depends on its parent's answer alone, if its parent lies below.
-pub answer-same : (s : ℕ) (o : Option ℕ) (g : Bool) (p : Option ℕ) (f h : ℕ → Looked) → ((q : ℕ) → q < s → f q ≡ h q) → answer_at s o g p f ≡ answer_at s o g p h
-unfolding answer_at
-answer-same s (Some v) g p f h e = refl
-answer-same s None false p f h e = refl
-answer-same s None true None f h e = refl
-answer-same s None true (Some p) f h e = go (ltb p s) (λ t. e p (ltb→lt p s t))
-  where
-    go : (b : Bool) → (T b → f p ≡ h p) → cond b (f p) (refused 9) ≡ cond b (h p) (refused 9)
-    go true i = i tt
-    go false i = refl
-
 -- Two graphs that have the same scopes below `top` give the same there, with any steps that are enough.
 pub record Alike (top : ℕ) (ss₁ ss₂ : List Scope) (bs₁ bs₂ : List Entry) (cs₁ cs₂ : List Carried) : Type 0 where
   pub bounds : (s : ℕ) (x : Name) → s < top → bound_in bs₁ s x ≡ bound_in bs₂ s x
@@ -151,7 +140,7 @@ climb-alike h zero n s x a b c = absurd (omega arith)
 climb-alike h (suc m) zero s x a b c = absurd (omega arith)
 climb-alike {ss₁ = ss₁} {ss₂ = ss₂} {bs₁ = bs₁} {bs₂ = bs₂} {cs₁ = cs₁} {cs₂ = cs₂} h (suc m) (suc n) s x a b c =
     rw (h.bounds s x c, h.goes s x c, h.parents s c)
-    (answer-same s _ _ _ (λ p. climb ss₁ bs₁ cs₁ m p x) (λ p. climb ss₂ bs₂ cs₂ n p x) (λ p q. climb-alike h m n p x (omega arith) (omega arith) (omega arith)))
+    (same-below s _ _ _ (λ p. climb ss₁ bs₁ cs₁ m p x) (λ p. climb ss₂ bs₂ cs₂ n p x) (λ p q. climb-alike h m n p x (omega arith) (omega arith) (omega arith)))
 
 -- Lookup on the views of a log.
 bound-log : (l : List Event) (s : ℕ) (x : Name) → bound_in (puts (binds_in l) []) s x ≡ newest s x (binds_in l) None
@@ -189,7 +178,7 @@ pub look-by : (l : List Event) (s : ℕ) (x : Name) → s < opened l
 look-by l s x q =
     unfold climb passes in
     sym (look-climb l (suc s) s x (omega arith) q)
-    ∙ rw (bound-log l s x) (answer-same s _ _ _ _ _ (λ p h. look-climb l s p x h (omega arith)))
+    ∙ rw (bound-log l s x) (same-below s _ _ _ _ _ (λ p h. look-climb l s p x h (omega arith)))
 
 -- Lookup from a scope of its own: what is bound and carried after it is opened counts.
 pub look-open : (l m : List Event) (last k p a b : ℕ) (x : Name) → Within 0 last l → opened l ≡ suc last

@@ -133,7 +133,7 @@ root-at warns s p = let e = carry-is (world_of warns s) (pairs warns s p) (enter
 pub silent-W : (n : ℕ) (t : State) → t.last ≡ n → Well n (suc n) (silent t)
 silent-W n t e = record { within = nil; count = unfold logs in omega arith; low = omega arith }
 
-in-open : {lo hi : ℕ} {s : Scope} {l : List Event} → Within lo hi l → Within lo hi (open' s ∷ l)
+pub in-open : {lo hi : ℕ} {s : Scope} {l : List Event} → Within lo hi l → Within lo hi (open' s ∷ l)
 unfolding inside
 in-open h = cons tt h
 

@@ -19,6 +19,7 @@ use Rattle.sheet.specs.Statement.{Statement}
 use Rattle.semantics.specs.Log.{e1002, Finding, finding, bound, Event, open', bind, carry, find, scopes_in, carries_in, opened, logs}
 use Rattle.scope.specs.Lookup.{bound_in, kind_at, parent_at, passes, carries}
 use Rattle.scope.specs.Lookup.{Looked, at, answer_at, climb, lookup_in}
+use Rattle.scope.proofs.Climbing.{same-below}
 use Rattle.semantics.specs.Lists.{puts, scopes, bindings, carried_list}
 use Rattle.semantics.specs.World.{World, hush, variable, opens, yield_name, name_of, kind_of, world_of}
 use Rattle.semantics.specs.Resolve.{Hit, hit, variable_of, Seen, seen, Pair, pair, State, lookup, binds, say, say_if, enter, bind_over, leave, standing, bind_anew, bind_new, bind_path, bind_elem, resolves, bind_pattern, carried_by, carry_all, bind_all, barrier, fresh, yields, aliases, sort_by, clause, clauses, arms, start, run, log}
@@ -30,7 +31,7 @@ use Rattle.theorems.specs.Site.{silent}
 use Rattle.theorems.specs.Uses.{seen_as}
 use Rattle.theorems.specs.Agree.{look, in_lists}
 use Rattle.theorems.proofs.Placed.{start-W, silent-W}
-use Rattle.theorems.proofs.Looks.{newest, carries-append, newest-append, answer-same, look-stays, look-by, look-open}
+use Rattle.theorems.proofs.Looks.{newest, carries-append, newest-append, look-stays, look-by, look-open}
 use Rattle.theorems.proofs.Tests.{holds, eqb_same}
 use Rattle.theorems.proofs.Names.{same_comm}
 
@@ -59,7 +60,7 @@ answer-bind : (s v : ℕ) (o : Option ℕ) (c g : Bool) (p : Option ℕ) (f h : 
     → answer_at s (cond c (Some v) o) g p f ≡ cond c (at v s) (answer_at s o g p h)
 unfolding answer_at
 answer-bind s v o true g p f h e = refl
-answer-bind s v o false g p f h e = answer-same s o g p f h e
+answer-bind s v o false g p f h e = same-below s o g p f h e
 
 look-bind : (o g : Bool) (l : List Event) (s : ℕ) (y : Name) (v k : ℕ) (x : Name) → 0 < s → s < opened l → look (l ++ bind o g (bound s y v k) ∷ []) s x ≡ cond (same_name x y) (at v s) (look l s x)
 look-bind o g l s y v k x z q =
@@ -80,7 +81,7 @@ look-carry l s y v x n z q =
     ∙ rw (scopes-append l m, binds-append l m, carried-append l m, newest-append)
     (unfold logs newest in
     rw (append-nil (scopes_in l), carries-append (carries_in l) (carried s y v ∷ []) s x, one s y v x n, or-false (carries (carries_in l) s x))
-    (answer-same s _ _ _ _ (λ p. look l p x) (λ p h. below p h)))
+    (same-below s _ _ _ _ (λ p. look l p x) (λ p h. below p h)))
     ∙ sym (look-by l s x q)
   where
     one : (s : ℕ) (y : Name) (v : ℕ) (x : Name) → same_name x y ≡ false → carries (carried s y v ∷ []) s x ≡ false

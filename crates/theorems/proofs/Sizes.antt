@@ -11,11 +11,10 @@ use mathlib.Core.List.{List, [], ◌∷◌, ◌++◌, flat_map}
 use lib.Dec.{eqb, leb}
 use lib.ListN.{length, length-append, length-reverse, length-take, length-drop}
 use Rattle.words.specs.Words.{words}
-use Rattle.heads.specs.declared.Form.{Form}
-use Rattle.heads.specs.declared.Form.TheVariants.{Leaf, Var, Unresolved, Prop, Two, Slice, Many, BinOp, UnaryOp, Case, IsNull, PatternPredicate, ListComprehension, PatternComprehension, ListPredicate, MapProjection}
 use Rattle.heads.specs.Form.{form_words}
 use Rattle.expr.specs.Tree.{Expr, var, unresolved, node, predicate, comprehension, Exprs, done, more, mark, Steps, end, part, elem}
 use Rattle.expr.specs.Write.{maybe_words, write_e, writes, write_s}
+use Rattle.expr.proofs.Least.{form-word}
 use Rattle.clauses.specs.Tree.{Projection, projection, Yield, yield, Keys, unsorted, sorted, Clause, opening, reading, with', return, unwind, call, Arm, arm, exprs, keys_of}
 use Rattle.clauses.specs.Write.{write_projection, write_yield, counted_words, write_keys, write_clause, write_arm}
 use Rattle.tables.specs.Row.{value_kind, path_kind, Row, row}
@@ -38,25 +37,6 @@ use Rattle.theorems.proofs.Woven.{written-reverse, scopes-written, answers-writt
 cond-few : {A : Type 0} (b : Bool) (l m : List A) → length l ≤ 1 → length m ≤ 1 → length (cond b l m) ≤ 1
 cond-few true l m p q = p
 cond-few false l m p q = q
-
-form-words : (f : Form) → 1 ≤ length (form_words f)
-unfolding form_words
-form-words (Leaf k) = omega arith
-form-words (Var v) = omega arith
-form-words (Unresolved x) = omega arith
-form-words (Prop x) = omega arith
-form-words (Two k) = omega arith
-form-words (Slice b) = omega arith
-form-words (Many k n) = omega arith
-form-words (BinOp o) = omega arith
-form-words (UnaryOp o) = omega arith
-form-words (Case b n) = omega arith
-form-words IsNull = omega arith
-form-words PatternPredicate = omega arith
-form-words (ListComprehension g) = omega arith
-form-words (PatternComprehension a b g) = omega arith
-form-words (ListPredicate g) = omega arith
-form-words (MapProjection n) = omega arith
 
 type-few : (c : Setting) (t : ℕ) → length (at_type c t) ≤ 1
 unfolding at_type
@@ -162,7 +142,7 @@ module _ (v w : World) where
     pub few-E : (t : Expr) (d : Setting) (s : State) → said (resolve v t s) + length (kinds_e w t d) ≤ length (write_e t) + said s
     few-E (var u) d s = omega (arith, var-few v u (v.row u) s, row-few d (w.row u))
     few-E (unresolved x) d s = omega (arith, visit-few v (v.hushed x) x (lookup (indexed x) s.visible) s)
-    few-E (node f es) d s = simp length-append (omega (arith, form-words f, type-few d (type_of f), few-Es es (settings w.is_id f d) s))
+    few-E (node f es) d s = simp length-append (omega (arith, form-word f, type-few d (type_of f), few-Es es (settings w.is_id f d) s))
     few-E (predicate p) d s = simp length-append (omega (arith, type-few d pattern_type, nothing_said, few-S p nowhere))
     few-E (comprehension a b p es) d s =
         simp length-append (omega (arith, enter-few comprehension_scope a b s, few-S p (enter comprehension_scope a b s), few-Es es plain (bind_pattern v p (enter comprehension_scope a b s))))

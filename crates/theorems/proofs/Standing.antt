@@ -5,6 +5,7 @@ use mathlib.Core.Path.{◌≡◌, refl, sym, ◌∙◌, ap, subst}
 use mathlib.Core.Bool.{Bool}
 use mathlib.Core.List.{List, [], ◌∷◌, ◌++◌, map, reverse, reverse_aux, reverse-cons, append-nil, append_assoc}
 use native.Mathlib.Omega.{arith}
+use Rattle.expr.proofs.Inverse.{never}
 use Rattle.sheet.specs.Statement.{Statement}
 use Rattle.semantics.specs.Log.{Event, find}
 use Rattle.semantics.specs.World.{world_of}
@@ -13,7 +14,7 @@ use Rattle.theorems.specs.Uses.{Use, by_name, e1001, record_of, uses}
 use Rattle.theorems.specs.Agree
 use Rattle.theorems.proofs.Shows.{named, count}
 use Rattle.theorems.proofs.Walked.{W, all, use_says, Stood, of_name, Walked, none', says, meets, walked}
-use Rattle.theorems.proofs.Uses.{never, onto, answered}
+use Rattle.theorems.proofs.Uses.{onto, answered}
 
 module _ (warns : Bool) (st : Statement) where
   -- The log l goes on to m.

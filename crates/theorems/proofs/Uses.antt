@@ -9,7 +9,6 @@ use mathlib.Core.Logic.{◌↔◌, ◌⊎◌, inl, inr}
 use mathlib.Core.Bool.{Bool, true, false, cond, not, ◌&&◌}
 use mathlib.Core.List.Memᴰ
 use mathlib.Core.List.{List, [], ◌∷◌, ◌++◌, map, flat_map, reverse, reverse_aux, reverse-cons, append-nil, append_assoc, Memᴰ}
-use native.Mathlib.Omega.{arith}
 use lib.Dec.{T}
 use borrow.Author.Tests.{eqb-true, eq-eqb}
 use Rattle.scope.specs.Graph.{Scope, Name, indexed, same_name}
@@ -17,10 +16,11 @@ use Rattle.scope.specs.Lookup.{at}
 use Rattle.words.specs.Fnv.{use_id}
 use Rattle.heads.specs.Answer.{is_in}
 use Rattle.expr.specs.Tree.{unresolved}
+use Rattle.expr.proofs.Inverse.{never}
 use Rattle.tables.specs.Row.{Row, row}
 use Rattle.sheet.specs.Statement.{Statement}
 use Rattle.semantics.specs.Log
-use Rattle.semantics.specs.Log.{Finding, finding, found, missing, Write, write, Event, answer, find, answer_of, find_of, scopes_in, answers_in, finds_in}
+use Rattle.semantics.specs.Log.{Finding, missing, Write, write, Event, answer, find, answer_of, find_of, answers_in, finds_in}
 use Rattle.semantics.specs.World.{World, hush, kind_of, star_name, bytes_of, world_of}
 use Rattle.semantics.specs.Resolve.{Hit, hit, variable_of, Seen, seen, State, lookup, say, say_if, use_name, visit, resolve, log}
 use Rattle.semantics.specs.Kinds.{kinds}
@@ -31,9 +31,6 @@ use Rattle.theorems.proofs.Names.{same→eq, eq→same}
 use Rattle.theorems.proofs.Views.{pick-append}
 use Rattle.theorems.proofs.Codes.{kinds-no-1001}
 use Rattle.theorems.proofs.Walked.{its-finding, use_says, Aside, other_scope, inner_scope, binding, carrying, repeating, Walked, none', says, meets, walked}
-
-pub never : {A : Type 0} → ◌≡◌ {A = ℕ} 0 1 → A
-never e = absurd (omega arith)
 
 -- The visible list: what the lookup finds none for, it lacks.
 unfoldable is_none : Option Hit → Bool

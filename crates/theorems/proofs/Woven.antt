@@ -1,8 +1,8 @@
--- A log without what its WITHs carry and bind, and the bindings that it makes with the carried list (specs/Woven). `written-append`,
--- `written-reverse`: in two pieces, and read in either direction; `scopes-written`, `answers-written`, `finds-written`: three views of a log
--- don't see what its WITHs carry and bind. `Weaves kind s`: whatever is written and carried later, the log of s gives its bindings, if the
--- first carried later stands at a barrier above the last scope. Each step keeps it (`resolves-V`, `pattern-V`, `root-V`, `clause-V`,
--- `clauses-V`, `arms-V`), and so `woven-log` of a statement.
+-- A log without what its WITHs carry and bind, and the bindings that it makes with the carried list (specs/Woven). `written-reverse`: the
+-- same read in either direction; `scopes-written`, `answers-written`, `finds-written`: three views of a log don't see what its WITHs carry
+-- and bind. `Weaves kind s`: whatever is written and carried later, the log of s gives its bindings, if the first carried later stands at a
+-- barrier above the last scope. Each step keeps it (`resolves-V`, `pattern-V`, `root-V`, `clause-V`, `clauses-V`, `arms-V`), and so
+-- `woven-log` of a statement.
 use Rattle.std.specs.Prelude.{Option, None, Some}
 use Prim.Native.Nat.{ℕ, suc, ◌<◌}
 use native.Mathlib.Nat.{le_refl}
@@ -22,17 +22,7 @@ use Rattle.semantics.specs.Resolve.{Hit, hit, Seen, Pair, pair, State, lookup, b
 use Rattle.theorems.specs.Woven.{written, adopted, beyond, woven, Woven}
 use Rattle.theorems.proofs.Tests.{ne→eqb, eqb_same}
 
--- What is written of a log in pieces, and of its views.
-pub written-append : (l m : List Event) → written (l ++ m) ≡ written l ++ written m
-unfolding written
-written-append [] m = refl
-written-append (open' s ∷ l) m = ap (◌∷◌ (open' s)) (written-append l m)
-written-append (bind true g b ∷ l) m = written-append l m
-written-append (bind false g b ∷ l) m = ap (◌∷◌ (bind false g b)) (written-append l m)
-written-append (carry c ∷ l) m = written-append l m
-written-append (answer a ∷ l) m = ap (◌∷◌ (answer a)) (written-append l m)
-written-append (find f ∷ l) m = ap (◌∷◌ (find f)) (written-append l m)
-
+-- What is written of a log in either direction, and of its views.
 written-turned : (l m : List Event) → written (reverse_aux l m) ≡ reverse_aux (written l) (written m)
 unfolding written
 written-turned [] m = refl

@@ -137,10 +137,6 @@ module _ (n top c : ℕ) (old m : List ℕ) (i j : ℕ) (w : Tabled n top old) (
   is-older : get_or m x 0 ≢ suc i → place (indexed x) (seens n top old) ≢ suc i
   is-older older e = older (f.coming x (w.named i lt) (omega (arith, e)) ∙ e)
 
--- the next entry's name
-pub named-now : {n top c i j : ℕ} {old m : List ℕ} → Tabled n top old → Halfway n top c old m i j → i < top → name_at n m i < n
-named-now {n} {top} {c} {i} w f lt = rw (f.above (n + i * 4) (omega arith)) (w.named i lt)
-
 -- the turns as the code has them
 pub turn-pass : {n c i j : ℕ} {m : List ℕ} → get_or m (name_at n m i) 0 ≢ i + 1 → Turned n c m m i j j
 turn-pass {n} {c} {i} {j} {m} older = record {

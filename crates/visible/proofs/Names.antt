@@ -1,54 +1,24 @@
--- Laws of what the words say of a name: a 0 where it is not visible (`zero-unseen`, `unseen-zero`), the scope of its newest entry alone
--- where its own scope binds it (`newest-binds`; `descends-above` where a scope is opened), what is looked up by what is told (`looked-up`),
--- and words that hold nothing yet (`empty`).
+-- Laws of what the words say of a name: the scope of its newest entry alone where its own scope binds it (`newest-binds`; `descends-above`
+-- where a scope is opened), what is looked up by what is told (`looked-up`), and words that hold nothing yet (`empty`).
 use Rattle.std.specs.Prelude.{Option, None, Some}
-use Prim.Native.Nat.{ℕ, suc, ◌<◌, ◌≤◌}
+use Prim.Native.Nat.{ℕ, ◌<◌, ◌≤◌}
 use native.Mathlib.Omega.{arith}
 use mathlib.Core.Path.{◌≡◌, refl, sym, ◌∙◌}
-use mathlib.Core.Bool.{Bool, true, false, cond, ◌&&◌, ◌||◌}
+use mathlib.Core.Bool.{Bool, true, false, cond, ◌&&◌, ◌||◌, and-false}
 use mathlib.Core.List.{List, [], ◌∷◌}
 use lib.Dec.{eqb}
 use lib.ListN.{length, get_or}
 use borrow.Author.Tests.{ne_eqb, eqb-false}
-use Rattle.scope.specs.Graph.{Name, indexed, same_name}
+use Rattle.scope.specs.Graph.{Name, same_name}
 use Rattle.semantics.specs.Resolve.{Hit, hit, Seen, seen, lookup, binds}
 use Rattle.visible.specs.Visible.{scope_of, answer, place, seens, Descends, is_of, Tabled}
 use Rattle.visible.specs.declared.Newest.{Newest}
-
--- a name without a place is not visible, and the other way round
-unplaced : (x : Name) (l : List Seen) → place x l ≡ 0 → lookup x l ≡ None
-unfolding place lookup
-unplaced x [] e = refl
-unplaced x (seen y u p ∷ l) e = go (same_name x y) e (unplaced x l)
-  where
-    go : (b : Bool) → cond b (suc (length l)) (place x l) ≡ 0 → (place x l ≡ 0 → lookup x l ≡ None) → cond b (Some u) (lookup x l) ≡ None
-    go true e h = absurd (omega arith)
-    go false e h = h e
-
-unseen-place : (x : Name) (l : List Seen) → lookup x l ≡ None → place x l ≡ 0
-unfolding place lookup
-unseen-place x [] e = refl
-unseen-place x (seen y u p ∷ l) e = go (same_name x y) e (unseen-place x l)
-  where
-    go : (b : Bool) → cond b (Some u) (lookup x l) ≡ None → (lookup x l ≡ None → place x l ≡ 0) → cond b (suc (length l)) (place x l) ≡ 0
-    go true e h = cc e
-    go false e h = h e
-
-pub zero-unseen : {n top x : ℕ} {m : List ℕ} → Tabled n top m → x < n → get_or m x 0 ≡ 0 → lookup (indexed x) (seens n top m) ≡ None
-zero-unseen {n} {top} {x} {m} w h e = unplaced (indexed x) (seens n top m) (sym (w.heads x h) ∙ e)
-
-pub unseen-zero : {n top x : ℕ} {m : List ℕ} → Tabled n top m → x < n → lookup (indexed x) (seens n top m) ≡ None → get_or m x 0 ≡ 0
-unseen-zero {n} {top} {x} {m} w h e = w.heads x h ∙ unseen-place (indexed x) (seens n top m) e
 
 -- a list that descends from p descends from any higher c, as from a scope that is opened
 pub descends-above : (c p : ℕ) (l : List Seen) → p ≤ c → Descends p l → Descends c l
 unfolding Descends
 descends-above c p [] h f = tt
 descends-above c p (seen y u q ∷ l) h f = (omega arith, f.1)
-
-and-false : (b : Bool) → b && false ≡ false
-and-false true = refl
-and-false false = refl
 
 -- where no scope is above p, none is a higher c
 unbound : (c p : ℕ) (x : Name) (l : List Seen) → p < c → Descends p l → binds c x l ≡ false

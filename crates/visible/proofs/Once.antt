@@ -1,32 +1,17 @@
--- Laws of `once`: it tells no more names than there are entries (`length-once`), and of the stack it takes the entries that the heads
--- point at (`once-newest`, `place-name`).
+-- Laws of `once`: of the stack it takes the entries that the heads point at (`once-newest`, `place-name`).
 use Prim.Native.Nat.{ℕ, zero, suc, ◌+◌, ◌*◌, ◌≤◌}
 use native.Mathlib.Omega.{arith}
 use mathlib.Core.Path.{◌≡◌, refl, sym}
 use mathlib.Core.Logic.{◌≢◌}
 use mathlib.Core.Bool.{Bool, true, false, cond}
-use mathlib.Core.List.{List, [], ◌∷◌}
+use mathlib.Core.List.{List, ◌∷◌}
 use lib.Dec.{eqb}
 use lib.ListN.{length, get_or}
 use borrow.Author.Tests.{ne_eqb, eq-eqb, eqb-true, eqb-false}
-use Rattle.scope.specs.Graph.{Name, indexed, same_name}
-use Rattle.semantics.specs.Resolve.{Seen, seen, variable_of, Pair, pair, without, once}
+use Rattle.scope.specs.Graph.{indexed, same_name}
+use Rattle.semantics.specs.Resolve.{variable_of, Pair, pair, without, once}
 use Rattle.visible.specs.Visible.{place, name_at, seens, newest}
 use Rattle.visible.proofs.Places.{length-seens}
-
-length_without : (x : Name) (ps : List Pair) → length (without x ps) ≤ length ps
-unfolding without
-length_without x [] = omega arith
-length_without x (pair y v ∷ ps) = go (same_name x y) (length_without x ps)
-  where
-    go : (b : Bool) → length (without x ps) ≤ length ps → length (cond b (without x ps) (pair y v ∷ without x ps)) ≤ suc (length ps)
-    go true h = omega arith
-    go false h = omega arith
-
-pub length-once : (l : List Seen) → length (once l) ≤ length l
-unfolding once
-length-once [] = omega arith
-length-once (seen x h p ∷ l) = omega (arith, length_without x (once l), length-once l)
 
 -- the entry that a head points at is of that name
 pub place-name : (y n t i : ℕ) (m : List ℕ) → place (indexed y) (seens n t m) ≡ suc i → name_at n m i ≡ y

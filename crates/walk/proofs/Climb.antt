@@ -24,12 +24,12 @@ use Rattle.semantics.specs.Kinds as kinds
 use Rattle.fused.specs.Fused.{Both, Go, row_go, expr_go}
 use Rattle.steps.specs.Modes.{mode_of, setting_of, pair_of}
 use Rattle.steps.specs.Memory.{words_in, names_in, world_at}
-use Rattle.steps.specs.Hold.{Still, Steps, Ready, cost_of, idle, level_of}
-use Rattle.steps.specs.declared.Level.{Level}
+use Rattle.steps.specs.Hold.{Still, Steps, Ready, Level, cost_of, level_of}
 use Rattle.steps.specs.declared.Walk.{Walk}
 use Rattle.steps.specs.declared.context.Context.{Context}
 use Rattle.steps.specs.declared.mode.Mode.{Mode}
 use Rattle.steps.specs.declared.mode.Setting.{Setting}
+use Rattle.steps.specs.declared.mode.Setting.TheVariants.{General}
 use Rattle.steps.specs.declared.mode.Settings.{Settings}
 use Rattle.steps.proofs.Named.{unmoved-idle, grows-idle}
 use Rattle.steps.proofs.Held.{refit, seen-idle, log-idle, still-then, framed}
@@ -235,7 +235,13 @@ module _ {c : Context} {w₀ : Walk} {room : ℕ} {mode : Mode} {n : ℕ} {first
 
 -- ---- a level is written
 abbrev pub leveled : Walk → ℕ → Level → Walk
-leveled w d x = record w { levels = set w.levels d x }
+leveled w d x = record w { left = set w.left d x.left; later = set w.later d x.later }
+
+level-here : (w : Walk) (d : ℕ) (x : Level) → d < length w.left → d < length w.later → level_of (leveled w d x) d ≡ x
+level-here w d x l k = rw (get_or-set_same w.left d x.left 0 l, get_or-set_same w.later d x.later General k)
+
+level-above : (w : Walk) (d : ℕ) (x : Level) (i : ℕ) → d < i → level_of (leveled w d x) i ≡ level_of w i
+level-above w d x i h = rw (get_or-set_other w.left d i x.left 0 (λ q. omega arith), get_or-set_other w.later d i x.later General (λ q. omega arith))
 
 leveled-still : {w : Walk} (d : ℕ) (x : Level) → Still w (leveled w d x)
 leveled-still d x = record { visible = seen-idle; rowless = unmoved-idle; log = log-idle }
@@ -246,7 +252,7 @@ written {w = w} d x b o =
       from = o.from;
       still = still-then o.still (leveled-still d x);
       fit = λ k y. let f = o.fit k y in refit f (leveled-still d x) refl f.below f.sound f.descends f.cur f.last f.count f.stack f.rowless f.olds f.needs f.within;
-      keeps = record { kept = framed o.still o.keeps.kept (record { top = omega arith; last = omega arith; below = refl; grows = grows-idle; levels = λ i h. get_or-set_other w.levels d i x idle (λ q. omega arith) }) };
+      keeps = record { kept = framed o.still o.keeps.kept (record { top = omega arith; last = omega arith; below = refl; grows = grows-idle; levels = λ i h. level-above w d x i (omega arith) }) };
       on = λ id s h. let n = o.on id s h in let k = n.holds in
           record {
             state = n.state;
@@ -260,21 +266,20 @@ module _ {c : Context} {w₀ : Walk} {room : ℕ} {mode : Mode} {n : ℕ} {first
   unfolding row_go
   row-leaf e z = record { le = o.le; low = o.low; count = omega (arith, o.count); stage = recast _ o.stage (λ id s t r. rw (← e, z)) }
 
-  pub row-down : {k : ℕ} {p : Settings} → k ≡ parts_of t a → ((id : ℕ → ℕ) → pair_of p ≡ settings (world_at c id).is_id (headed code a) (setting_of now)) → d < length w.levels → Rowing c w₀ room mode n first (leveled w d (record { left = left - 1; later = later })) k p.first p.later (d - 1)
-  row-down {k} {p} e q l =
+  pub row-down : {k : ℕ} {p : Settings} → k ≡ parts_of t a → ((id : ℕ → ℕ) → pair_of p ≡ settings (world_at c id).is_id (headed code a) (setting_of now)) → d < length w.left → d < length w.later → Rowing c w₀ room mode n first (leveled w d (record { left = left - 1; later = later })) k p.first p.later (d - 1)
+  row-down {k} {p} e q l y =
       let b = o.le in
       let g = o.deep in
       let x : Level = record { left = left - 1; later = later } in
       let z : room - (d - 1) ≡ suc (room - d) = omega arith in
-      let mine : level_of (leveled w d x) d ≡ x = get_or-set_same w.levels d x idle l in
-      let other : (j : ℕ) → d < j → level_of (leveled w d x) j ≡ level_of w j = λ j h. get_or-set_other w.levels d j x idle (λ q. omega arith) in
+      let mine : level_of (leveled w d x) d ≡ x = level-here w d x l y in
       record {
         le = omega arith;
         low = o.low;
         count = omega (arith, e, o.few);
         stage = recast _ (written d x b o.stage)
             (λ id s t r. rw (← e, ← (q id)) (bind-each (row_go (within c mode id (d - 1)) k (pair_of p) t r) _ _
-            (λ y r2. climb-more (within c mode id) (level_of w) (level_of (leveled w d x)) d (room - d) (room - (d - 1)) x y r2 z g mine (λ j h. sym (other j h)))));
+            (λ u r2. climb-more (within c mode id) (level_of w) (level_of (leveled w d x)) d (room - d) (room - (d - 1)) x u r2 z g mine (λ j h. sym (level-above w d x j h)))));
       }
 
 -- ---- any number of expressions, one after the other: k were walked

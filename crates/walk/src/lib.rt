@@ -1,8 +1,8 @@
 // Expressions and patterns, read and walked in one over any words: the refusal, or where both walks stand then. The expression walk and the
 // pattern walk call each other, an expression for the pattern within it and a pattern for its properties, and the words that are left fall.
 // A row of expressions is a loop: the parts of a plain head are counted with the row, on a stack of what is left at each level.
-// `room` is at most the limit, since the stack has a place for each room up to it. It is a number, and functions have up to six parameters: a type for it, or a struct of what
-// goes with each call, would be built and opened at each call.
+// `room` is at most the limit, since the stack has a place for each room up to it. It is a number, and functions have up to six parameters: a type
+// for it, or a struct of what goes with each call, would be built and opened at each call.
 #![tactic(auto)]
 
 mod plain;
@@ -19,7 +19,7 @@ ghost use Rattle.semantics.specs.Kinds.{plain};
 use heads::{Form, MarkKind};
 use plain::{MOST, act, pair, parts_of, plain_at, shows};
 use refusal::Refusal;
-use steps::{Context, Level, Mode, Setting, Settings, Walk};
+use steps::{Context, Mode, Setting, Settings, Walk};
 use words::word;
 
 // An expression, with room for this many levels, in a setting.
@@ -86,7 +86,7 @@ fn walk_inner(
 }
 
 // n expressions, at most MOST, the first in one setting and the others in another. What is left at a level, and the setting there, wait in the
-// walk's levels while the parts of a plain head are walked.
+// walk while the parts of a plain head are walked.
 #[cycle(walks)]
 pub fn walk_row(
     walk: &mut Walk,
@@ -112,9 +112,8 @@ pub fn walk_row(
                 return Ok(());
             }
             d += 1;
-            // Each field by itself, as it was stored: one read of both would wait for the stores.
-            left = walk.levels[d as usize].left as usize;
-            later = walk.levels[d as usize].later;
+            left = walk.left[d as usize] as usize;
+            later = walk.later[d as usize];
             set = later;
         } else {
             let t = plain_at(bytes, names, walk.at, d);
@@ -135,10 +134,8 @@ pub fn walk_row(
                     set = later;
                 } else {
                     let p = pair(t, code, a, set, context.ident);
-                    walk.levels[d as usize] = Level {
-                        left: (left - 1) as u32,
-                        later,
-                    };
+                    walk.left[d as usize] = (left - 1) as u32;
+                    walk.later[d as usize] = later;
                     d -= 1;
                     left = k;
                     set = p.first;

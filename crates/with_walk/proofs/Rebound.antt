@@ -6,7 +6,7 @@ use Rattle.std.specs.Prelude.{Some}
 use Prim.Native.Nat.{ℕ, zero, suc, ◌+◌, ◌-◌, ◌*◌, ◌<◌, ◌≤◌}
 use native.Mathlib.Omega.{arith}
 use mathlib.Core.Path.{◌≡◌, refl, ap, sym, ◌∙◌}
-use mathlib.Core.Bool.{Bool, true, false, cond, ◌&&◌, ◌||◌}
+use mathlib.Core.Bool.{Bool, true, false, cond, ◌&&◌}
 use mathlib.Core.List.{List, [], ◌∷◌, ◌++◌, reverse, reverse_aux}
 use lib.Dec.{eqb}
 use lib.ListN.{length, length-append}
@@ -16,6 +16,7 @@ use Rattle.semantics.specs.World.{World, kind_of}
 use Rattle.semantics.specs.Resolve.{hit, Seen, seen, binds, State, Pair, pair, without, once, say, enter, standing, bind_over, bind_all, carry_all, barrier}
 use Rattle.theorems.specs.Needs.{made, carried_in}
 use Rattle.theorems.specs.Woven.{written}
+use Rattle.theorems.proofs.Alike.{none_first}
 use Rattle.fused.specs.Fused.{Both}
 use Rattle.fused.specs.Clauses.{all_of}
 use Rattle.rowless.specs.Rowless.{places, Sound as Numbered}
@@ -29,18 +30,15 @@ use Rattle.steps.specs.Said.{kept}
 use Rattle.steps.specs.Hold.{Binding, Fits, Fit, Holds, Still, Steps, Ready, Left, on_names}
 use Rattle.steps.specs.declared.Walk.{Walk}
 use Rattle.steps.specs.declared.context.Context.{Context}
-use Rattle.steps.proofs.Named.{unmoved-idle, named-grows, below-less}
+use Rattle.steps.proofs.Named.{unmoved-idle, named-grows}
 use Rattle.steps.proofs.Held.{seen-idle, log-idle, still-then, seens-lower, lower, refit, then-steps}
 use Rattle.projection_walk.specs.Pairs.{pairs_in, pairs_of, InNames, kept_of}
 use Rattle.projection_walk.specs.declared.pairs.Pairs.{Pairs}
 use Rattle.with_walk.specs.Binds.{rooted_on, under_star, first_seen, firsts, seen_by, Sees, SeesAll, SeesIn, Spreads, Countable, BindsIn, Rebinds}
-use Rattle.clause_parts.proofs.Cleared.{below-descends, cut_still, cut_fits, cut_holds, cut_at}
+use Rattle.clause_parts.proofs.Cleared.{below-descends, below-lower, cut_still, cut_fits, cut_holds, cut_at}
 use Rattle.with_walk.proofs.Named.{above, length-named, spread-named, spread-below, firsts-named}
 use Rattle.with_walk.proofs.Seeing.{seen_as_lem, seen-still, seen-fits, seen-holds}
-
-or_parts : (a b : Bool) → (a || b) ≡ false → (a ≡ false) × (b ≡ false)
-or_parts true b e = (e, cc e)
-or_parts false b e = (refl, e)
+use Rattle.visible.proofs.Places.{length-seens}
 
 -- ---- what is carried and bound is not written
 -- t is s after pairs, of which c were carried and b are new bindings
@@ -157,7 +155,7 @@ gone c x (pair y v ∷ ps) = go (same_name x y) refl (gone c x ps)
 still-gone : (c : ℕ) (x y : Name) (ps : List Pair) → binds c x (seen_once c ps) ≡ false → binds c x (seen_once c (without y ps)) ≡ false
 unfolding without seen_once binds
 still-gone c x y [] e = refl
-still-gone c x y (pair z v ∷ ps) e = let q = or_parts (same_name x z && eqb c c) (binds c x (seen_once c ps)) e in go (same_name y z) q.0 (still-gone c x y ps q.1)
+still-gone c x y (pair z v ∷ ps) e = let q = none_first (same_name x z && eqb c c) (binds c x (seen_once c ps)) e in go (same_name y z) q.0 (still-gone c x y ps q.1)
   where
     go : (b : Bool) → (same_name x z && eqb c c) ≡ false → binds c x (seen_once c (without y ps)) ≡ false → binds c x (seen_once c (cond b (without y ps) (pair z v ∷ without y ps))) ≡ false
     go true q i = i
@@ -256,11 +254,6 @@ module _ {w : Walk} (b k : ℕ) where
       }
 
 -- ---- names before, of which a star may carry some
-length-seens : (n t : ℕ) (m : List ℕ) → length (seens n t m) ≡ t
-unfolding seens
-length-seens n zero m = refl
-length-seens n (suc t) m = ap suc (length-seens n t m)
-
 length-once : (c : ℕ) (ps : List Pair) → length (seen_once c ps) ≡ length ps
 unfolding seen_once
 length-once c [] = refl
@@ -338,9 +331,7 @@ module _ (p : Pairs) {c : Context} {w w1 : Walk} {a b : ℕ} (ready : Ready (2 +
 
       -- the first ones are those before, whose places are in use
       first-below : Below (places w.rowless) (seens w.visible.names top w.visible.words.now)
-      first-below =
-          let z : w.visible.top ≡ w.visible.top - top + top = omega (arith, given.low) in
-          below-less (places w.rowless) w.visible.names (w.visible.top - top) top w.visible.words.now (rw z at ready.fit.below)
+      first-below = below-lower (places w.rowless) w.visible.names top w.visible.top w.visible.words.now given.low ready.fit.below
 
       first-same : first_seen top w2 ≡ first_seen top w
       first-same =

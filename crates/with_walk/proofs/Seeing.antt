@@ -15,7 +15,7 @@ use borrow.Author.Tests.{ne_eqb}
 use Rattle.scope.specs.Graph.{root_scope, with_barrier, Name, indexed, same_name}
 use Rattle.semantics.specs.Log.{bound, bind}
 use Rattle.semantics.specs.World.{World, kind_of}
-use Rattle.semantics.specs.Resolve.{hit, Seen, seen, binds, State, Pair, pair, say, enter, standing, bind_all, carry_all, barrier, fresh}
+use Rattle.semantics.specs.Resolve.{hit, Seen, seen, binds, State, Pair, pair, say, enter, standing, bind_all, barrier, fresh}
 use Rattle.fused.specs.Fused.{Both, Mode, left}
 use Rattle.fused.specs.Clauses.{beside}
 use Rattle.rowless.specs.Rowless.{places}
@@ -23,12 +23,14 @@ use Rattle.visible.specs.Visible.{Descends}
 use Rattle.visible.specs.Stack.{entries, Sound, Bound}
 use Rattle.visible.specs.Stack as stack
 use Rattle.visible.specs.declared.Visible.{Visible}
+use Rattle.fused.proofs.StarKeys.{carry-last}
 use Rattle.steps.specs.Named.{as_named, Below}
 use Rattle.steps.specs.Hold.{Binding, Fits, Holds, Still, on_names}
 use Rattle.steps.specs.declared.Walk.{Walk}
 use Rattle.steps.specs.declared.context.Context.{Context}
 use Rattle.steps.proofs.Named.{unmoved-idle}
-use Rattle.steps.proofs.Held.{seen-idle, log-idle, recounted, refit}
+use Rattle.steps.proofs.Held.{seen-idle, log-idle, refit}
+use Rattle.clause_parts.proofs.Cleared.{standing-holds}
 use Rattle.projection_walk.specs.Pairs.{pairs_in}
 use Rattle.projection_walk.specs.declared.pairs.Pairs.{Pairs}
 use Rattle.with_walk.specs.Binds.{rooted_on, seen_by, firsts, SeesAll, SeesFirst}
@@ -43,17 +45,7 @@ module _ {w : Walk} {v : Visible} (y : stack.Still w.visible v) where
   seen-fits f b a d s = refit f seen-still refl b a d f.cur f.last f.count s f.rowless f.olds f.needs f.within
 
 pub seen-holds : {id : ℕ → ℕ} {c : Context} {w : Walk} {v : Visible} {l : List Seen} {s : Both} → as_named w.rowless (entries v) ≡ l → Holds id c w s → Holds id c (record w { visible = v }) (on_names (standing l w.cur) s)
-seen-holds e h =
-    record {
-      visible = e;
-      cur = refl;
-      last = h.last;
-      log = h.log;
-      kinds = h.kinds;
-      olds = h.olds;
-      counts = recounted refl refl h.counts;
-      uses = h.uses;
-    }
+seen-holds {w = w} e h = standing-holds {cur = w.cur} e h
 
 -- ---- pairs seen in the scope c, above a list
 above-one : (c : ℕ) (ps : List Pair) (x : Name) (v : ℕ) (l : List Seen) → above c (ps ++ (pair x v ∷ [])) l ≡ seen x (hit v 1) c ∷ above c ps l
@@ -182,11 +174,6 @@ bind-cur : (w : World) (ps : List Pair) (s : State) → (bind_all w ps s).cur �
 unfolding bind_all
 bind-cur w [] s = refl
 bind-cur w (pair x v ∷ ps) s = bind-cur w ps _
-
-carry-last : (w : World) (ps : List Pair) (s : State) → (carry_all w ps s).last ≡ s.last
-unfolding carry_all
-carry-last w [] s = refl
-carry-last w (pair x v ∷ ps) s = carry-last w ps _
 
 pub barrier-last : (w : World) (a b : ℕ) (ps : List Pair) (s : State) → (barrier w a b ps s).last ≡ suc s.last
 unfolding barrier

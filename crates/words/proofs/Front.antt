@@ -1,8 +1,8 @@
--- A text that fits is written whole and answered by its length; one that doesn't leaves everything as it was.
-use Prim.Native.Nat.{ℕ, ◌<◌, ◌≤◌}
+-- A text that fits is written whole and answered by its length.
+use Prim.Native.Nat.{ℕ, ◌≤◌}
 use mathlib.Core.Path.{◌≡◌, refl}
 use mathlib.Core.List.{List, ◌++◌}
-use borrow.Author.Tests.{le-leb, lt-leb}
+use borrow.Author.Tests.{le-leb}
 use lib.ListN.{length, drop}
 use Rattle.words.specs.Front.{put_front, put_length}
 
@@ -10,7 +10,3 @@ module _ (text page : List ℕ) (k : ℕ) (long : length text ≡ k) where
   pub put-fits : k ≤ length page → (k ≡ put_length text page) × (text ++ drop k page ≡ put_front text page)
   unfolding put_front put_length
   put-fits h = rw (long, le-leb k (length page) h) (refl, refl)
-
-  pub put-none : length page < k → (0 ≡ put_length text page) × (page ≡ put_front text page)
-  unfolding put_front put_length
-  put-none h = rw (long, lt-leb k (length page) h) (refl, refl)

@@ -12,7 +12,7 @@ ghost use Rattle.words.specs.Words.{words, le32};
 
 pub use decimal::{decimal_width, put_decimal};
 pub use fnv::{fnv1, use_id};
-pub use utf8::is_utf8;
+pub use utf8::{is_utf8, name_id};
 
 // The little-endian word of four bytes.
 pub fn join(a: u8, b: u8, c: u8, d: u8) -> u32

@@ -1,7 +1,10 @@
 // Strict UTF-8, a byte at a time: the definition is the Unicode table, and the library's reading has a definition of its own.
-ghost use Rattle.std.specs.Prelude.{◌≡◌, []};
+ghost use Rattle.std.specs.Prelude.{◌≡◌, [], Some, None, cond};
 ghost use Rattle.std.proofs.Math.Option.{some};
+ghost use Rattle.words.specs.Fnv.{use_id};
 ghost use Rattle.words.specs.Utf8.{is_utf8, ranges, step, to, waiting};
+
+use crate::fnv::{OFFSET_BASIS, fnv_step, id_of};
 
 // What is still to come of a sequence: `left` bytes, of which the next lies in lo to hi and any other in 0x80 to 0xBF.
 #[derive(Drop)]
@@ -51,24 +54,34 @@ fn next(p: Pending, b: u8) -> Option<Pending>
     to_come(left - 1, 0x80, 0xBF)
 }
 
-// Whether s is well-formed UTF-8.
-pub fn is_utf8(s: &[u8]) -> bool
-    ensures { result ≡ is_utf8 s.now }
+// The use id of a name, where its bytes are well-formed UTF-8. Both in one loop: names are short, and the end of a loop over each is
+// mispredicted.
+pub fn name_id(s: &[u8]) -> Option<u32>
+    ensures { result ≡ cond (is_utf8 s.now) (Some (use_id s.now)) None }
 {
     let mut p = Pending {
         left: 0,
         lo: 0x80,
         hi: 0xBF,
     };
+    let mut hash = OFFSET_BASIS;
     for b in s {
+        hash = fnv_step(hash, *b);
         // Most bytes stand alone: after one, as before it, nothing is to come.
         if *b < 0x80 && p.left == 0 {
             continue;
         }
         let Some(q) = next(p, *b) else {
-            return false;
+            return None;
         };
         p = q;
     }
-    p.left == 0
+    if p.left == 0 { Some(id_of(hash)) } else { None }
+}
+
+// Whether s is well-formed UTF-8.
+pub fn is_utf8(s: &[u8]) -> bool
+    ensures { result ≡ is_utf8 s.now }
+{
+    name_id(s).is_some()
 }

@@ -8,7 +8,7 @@ pub fill-requires-4 : goal.fill-requires-4
 fill-requires-4 c =
     let h = c.in_ok-index.ensures.heard in
     let fit = same-fits c.args.warns c.args.s.now (lent c.args.lists.now) c.args.room c.requires.read h.read c.requires.fits in
-    fill-asks h _ _ fit (h.carries (carried-fits h _ _ fit)) (omega (arith, c.listen.ensures.sized.pairs, c.requires.pairs, h.trailed))
+    fill-asks h _ _ fit (h.carries (carried-fits h _ _ fit)) (omega (arith, c.listen.ensures.sized.pairs, c.requires.pairs))
 
 pub returns-clause-answers : goal.returns-clause-answers
 returns-clause-answers c =

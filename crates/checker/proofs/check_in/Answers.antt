@@ -35,7 +35,7 @@ fill-requires c =
     let h = c.in_ok-index.ensures.heard in
     let fit = tested h (lent c.args.lists.now) c.args.room c.count.ensures c.fit.ensures ∙ c.if-not-fit.false in
     let held = copied h (omega (arith, c.if-kept-n.false, c.listen.ensures.kept)) (carried-fits h _ _ fit) c.copy.ensures in
-    fill-asks h _ _ fit held (omega (arith, c.listen.ensures.sized.pairs, c.requires.pairs, h.trailed))
+    fill-asks h _ _ fit held (omega (arith, c.listen.ensures.sized.pairs, c.requires.pairs))
 
 pub returns-clause-answers : goal.returns-clause-answers
 returns-clause-answers c =

@@ -1,4 +1,4 @@
--- The six words that are copied are the record's.
+-- The seven words that are copied are the record's.
 use Rattle.std.proofs.Common.{◌∙◌, arith}
 use Rattle.finding.proofs.Storing.{copied-sets}
 use Rattle.finding.proofs.words_at.Goals as goal

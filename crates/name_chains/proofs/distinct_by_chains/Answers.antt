@@ -1,8 +1,7 @@
 -- The slots are cleared, so that no name hangs in them yet.
-use Rattle.std.proofs.Common.{arith}
 use Rattle.name_chains.proofs.Laws.{none-hung}
 use Rattle.name_chains.proofs.distinct_by_chains.Goals as goal
 
 pub distinct-requires-clause-empty : goal.distinct-requires-clause-empty
 distinct-requires-clause-empty c =
-    none-hung _ _ _ (omega arith) (omega arith) c.clear.ensures
+    none-hung _ _ _ c.empty.ensures

@@ -1,10 +1,11 @@
 -- The alias is read, and then the expression.
 use native.Mathlib.Omega.{arith}
 use Rattle.clauses.specs.Read.{alias_of}
+use Rattle.clauses.proofs.ReadsBackClause.{alias-same}
 use Rattle.steps.specs.Modes.{mode_of}
 use Rattle.steps.specs.Memory.{names_in, world_at}
 use Rattle.walk.specs.Goes.{rest_in}
-use Rattle.clause_parts.proofs.Passing.{in_range, alias-read}
+use Rattle.clause_parts.proofs.Passing.{in_range}
 use Rattle.projection_walk.specs.Carries.{carried_at, projections_at}
 use Rattle.projection_walk.proofs.Chained.{as-passes, word-passes, word-refused, word-ready, word-holding}
 use Rattle.projection_walk.proofs.Projected.{first-as, alias-within}
@@ -28,4 +29,4 @@ returns c =
     let x = a.context.now in
     let m = mode_of a.mode in
     as-passes (projections_at x m 1) _ (λ id q s. first-as (world_at x id) (names_in x) m q s (rest_in x a.walk.now))
-    (word-passes c.in_ok-alias.ensures {i = 1} (omega arith) (λ n. carried_at x m (alias_of n)) _ (rw (alias-read c.in_ok-alias.alias) c.walk_carried.ensures))
+    (word-passes c.in_ok-alias.ensures {i = 1} (omega arith) (λ n. carried_at x m (alias_of n)) _ (rw (alias-same c.in_ok-alias.alias) c.walk_carried.ensures))

@@ -6,6 +6,7 @@ use native.Mathlib.Omega.{arith}
 use Rattle.heads.proofs.Chain.{step, last}
 use Rattle.heads.specs.Got.{word_in}
 use Rattle.clauses.specs.Read.{max_depth}
+use Rattle.clauses.proofs.ReadsBackClause.{alias-same}
 use Rattle.fused.specs.Fused.{Mode}
 use Rattle.steps.specs.Modes.{mode_of}
 use Rattle.steps.specs.Hold.{Ready}
@@ -13,7 +14,7 @@ use Rattle.steps.specs.declared.Walk.{Walk}
 use Rattle.steps.specs.declared.context.Context.{Context}
 use Rattle.walk.proofs.Stage.{Stage, tail, start, ready}
 use Rattle.clause_parts.specs.Passes.{Next}
-use Rattle.clause_parts.proofs.Passing.{past, alias-read}
+use Rattle.clause_parts.proofs.Passing.{past}
 use Rattle.return_walk.specs.Returns.{keyed_at, sorted_at}
 use Rattle.return_walk.proofs.Sorted.{none_held, ended, no-alias, expr-ready, fell-expr, turned}
 use Rattle.return_walk.proofs.walk_sorted.Goals as goal
@@ -44,7 +45,7 @@ returns-in_err-walk_expr-clause-walked c =
 pub loop-preserved : goal.loop-preserved
 loop-preserved c = record {
   lent = c.hold.ensures.lent ∙ c.loop.invariant.lent;
-  sorting = turned c.loop.invariant.sorting (omega arith) c.in_ok-alias.ensures (rw (alias-read c.in_ok-alias.alias) c.hold.ensures.held) c.in_ok-walk_expr.ensures;
+  sorting = turned c.loop.invariant.sorting (omega arith) c.in_ok-alias.ensures (rw (alias-same c.in_ok-alias.alias) c.hold.ensures.held) c.in_ok-walk_expr.ensures;
 }
 
 pub walk_hushed-requires : goal.walk_hushed-requires

@@ -282,4 +282,4 @@ walk_row-loop-left-preserved t c =
       | walk_row-then-shows w ↦ rw w.walk-is (head-acted l.invariant c.word-code.ensures c.word-a.ensures c.if-left-eq0.false c.if-t-eq0.false c.plain_at-t.ensures w.act.ensures)
       | walk_row-else-shows w ↦ rw w.walk-is (head-calm l.invariant c.word-code.ensures c.word-a.ensures c.if-left-eq0.false c.if-t-eq0.false c.plain_at-t.ensures (sym c.shows.ensures ∙ w.if-shows.false))
     ] in
-    row-down o c.parts_of-k.ensures (λ id. c.pair-p.ensures) (omega (arith, l.invariant.le, l.invariant.low))
+    row-down o c.parts_of-k.ensures (λ id. c.pair-p.ensures) (omega (arith, l.invariant.le, l.invariant.low)) (omega (arith, l.invariant.le, l.invariant.low))

@@ -12,8 +12,8 @@ names_at ws {n} h e w =
     let at : n - 9 ≡ length ws - 10 + 1 = omega arith in
     w ∙ ap (λ (i : ℕ). get_or ws i 0) at
 
-pub slice_bounds-fill_recorded-end : goal.slice_bounds-fill_recorded-end
-slice_bounds-fill_recorded-end c =
+pub slice_bounds-uses-end : goal.slice_bounds-uses-end
+slice_bounds-uses-end c =
     let named = names_at (words c.args.s.now) c.requires.trailed c.count.ensures c.word-names.ensures in
     omega (arith, named, c.requires.named)
 

@@ -2,7 +2,7 @@
 use Rattle.std.proofs.Common.{rules, ap, sym, ◌∙◌}
 use lib.Dec.{eqb}
 use borrow.Author.Tests.{eqb-true}
-use Rattle.rowless.specs.Slot.{slot_of}
+use Rattle.rows.specs.Slot.{slot_of}
 use Rattle.rowless.specs.Rowless.{variable_at, most}
 use Rattle.rowless.proofs.Entries.{finds}
 use Rattle.rowless.proofs.Rowless.find.Goals as goal

@@ -21,13 +21,13 @@ loop-i-init c =
 
 pub add-requires : goal.add-requires
 add-requires c =
-    (c.requires.0.0, room c.loop-i.i c.in-Some.v c.requires.1 c.loop-i.invariant (low _ _ _ c.loop-i-test.true) (text _ _ _ c.loop-i-test.true c.name_at.ensures ∙ c.in-Some.ensures))
+    (c.requires.0.0, room c.loop-i.i c.in-Some.v c.requires.1 c.loop-i.invariant (low _ _ _ c.loop-i-test.true) (text _ _ _ c.loop-i-test.true refl ∙ c.in-Some.ensures))
 
 pub loop-i-preserved : goal.loop-i-preserved
 loop-i-preserved c =
     let below = low c.args.section.now c.args.names.now c.loop-i.i c.loop-i-test.true in
-    let here = text c.args.section.now c.args.names.now c.loop-i.i c.loop-i-test.true c.name_at.ensures in
-    elim c.match-var_id.branch
+    let here = text c.args.section.now c.args.names.now c.loop-i.i c.loop-i-test.true refl in
+    elim c.match-var_at.branch
     [ in-Some w ↦ rw w.self-is (one_more c.loop-i.i w.in-Some.v c.requires.1 c.loop-i.invariant below (here ∙ w.in-Some.ensures) (omega arith) w.add.ensures) | in_default w ↦ rw w.self-is (pass c.requires.1 c.loop-i.invariant below (λ v h e. w.in_default.ensures v h (sym here ∙ e))) ]
 
 pub returns : goal.returns

@@ -3,7 +3,8 @@ use Rattle.std.proofs.Common.{◌≡◌, ℕ, ◌+◌, ◌*◌, ◌<◌, ◌≤�
 use Rattle.std.proofs.lemmas.Bool.{false≢true}
 use Rattle.std.specs.Prelude as code
 use Rattle.std.specs.Prelude.{is_some}
-use Rattle.rows.specs.Rows.{id_at, seek, number_of}
+use Rattle.tables.specs.Index.{number_of}
+use Rattle.rows.specs.Rows.{id_at, seek}
 use Rattle.rows.proofs.Hanging.{added, none-hung}
 use Rattle.rows.proofs.Ids.{fresh, sought, fresh-all, fresh-none, fresh-more}
 use Rattle.rows.proofs.Index.hang_rows.Goals as goal
@@ -26,7 +27,7 @@ pub loop-i-preserved : goal.loop-i-preserved
 loop-i-preserved c =
     let variable = rw (c.run-all.ensures.bytes, c.run-all.ensures.first) at c.variable-variable.ensures in
     let new = rw (← c.is_some.ensures, c.if-is_some.false) at (turn _ _ _ _ _ _ c.requires.0 c.loop-i-test.true variable (rw (c.run-before.ensures.bytes, c.run-before.ensures.first, c.run-before.ensures.count) at c.find.ensures)) in
-    record { hung = rw add-one (added (rw c.slots-slots.ensures.shift at c.count.ensures) (rw (c.slots-slots.ensures.mult, c.slots-slots.ensures.shift) at c.of.ensures.slot) variable c.hang.ensures c.loop-i.invariant.hung); same = c.loop-i.invariant.same ∙ new }
+    record { hung = rw add-one (added c.slot.ensures.slot variable c.hang.ensures c.loop-i.invariant.hung); same = c.loop-i.invariant.same ∙ new }
 
 pub returns : goal.returns
 returns c =

@@ -9,6 +9,6 @@ use Rattle.rows.proofs.Index.hang_rows.Given as goal
 
 abbrev pub invariant-loop-i : goal.invariant-loop-i
 invariant-loop-i l = record {
-  hung : Hung l.self.mult l.self.shift l.i (id_at (words l.bytes) l.self.first) l.chains;
+  hung : Hung l.self.mult l.self.slots l.i (id_at (words l.bytes) l.self.first) l.chains;
   same : distinct is_in (row_ids l.self.count (drop l.self.first (words l.bytes))) ≡ fresh (words l.bytes) l.self.first l.self.count l.i;
 }

@@ -11,9 +11,9 @@ pub returns : goal.returns
 returns c =
     let a = c.args in
     let f = id_at (words a.self.now.bytes.now) a.self.now.first in
-    c.newest_in.ensures (slot_of a.slots.mult a.slots.shift) f a.self.now.count (λ i. eqb (f i) a.variable)
+    c.newest_in.ensures (slot_of a.mult a.m) f a.self.now.count (λ i. eqb (f i) a.variable)
     (record {
-      chained = rw c.count.ensures c.requires.chained;
+      chained = c.requires.chained;
       said = λ i b l s. search rules;
-      inside = λ i q. ap (slot_of a.slots.mult a.slots.shift) (eqb-true _ _ q) ∙ sym c.of.ensures.slot;
+      inside = λ i q. ap (slot_of a.mult a.m) (eqb-true _ _ q) ∙ sym c.slot.ensures.slot;
     })

@@ -14,7 +14,7 @@ hang-requires c =
     let a = c.args in
     let q = c.requires in
     let w = rows-fit a.s.now a.p q.0.0 c.in_ok-read_bindings.ensures in
-    (omega (arith, w, q.0.0.head, q.0.0.tail, q.0.0.trailer, length-words a.s.now), q.1)
+    ((omega (arith, w, q.0.0.head, q.0.0.tail, q.0.0.trailer, length-words a.s.now), omega (arith, w, q.0.0.head, q.0.0.tail, q.0.0.trailer, q.0.0.short)), q.1)
 
 pub returns : goal.returns
 returns c = rw c.ok_or.ensures.value (rows-hung c.requires.0.0 c.in_ok-read_bindings.ensures c.hang.ensures)

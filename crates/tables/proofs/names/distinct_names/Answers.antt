@@ -10,8 +10,8 @@ use borrow.Author.Tests.{tests}
 use Rattle.tables.specs.Distinct.{name_in, fresh_after, distinct}
 use Rattle.tables.specs.Name.{name_at}
 use Rattle.tables.specs.Answer.{names_at}
-use Rattle.tables.proofs.Fresh.{fresh-next, any-in, any_name, new-by-id}
-use Rattle.tables.proofs.names.distinct_names.Goals.{then-contains+else-any, else-contains}
+use Rattle.tables.proofs.Fresh.{fresh-next, any_name, new-by-id}
+use Rattle.tables.proofs.names.distinct_names.Goals.{then-has_id+else-any, else-has_id}
 use Rattle.tables.proofs.names.distinct_names.Goals as goal
 
 pub loop-i-init : goal.loop-i-init
@@ -33,7 +33,7 @@ loop-i-preserved c =
     let a = c.args in
     let x = name_at a.s.now (get_or a.places.now l.i 0) in
     let new : name_in x (names_at a.s.now (take l.i a.places.now)) ≡ false =
-    elim c.if-contains.branch [ then-contains+else-any w ↦ sym (any_name a.s.now x (take l.i a.places.now)) ∙ sym (any_from_yields_List (λ p. bytes_eq x (name_at a.s.now p)) _ _ w.any.result w.any.ensures.ran (YieldsList-from_slice (take l.i a.places.now) cc) (λ p b q k. search (rules, tests))) ∙ w.if-any.false | else-contains w ↦ new-by-id a.s.now a.places.now a.ids.now c.requires l.i (omega arith) (sym (any-in _ _) ∙ sym c.contains.ensures.value ∙ w.if-contains.false) ] in
+    elim c.if-has_id.branch [ then-has_id+else-any w ↦ sym (any_name a.s.now x (take l.i a.places.now)) ∙ sym (any_from_yields_List (λ p. bytes_eq x (name_at a.s.now p)) _ _ w.any.result w.any.ensures.ran (YieldsList-from_slice (take l.i a.places.now) cc) (λ p b q k. search (rules, tests))) ∙ w.if-any.false | else-has_id w ↦ new-by-id a.s.now a.places.now a.ids.now c.requires l.i (omega arith) (sym c.has_id.ensures ∙ w.if-has_id.false) ] in
     l.invariant ∙ fresh-next a.s.now a.places.now l.i (omega arith) ∙ rw new
 
 pub returns : goal.returns

@@ -10,17 +10,17 @@ use Rattle.heads.specs.Answer.{is_in}
 use Rattle.tables.specs.Index.{number_of, index_of}
 use Rattle.tables.specs.Name.{name_at}
 use Rattle.tables.specs.Answer.{names_at}
-use Rattle.tables.proofs.Fresh.{any-in, id-new}
+use Rattle.tables.proofs.Fresh.{id-new}
 use Rattle.tables.proofs.Index.{past-none, first_from, index-none}
 use Rattle.tables.proofs.names.index_of.Goals as goal
 
 counted : (s x places : List ℕ) (r : Option ℕ) → r ≡ position (λ p. bytes_eq x (name_at s p)) places → number_of r ≡ index_of x (names_at s places)
 counted s x places r e = ap number_of (e ∙ position_from-zero _ places) ∙ first_from s x 0 places ∙ sym (past-none (index_of x (names_at s places)))
 
-pub returns-then-not-contains : goal.returns-then-not-contains
-returns-then-not-contains c =
+pub returns-then-not-has_id : goal.returns-then-not-has_id
+returns-then-not-has_id c =
     let a = c.args in
-    let new : is_in c.use_id.result a.ids.now ≡ false = sym (any-in _ _) ∙ sym c.contains.ensures.value ∙ c.if-not-contains.true in
+    let new : is_in c.use_id.result a.ids.now ≡ false = sym c.has_id.ensures ∙ c.if-not-has_id.true in
     index-none a.x.now (names_at a.s.now a.places.now) (id-new _ _ (rw (c.use_id.ensures, c.requires.used) at new))
 
 pub returns-in_err-i : goal.returns-in_err-i

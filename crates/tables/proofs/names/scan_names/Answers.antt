@@ -1,8 +1,7 @@
 -- The loop's invariant is `Scan`: the names read so far are in the tables, and those that are left give the rest.
 -- A name takes at least a word, so the tables have a place for each.
-use Rattle.std.proofs.Common.{◌≡◌, ◌-◌, ◌+◌, ◌∙◌, refl, ap, arith}
+use Rattle.std.proofs.Common.{◌≡◌, ◌-◌, ◌+◌, refl, arith}
 use lib.ListN.{length-set}
-use Rattle.words.specs.Fnv.{use_id}
 use Rattle.tables.proofs.Scan.{begin, room, turn, refused, done}
 use Rattle.tables.proofs.names.scan_names.Goals as goal
 
@@ -29,7 +28,7 @@ loop-i-preserved c =
     let here = room l.invariant.0 (c.in_ok-q.ensures.ends, c.in_ok-q.ensures.ans) in
     let less : c.args.n - l.i - 1 ≡ c.args.n - (l.i + 1) = omega arith in
     simp length-set
-    (rw less at (turn _ l.invariant.0 (c.in_ok-q.ensures.ends, c.in_ok-q.ensures.ans) (omega arith) (omega (arith, here)) (omega (arith, here)) (c.use_id.ensures ∙ ap use_id c.name_at.ensures)), l.invariant.1, l.invariant.2)
+    (rw less at (turn _ l.invariant.0 (c.in_ok-q.ensures.ends, c.in_ok-q.ensures.ans) (omega arith) (omega (arith, here)) (omega (arith, here)) c.in_ok-q.ensures.names), l.invariant.1, l.invariant.2)
 
 pub returns : goal.returns
 returns c =
