@@ -42,8 +42,8 @@ pub const SORTED: [Family; 8] = [
     Family { name: "168 yields, a WITH of a star, 560 keys of the second", make: star_keys },
 ];
 
-/// The same with stars and aliases. The listing refuses the first two with 8 from 4 KB on, and the last from 2 KB on, which has the largest
-/// answers that we know of, at 8 KB 43,307 bindings and 42,966 carried names.
+/// The same with stars and aliases. The listing refuses the first two with 8 from 4 KB on, the last two at 8 KB, and the one with paths from
+/// 2 KB on, which has the largest answers that we know of, at 8 KB 43,307 bindings and 42,966 carried names.
 pub const STARRED: [Family; 9] = [
     Family { name: "203 yields, 127 WITHs of a star", make: stars },
     Family { name: "254 computed aliases, 127 WITHs of a star", make: most_entries },
