@@ -211,20 +211,23 @@ fn check_in(
     Ok(lists.fill(s, index, scratch))
 }
 
-// With scratch for sheets of up to N words: V, F, H and B are the lengths that follow from N, which the language doesn't compute of it. No
-// heap: scratch is arrays. One array, cut as crate listing cuts its own, would need one length, but laws of the zeros in each part, which are
-// those of listing once more.
-fn check_sized<const N: usize, const V: usize, const F: usize, const H: usize, const B: usize>(
-    s: &[u8],
-    warns: bool,
-    lists: &mut Lists<u32>,
-    room: usize,
-) -> Result<Counts, Refusal>
+// With scratch for sheets of up to N words: V, F, H, B and K are the lengths that follow from N, which the language doesn't compute of it. What is
+// kept has an entry for three words. No heap: scratch is arrays. One array, cut as crate listing cuts its own, would need one length, but laws of
+// the zeros in each part, which are those of listing once more.
+fn check_sized<
+    const N: usize,
+    const V: usize,
+    const F: usize,
+    const H: usize,
+    const B: usize,
+    const K: usize,
+>(s: &[u8], warns: bool, lists: &mut Lists<u32>, room: usize) -> Result<Counts, Refusal>
     requires few { (length (words s.now) ≤ N) × (N ≤ 2048) }
     requires vis { V ≡ 4 * (N + 2) + B / 2 }
     requires found { F ≡ N * 6 }
     requires held { H ≡ 2 * N }
     requires binders { (N < 3 * (B / 2)) × (B ≤ 4096) }
+    requires kept { K ≡ N / 3 * 4 }
     ensures still { IsStill lists.old lists.new }
     ensures answers { Answers warns s.now (lent lists.old) room result (lent lists.new) }
 {
@@ -237,7 +240,7 @@ fn check_sized<const N: usize, const V: usize, const F: usize, const H: usize, c
     let mut said = [0u32; F];
     let mut slots = [0u32; B];
     let mut entries = [0u32; B];
-    let mut kept = [0u32; N];
+    let mut kept = [0u32; K];
     let mut scratch = Scratch {
         places: &mut places,
         ids: &mut ids,
@@ -261,8 +264,8 @@ fn check_large(
     ensures answers { Answers warns s.now (lent lists.old) room result (lent lists.new) }
 {
     match s.len() {
-        0..=4096 => check_sized::<1024, 4446, 6144, 2048, 684>(s, warns, lists, room),
-        4097..=8192 => check_sized::<2048, 8883, 12288, 4096, 1366>(s, warns, lists, room),
+        0..=4096 => check_sized::<1024, 4446, 6144, 2048, 684, 1364>(s, warns, lists, room),
+        4097..=8192 => check_sized::<2048, 8883, 12288, 4096, 1366, 2728>(s, warns, lists, room),
         _ => Err(Refusal::Size),
     }
 }
@@ -280,8 +283,8 @@ pub fn check_words(
     ensures leaves { lent lists.new ≡ left_in warns s.now (lent lists.old) room }
 {
     match s.len() {
-        0..=256 => check_sized::<64, 286, 384, 128, 44>(s, warns, lists, room),
-        257..=1024 => check_sized::<256, 1118, 1536, 512, 172>(s, warns, lists, room),
+        0..=256 => check_sized::<64, 286, 384, 128, 44, 84>(s, warns, lists, room),
+        257..=1024 => check_sized::<256, 1118, 1536, 512, 172, 340>(s, warns, lists, room),
         _ => check_large(s, warns, lists, room),
     }
 }

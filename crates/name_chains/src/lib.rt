@@ -118,7 +118,7 @@ impl Names<'_> {
 // Whether no two of the names that stand at the places are the same. The lent words need one more than there are names, and hold anything at
 // first.
 pub fn distinct_by_chains(s: &[u8], places: &[u32], chains: &mut [u32]) -> bool
-    requires { (length places.now < 1073741823) × (length places.now < length chains.old) }
+    requires { (length places.now < 4294967295) × (length places.now < length chains.old) }
     ensures { result ≡ distinct name_in (names_at s.now places.now) }
 {
     let n = places.len();

@@ -27,12 +27,13 @@ pub fn slot(v: u32, m: usize, mult: u32) -> usize
     (u64::from(mixed) * m as u64 / 4294967296) as usize
 }
 
-// Clears slots for n keys at the front of lent words, four for each key or as many as there is room for; how many they are.
+// Clears slots for n keys at the front of lent words, four for each key or as many as there is room for, and no more than a slot's number can be
+// one of; how many they are.
 pub fn empty(chains: &mut [u32], n: usize) -> usize
-    requires { (n < 1073741823) × (n < length chains.old) }
+    requires { (n < 4294967295) × (n < length chains.old) }
     ensures { Emptied n chains.old chains.new result }
 {
-    let m = (n * 4).clamp(1, chains.len() - n);
+    let m = (n * 4).min(u32::MAX as usize).clamp(1, chains.len() - n);
     clear(chains, m);
     m
 }

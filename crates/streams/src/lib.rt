@@ -34,7 +34,7 @@ pub fn read_full<R: Read>(input: &mut R, room: &mut [u8]) -> io::Result<usize>
 }
 
 // How many bytes are read past at a time: no heap, so a page of fixed size.
-const PAGE: usize = 1024;
+const PAGE: usize = 8192;
 
 // Reads past n bytes, or to the end of the input, and answers whether there were n. (`io::copy` from a `Take` doesn't promise what it leaves.)
 pub fn skip<R: Read>(input: &mut R, n: usize) -> io::Result<bool>

@@ -107,11 +107,16 @@ pub fn are_read(s: &[u8], n: u32, tab: &mut [u32], ids: &mut [u32]) -> bool
     scan_names(s, n, tab, ids) == Ok(s.len())
 }
 
-// Whether an id is among these. No `contains`: that is a call of its own, made for long lists.
+// Whether an id is among these. It looks at all of them, without a way out, so that several are compared at a time; `any` and `contains` stop at the
+// first.
 fn has_id(ids: &[u32], id: u32) -> bool
     ensures { result ≡ is_in id ids.now }
 {
-    ids.iter().any(|other| *other == id)
+    let mut hit = false;
+    for other in ids {
+        hit |= *other == id;
+    }
+    hit
 }
 
 // The index of the first of the names with these places and use ids whose text is x: it has the id of x, so most sheets without x are told by the

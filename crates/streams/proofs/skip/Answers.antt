@@ -13,5 +13,5 @@ loop-preserved g c =
 pub returns : goal.returns
 returns g c =
     let e = c.in_ok-read_full-2.ensures in
-    let lengths = length-take (c.args.n % 1024) c.loop.room in
+    let lengths = length-take (c.args.n % 8192) c.loop.room in
     Skips-add_read _ _ _ _ _ _ _ c.loop.invariant e.within.1 e.bytes e.front (omega (arith, lengths)) _ (ap (eqb c.in_ok-read_full-2.field-0) (omega (arith, lengths)))
