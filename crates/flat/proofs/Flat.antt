@@ -47,7 +47,7 @@ simple-kids s = (simple-bare s).1.1
 
 -- a row in two, the one after the other
 module _ (P : Reader) (m : ℕ) where
-  times-add : (k : ℕ) (ws : List ℕ) → times (k + m) P no_more ws ≡ times k P (times m P no_more) ws
+  pub times-add : (k : ℕ) (ws : List ℕ) → times (k + m) P no_more ws ≡ times k P (times m P no_more) ws
   unfolding times
   times-add zero ws = rw zero-add
   times-add (suc k) ws =

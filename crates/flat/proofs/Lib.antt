@@ -3,3 +3,4 @@ pub mod Deeper
 pub mod Flat
 pub mod Reading
 pub mod Skimmed
+pub mod Whole
