@@ -4,16 +4,32 @@
 
 mod lists;
 
-ghost use Rattle.std.specs.Prelude.{take, IfSome, OnOk};
+ghost use Rattle.std.specs.Prelude.{◌≡◌, ◌≤◌, length, take, IfOk, IfSome, OnOk};
 ghost use Rattle.std.specs.Io.KnownBytes.{Appends};
-ghost use Rattle.show.specs.Printed.{printed};
+ghost use Rattle.refusal.specs.Number.{number_of};
+ghost use Rattle.texts.specs.Laid.{Lays};
+ghost use Rattle.show.specs.Printed.{refusal_text, printed};
 
 use listing::listing;
 use lists::show_lists;
 pub use lists::show_records;
+use refusal::Refusal;
 use std::io;
 use std::io::{Read, Write};
 use streams::read_full;
+use texts::lay;
+use words::put_decimal;
+
+// The line of a refusal at the front of the page; how long it is. Its words are laid here: a refusal's Display promises no text, as it has no
+// `output`, and neither does the library's printing into lent bytes.
+fn lay_refusal(refusal: Refusal, page: &mut [u8]) -> usize
+    requires { length (refusal_text (number_of refusal)) ≤ length page.old }
+    ensures { Lays (refusal_text (number_of refusal)) page.old 0 page.new result }
+{
+    let a = lay(b"refused ", 0, page);
+    let b = a + put_decimal(u32::from(refusal), &mut page[a..]);
+    lay(b"\n", b, page)
+}
 
 // The listing of a sheet, warnings on, or `refused` and the refusal's number.
 pub fn show_listing<W: Write>(out: &mut W, s: &[u8]) -> io::Result<()>
@@ -22,8 +38,10 @@ pub fn show_listing<W: Write>(out: &mut W, s: &[u8]) -> io::Result<()>
     let mut page = [0u8; 65536];
     match listing(s, true, &mut page) {
         Ok(n) => out.write_all(&page[..n]),
-        // The words are written here: a refusal's Display promises no text, as it has no `output`.
-        Err(refusal) => write!(out, "refused {}\n", u32::from(refusal)),
+        Err(refusal) => {
+            let n = lay_refusal(refusal, &mut page);
+            out.write_all(&page[..n])
+        }
     }
 }
 
@@ -33,12 +51,30 @@ pub fn show<W: Write>(out: &mut W, s: &[u8]) -> io::Result<()> {
     show_lists(out, s)
 }
 
-// The sheet on a reader: its listing. There is room for one byte more than a sheet may have, so that a longer input is too long.
+// One byte more than a sheet may have, so that a longer input is too long.
+const ROOM: usize = 8193;
+
+// The sheet on a reader.
+fn read_sheet<'a, R: Read>(input: &mut R, room: &'a mut [u8; ROOM]) -> io::Result<&'a [u8]>
+    ensures { IfOk result (λ s. IfSome (R.remaining input.old) (λ xs. s.now ≡ take 8193 xs)) }
+{
+    let n = read_full(input, room)?;
+    Ok(&room[..n])
+}
+
+// The sheet on a reader: its listing.
 pub fn show_input<R: Read, W: Write>(input: &mut R, out: &mut W) -> io::Result<()>
     ensures { OnOk result (IfSome (R.remaining input.old)
         (λ xs. Appends (W.contents out.old) (W.contents out.new) (printed (take 8193 xs)))) }
 {
-    let mut room = [0u8; 8193];
-    let n = read_full(input, &mut room)?;
-    show_listing(out, &room[..n])
+    let mut room = [0u8; ROOM];
+    let s = read_sheet(input, &mut room)?;
+    show_listing(out, s)
+}
+
+// The sheet on a reader: its listing, then its lists.
+pub fn show_input_with_lists<R: Read, W: Write>(input: &mut R, out: &mut W) -> io::Result<()> {
+    let mut room = [0u8; ROOM];
+    let s = read_sheet(input, &mut room)?;
+    show(out, s)
 }

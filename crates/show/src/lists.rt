@@ -52,7 +52,7 @@ fn record_line<W: Write>(out: &mut W, entry: &[u32; FINDING_WIDTH]) -> io::Resul
     writeln!(out, "{code} {start} {end} {name} {one} {two} {mark}")
 }
 
-// The first n entries of a list.
+// The first n entries of a list, whose name ends in a blank.
 fn list<E, W: Write, F: Fn(&mut W, &E) -> io::Result<()>>(
     out: &mut W,
     name: &str,
@@ -62,7 +62,7 @@ fn list<E, W: Write, F: Fn(&mut W, &E) -> io::Result<()>>(
 ) -> io::Result<()>
     requires { F.IsAlwaysCallable line }
 {
-    writeln!(out, "{name} {n}")?;
+    writeln!(out, "{name}{n}")?;
     for entry in entries.iter().take(n) {
         line(out, entry)?;
     }
@@ -73,7 +73,7 @@ fn list<E, W: Write, F: Fn(&mut W, &E) -> io::Result<()>>(
 pub fn show_records<W: Write>(out: &mut W, words: &[u32], n: usize) -> io::Result<()> {
     list(
         out,
-        "records",
+        "records ",
         words.as_chunks::<FINDING_WIDTH>().0,
         n,
         record_line::<W>,
@@ -98,28 +98,28 @@ pub fn show_lists<W: Write>(out: &mut W, s: &[u8]) -> io::Result<()> {
     if let Ok(counts) = check_words(s, true, &mut lists, 2048) {
         list(
             out,
-            "scopes",
+            "scopes ",
             scopes.as_chunks::<SCOPE_WIDTH>().0,
             counts.scopes,
             scope_line::<W>,
         )?;
         list(
             out,
-            "bindings",
+            "bindings ",
             bindings.as_chunks::<BINDING_WIDTH>().0,
             counts.bindings,
             binding_line::<W>,
         )?;
         list(
             out,
-            "carried",
+            "carried ",
             carried.as_chunks::<CARRIED_WIDTH>().0,
             counts.carried,
             carried_line::<W>,
         )?;
         list(
             out,
-            "recorded",
+            "recorded ",
             recorded.as_chunks::<RECORDED_WIDTH>().0,
             counts.recorded,
             recorded_line::<W>,
