@@ -20,8 +20,8 @@ use streams::read_full;
 use texts::lay;
 use words::put_decimal;
 
-// The line of a refusal at the front of the page; how long it is. Its words are laid here: a refusal's Display promises no text, as it has no
-// `output`, and neither does the library's printing into lent bytes.
+// The line of a refusal at the front of the page, so that it goes out in one write; how long it is. Its words are laid here: the library's
+// printing into lent bytes promises no text.
 fn lay_refusal(refusal: Refusal, page: &mut [u8]) -> usize
     requires { length (refusal_text (number_of refusal)) ≤ length page.old }
     ensures { Lays (refusal_text (number_of refusal)) page.old 0 page.new result }
@@ -52,10 +52,10 @@ pub fn show<W: Write>(out: &mut W, s: &[u8]) -> io::Result<()> {
 }
 
 // One byte more than a sheet may have, so that a longer input is too long.
-const ROOM: usize = 8193;
+pub const ROOM: usize = 8193;
 
-// The sheet on a reader.
-fn read_sheet<'a, R: Read>(input: &mut R, room: &'a mut [u8; ROOM]) -> io::Result<&'a [u8]>
+// The sheet on a reader, or the front of a longer input.
+pub fn read_sheet<'a, R: Read>(input: &mut R, room: &'a mut [u8; ROOM]) -> io::Result<&'a [u8]>
     ensures { IfOk result (λ s. IfSome (R.remaining input.old) (λ xs. s.now ≡ take 8193 xs)) }
 {
     let n = read_full(input, room)?;
@@ -70,11 +70,4 @@ pub fn show_input<R: Read, W: Write>(input: &mut R, out: &mut W) -> io::Result<(
     let mut room = [0u8; ROOM];
     let s = read_sheet(input, &mut room)?;
     show_listing(out, s)
-}
-
-// The sheet on a reader: its listing, then its lists.
-pub fn show_input_with_lists<R: Read, W: Write>(input: &mut R, out: &mut W) -> io::Result<()> {
-    let mut room = [0u8; ROOM];
-    let s = read_sheet(input, &mut room)?;
-    show(out, s)
 }
