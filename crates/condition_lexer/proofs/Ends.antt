@@ -7,7 +7,7 @@ use mathlib.Core.Path.{◌≡◌, refl, sym, ap, ◌∙◌}
 use mathlib.Core.Bool.{Bool, true, false, ◌&&◌}
 use mathlib.Core.List.{List, [], ◌∷◌, ◌++◌, reverse}
 use denote.Ref.{Bor}
-use lib.Dec.{eqb, ltb, leb}
+use lib.Dec.{eqb, ltb}
 use lib.ListN.{length, get_or, take, length-take}
 use lib.Seq.{take-suc, take-length}
 use borrow.Author.Tests.{eq-eqb, ne_eqb}
@@ -19,8 +19,6 @@ use Rattle.condition.specs.Cond.{binary_sign}
 use Rattle.words.specs.Decimal.{width}
 use Rattle.condition.proofs.Lexing.{stripped, last_found}
 use Rattle.condition.proofs.Sound.{WellTok}
-use Rattle.condition.proofs.Tables.{all-below, both}
-use Rattle.std.proofs.lemmas.Bool.{eqb-true}
 use Rattle.condition_lexer.specs.declared.Token.{Token}
 use Rattle.condition_lexer.specs.Seen.{before_of, tok_of, last_of}
 
@@ -64,36 +62,21 @@ signed s sign None h = go (strip (reverse sign) (reverse s)) refl
     go (Some r) e = absurd (h (reverse r) (sym (reverse-reverse s) ∙ (ap reverse (stripped (reverse sign) (reverse s) r e) ∙ (reverse-append (reverse sign) r ∙ ap (λ (l : List ℕ). reverse r ++ l) (reverse-reverse sign)))))
 signed s sign (Some x) h = rw (h, reverse-append x.now sign) (unstripped (reverse sign) (reverse x.now))
 
--- a binary sign whose byte before its last blank is another than the text's
-abbrev pub before_blank : List ℕ
-before_blank = 43 ∷ 45 ∷ 42 ∷ 47 ∷ 37 ∷ 94 ∷ 61 ∷ 62 ∷ 60 ∷ 61 ∷ 62 ∷ 61 ∷ 68 ∷ 82 ∷ 82 ∷ 72 ∷ 72 ∷ 83 ∷ 126 ∷ 124 ∷ []
-
-abbrev second : ℕ → Bool
-second o = leb 2 (length (reverse (binary_sign o))) && eqb (get_or (reverse (binary_sign o)) 1 0) (get_or before_blank o 0)
-
-second-is : (o : ℕ) → o < 20 → second o ≡ true
-second-is = all-below 20 second refl
-
-no_yes : false ≡ true → ⊥
-no_yes e = cc
-
+-- a sign whose last byte but one is another than the text's
 no_pick : {A : Type 0} (p : Bool) (a : A) → pick p a a ≡ a
 no_pick true a = refl
 no_pick false a = refl
 
-another : (x r : List ℕ) (a b : ℕ) → leb 2 (length x) && eqb (get_or x 1 0) b ≡ true → {c : ℕ} → c ≢ b → strip x (a ∷ (c ∷ r)) ≡ None
-unfolding strip
-another [] r a b h n = absurd (no_yes h)
-another (d ∷ []) r a b h n = absurd (no_yes h)
-another (d ∷ (e ∷ x)) r a b h n = rw (ne_eqb _ _ (λ q. n (q ∙ eqb-true e b (both _ _ h).1))) (no_pick (eqb a d) _)
-
-pub missed : (o : ℕ) (s : List ℕ) → o < 20 → 2 ≤ length s → get_or s (length s - 2) 0 ≢ get_or before_blank o 0 → strip (reverse (binary_sign o)) (reverse s) ≡ None
-missed o s l h n =
+last_two : (s : List ℕ) → 2 ≤ length s → reverse s ≡ get_or s (length s - 1) 0 ∷ (get_or s (length s - 2) 0 ∷ reverse (take (length s - 2) (take (length s - 1) s)))
+last_two s h =
     let t = take (length s - 1) s in
     let k : length t ≡ length s - 1 = omega (arith, length-take (length s - 1) s) in
     let m : length t - 1 ≡ length s - 2 = omega arith in
-    rw (reverse_last s (omega arith), reverse_last t (omega arith), m, get_or-take (length s - 1) s (length s - 2) 0 (omega arith))
-    (another (reverse (binary_sign o)) _ _ _ (second-is o l) n)
+    rw (reverse_last s (omega arith), reverse_last t (omega arith), m, get_or-take (length s - 1) s (length s - 2) 0 (omega arith)) refl
+
+pub missed : (sign s : List ℕ) → 2 ≤ length sign → 2 ≤ length s → get_or s (length s - 2) 0 ≢ get_or sign (length sign - 2) 0 → strip (reverse sign) (reverse s) ≡ None
+unfolding strip
+missed sign s g h n = rw (last_two sign g, last_two s h, ne_eqb _ _ n) (no_pick (eqb (get_or s (length s - 1) 0) (get_or sign (length sign - 1) 0)) _)
 
 -- by the last byte
 pub end_none : (v k : ℕ) (s : List ℕ) → length s < 1 → number_end v k (reverse s) ≡ nothing

@@ -2,7 +2,7 @@
 #![tactic(auto)]
 
 ghost use Rattle.std.specs.Prelude.{◌≡◌, ◌<◌, length, reverse, IfSome};
-ghost use Rattle.condition.specs.Cond.{binary_sign, unary_sign};
+ghost use Rattle.condition.specs.Cond.{unary_sign};
 ghost use Rattle.condition.specs.Tokens.{is_end, is_digit, after_operand, first_sign, minus, strip, sign_last, number_end, number_last, last};
 ghost use Rattle.condition_lexer.specs.Seen.{before_of, tok_of, last_of};
 ghost use Rattle.condition.proofs.Sound.{WellTok};
@@ -20,10 +20,19 @@ pub enum Token {
     Binary(usize),
 }
 
-// What stands before a sign, if the text ends with it.
+// What stands before a sign, if the text ends with it. All signs end in a blank, and the byte before it tells most from the text's end.
 fn before_sign<'a>(text: &'a [u8], sign: &[u8]) -> Option<&'a [u8]>
     ensures { strip (reverse sign.now) (reverse text.now) ≡ before_of result }
 {
+    let [.., byte, _] = text else {
+        return text.strip_suffix(sign);
+    };
+    let [.., last, _] = sign else {
+        return text.strip_suffix(sign);
+    };
+    if *byte != *last {
+        return None;
+    }
     text.strip_suffix(sign)
 }
 
@@ -38,31 +47,13 @@ fn after_operand(text: &[u8]) -> bool
     *blank == b' ' && (*end == b')' || end.is_ascii_digit())
 }
 
-// Of each binary sign the byte before its last blank.
-const BEFORE_BLANK: [u8; 20] = *b"+-*/%^=><=>=DRRHHS~|";
-
-// What stands before a binary sign, if the text ends with it. One byte tells most signs from the text's end.
-fn before_binary(text: &[u8], operator: usize) -> Option<&[u8]>
-    requires { operator < 20 }
-    ensures { strip (reverse (binary_sign operator)) (reverse text.now) ≡ before_of result }
-{
-    let sign = binary_sign(operator);
-    let [.., byte, _] = text else {
-        return before_sign(text, sign);
-    };
-    if *byte != BEFORE_BLANK[operator] {
-        return None;
-    }
-    before_sign(text, sign)
-}
-
 // The binary sign at the end. The loop turns as the definition does; what `find_map` promises would take an induction to it.
 #[tactic(auto, using(crate::proofs::Ends::sign_turn, crate::proofs::Ends::sign_stop))]
 fn last_binary(text: &[u8]) -> Option<(Token, &[u8])>
     ensures { first_sign 20 0 (reverse text.now) ≡ last_of result }
 {
     for operator in 0..20 {
-        if let Some(rest) = before_binary(text, operator) {
+        if let Some(rest) = before_sign(text, binary_sign(operator)) {
             return Some((Token::Binary(operator), rest));
         }
     }
@@ -80,7 +71,6 @@ fn last_minus(text: &[u8]) -> Option<(Token, &[u8])>
 }
 
 // The sign at the end.
-#[inline(never)]
 #[tactic(auto, unfolding(condition::specs::Tokens::sign_last))]
 fn last_sign(text: &[u8]) -> Option<(Token, &[u8])>
     ensures { sign_last (reverse text.now) ≡ last_of result }
@@ -127,7 +117,8 @@ fn last_atom(text: &[u8]) -> Option<(Token, &[u8])>
     number_end(rest, value, 4)
 }
 
-// The last token and what stands before it, which is shorter. None is an empty text's, or where no token ends the text. In line where it is called: most tokens are brackets and atoms.
+// The last token and what stands before it, which is shorter. None is an empty text's, or where no token ends the text. In line where it is
+// called, since most tokens are brackets and atoms.
 #[inline(always)]
 #[tactic(auto, using(crate::proofs::Ends::last_none, crate::proofs::Ends::last_one))]
 pub fn last_token(text: &[u8]) -> Option<(Token, &[u8])>
